@@ -4,3 +4,4 @@ pub mod Keyed
 pub mod Places
 pub mod Loops
 pub mod Written
+pub mod Views
