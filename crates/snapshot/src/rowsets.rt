@@ -8,7 +8,7 @@ ghost use mathlib.Core.Bool.{cond, _&&_};
 ghost use mathlib.Core.List.{[], _∷_};
 ghost use Prim.Native.Nat.{_+_, _≤_, _<_};
 ghost use lib.Dec.{leb, ltb, eqb};
-ghost use lib.ListN.{length, getD, set};
+ghost use lib.ListN.{length, getD, drop, set};
 ghost use Rattle.lists.specs.Order.{less};
 ghost use Rattle.lists.specs.Keyed.{keep, allOf, anyOf, isAt, has, put, placed, arranged, changed, ascending, rank};
 ghost use Rattle.lists.specs.Places.{insertAt};
@@ -117,13 +117,13 @@ impl Rowsets {
         }
     }
 
-    // Internal, as is what follows: the count is within the array.
-    pub fn place(self, pair: Pair) -> usize
-        requires { ⌜ self .count ≤ 856 ⌝ }
-        ensures { λ r. ⌜ r ≡ rank byIds (pairIds pair) (rowsetsOf self) ⌝ }
+    // Internal, as is what follows: the count is within the array. The first place from `from` on whose pair is not before.
+    pub fn place_from(self, from: usize, pair: Pair) -> usize
+        requires { ⌜ (self .count ≤ 856) × (from ≤ self .count) ⌝ }
+        ensures { λ r. ⌜ (r ≡ from + rank byIds (pairIds pair) (drop from (rowsetsOf self))) × (r ≤ self .count) ⌝ }
     {
         let count = self.count;
-        let mut i = 0;
+        let mut i = from;
         while i < count {
             let x = self.items[i];
             if !x.before(pair) {
@@ -132,6 +132,13 @@ impl Rowsets {
             i += 1;
         }
         i
+    }
+
+    pub fn place(self, pair: Pair) -> usize
+        requires { ⌜ self .count ≤ 856 ⌝ }
+        ensures { λ r. ⌜ r ≡ rank byIds (pairIds pair) (rowsetsOf self) ⌝ }
+    {
+        self.place_from(0, pair)
     }
 
     pub fn holds(self, pair: Pair) -> bool

@@ -1,9 +1,8 @@
--- `snapshot::rowsets::Rowsets::place` meets its contract. Assumes nothing.
-use mathlib.Core.Path.{_≡_, sym, ap, _∙_}
+-- `snapshot::rowsets::Rowsets::place_from` meets its contract. Assumes nothing.
+use mathlib.Core.Path.{_≡_, refl, sym, ap, _∙_}
 use mathlib.Core.List.{[]}
 use Prim.Native.Nat.{_+_, _-_, _≤_}
 use native.Mathlib.Omega.{arith}
-use native.Mathlib.Nat.{zero-add}
 use borrow.Author.Tests.{not-true, not-false}
 use lib.ListN.{length, drop}
 use Rattle.lists.specs.Keyed.{rank}
@@ -11,19 +10,19 @@ use Rattle.lists.proofs.Places.{known}
 use Rattle.lists.proofs.Views.{seen-end, rank-here, rank-next}
 use Rattle.snapshot.specs.Entries.{byIds}
 use Rattle.snapshot.specs.Views.{pairIds, rowsetEntry, rowsetsOf}
-use Rattle.snapshot.proofs.rowsets.Rowsets.place.Statement.{statement}
-use Rattle.snapshot.proofs.rowsets.Rowsets.place.Tie as tie
+use Rattle.snapshot.proofs.rowsets.Rowsets.place_from.Statement.{statement}
+use Rattle.snapshot.proofs.rowsets.Rowsets.place_from.Tie as tie
 
 abbrev Inv-loop : tie.InvT-loop
-Inv-loop pair self count i₀ i = (i ≤ count) × (count ≤ length (self .items)) × (rank byIds (pairIds pair) (rowsetsOf self) ≡ i + rank byIds (pairIds pair) (drop i (rowsetsOf self)))
+Inv-loop from pair self count i₀ i = (i ≤ count) × (count ≤ length (self .items)) × (from + rank byIds (pairIds pair) (drop from (rowsetsOf self)) ≡ i + rank byIds (pairIds pair) (drop i (rowsetsOf self)))
 
 abbrev μ-loop : tie.MeasureT-loop
-μ-loop pair self count i₀ i = count - i
+μ-loop from pair self count i₀ i = count - i
 
 loop-holds : tie.Need-loop-holds Inv-loop μ-loop
 loop-holds c =
     let full : length (c .args .t1 .items) ≡ 856 = search known in
-    (search known, omega (arith, c .pre), sym (zero-add _))
+    (c .pre .1, omega (arith, c .pre .0), refl)
 
 mul-x : tie.Need-mul-x Inv-loop μ-loop
 mul-x c = search known
@@ -38,7 +37,7 @@ returns : tie.Need-returns Inv-loop μ-loop
 returns c =
     let inv = c .before .before .before .before .loop .inv in
     let h = rank-here rowsetEntry (c .before .before .before .before .before .args .t1 .items) (c .before .before .before .before .before .args .t1 .count) (c .before .before .before .before .loop .i) _ (c .before .before .before .loop-test .taken) (inv .1) byIds (pairIds (c .before .before .before .before .before .args .pair)) (sym (c .before .before2 .ensures) ∙ not-true _ (c .if1 .taken)) in
-    omega (arith, inv .2, h)
+    (omega (arith, inv .2, h), inv .0)
 
 add-i : tie.Need-add-i Inv-loop μ-loop
 add-i c = search known
@@ -56,10 +55,10 @@ returns-2 : tie.Need-returns-2 Inv-loop μ-loop
 returns-2 c =
     let inv = c .before .loop .inv in
     let e : drop (c .before .loop .i) (rowsetsOf (c .before .before .args .t1)) ≡ [] = seen-end rowsetEntry (c .before .before .args .t1 .items) (c .before .before .args .t1 .count) (c .before .loop .i) (c .loop-test .left) (inv .1) in
-    omega (arith, inv .2, ap (rank byIds (pairIds (c .before .before .args .pair))) e)
+    (omega (arith, inv .2, ap (rank byIds (pairIds (c .before .before .args .pair))) e), inv .0)
 
-pub place-spec : {M : Type 1} → statement M
-place-spec =
+pub place-from-spec : {M : Type 1} → statement M
+place-from-spec =
     tie.close
     (tie.spec
     Inv-loop

@@ -1,0 +1,115 @@
+-- What the class of a byte says. Assumes nothing.
+use mathlib.Core.Path.{_≡_, refl, sym, _∙_}
+use mathlib.Core.Bool.{Bool, true, false, false≢true, true≢false, cond, _&&_, _||_}
+use mathlib.Core.List.{List, [], _∷_}
+use Prim.Native.Nat.{ℕ, _+_, _<_, _≤_}
+use native.Mathlib.Omega.{arith}
+use lib.Dec.{leb, ltb, eqb}
+use borrow.Author.Tests.{leb-true, ltb-true, le-leb, lt-ltb, ne-eqb, eqb-true}
+use Rattle.lists.proofs.Tests.{by-cases, both}
+use Rattle.lists.specs.Keyed.{allOf, anyOf}
+use Rattle.text.specs.Class.{classOf, isDigit, isLower, isCapital, isComma, isNewline}
+use Rattle.text.specs.Name.{isNameByte}
+
+pub digit-bounds : (b : ℕ) → isDigit b ≡ true → (48 ≤ b) × (b < 58)
+unfolding isDigit
+digit-bounds b h =
+    let t = both (leb 48 b) (ltb b 58) h in
+    (leb-true 48 b (t .0), ltb-true b 58 (t .1))
+
+pub digit-of : (d : ℕ) → d < 10 → isDigit (48 + d) ≡ true
+unfolding isDigit
+digit-of d h = rw (le-leb 48 (48 + d) (omega arith), lt-ltb (48 + d) 58 (omega arith))
+
+-- Which test a class answers.
+first : (a b c d e : Bool) → eqb (cond a 1 (cond b 2 (cond c 3 (cond d 4 (cond e 5 0))))) 1 ≡ a
+first true b c d e = refl
+first false true c d e = refl
+first false false true d e = refl
+first false false false true e = refl
+first false false false false true = refl
+first false false false false false = refl
+
+second : (a b c d e : Bool) → a ≡ false → eqb (cond a 1 (cond b 2 (cond c 3 (cond d 4 (cond e 5 0))))) 2 ≡ b
+second true b c d e h = absurd (true≢false h)
+second false true c d e h = refl
+second false false true d e h = refl
+second false false false true e h = refl
+second false false false false true h = refl
+second false false false false false h = refl
+
+pub class-digit : (b : ℕ) → eqb (classOf b) 1 ≡ isDigit b
+unfolding classOf
+class-digit b = first (isDigit b) (isLower b) (isCapital b) (isComma b) (isNewline b)
+
+fourth : (a b c d e : Bool) → (d ≡ true → a ≡ false) → (d ≡ true → b ≡ false) → (d ≡ true → c ≡ false)
+    → eqb (cond a 1 (cond b 2 (cond c 3 (cond d 4 (cond e 5 0))))) 4 ≡ d
+fourth true b c true e p q r = absurd (true≢false (p refl))
+fourth true b c false e p q r = refl
+fourth false true c true e p q r = absurd (true≢false (q refl))
+fourth false true c false e p q r = refl
+fourth false false true true e p q r = absurd (true≢false (r refl))
+fourth false false true false e p q r = refl
+fourth false false false true e p q r = refl
+fourth false false false false true p q r = refl
+fourth false false false false false p q r = refl
+
+fifth : (a b c d e : Bool) → (e ≡ true → a ≡ false) → (e ≡ true → b ≡ false) → (e ≡ true → c ≡ false) → (e ≡ true → d ≡ false)
+    → eqb (cond a 1 (cond b 2 (cond c 3 (cond d 4 (cond e 5 0))))) 5 ≡ e
+fifth true b c d true p q r u = absurd (true≢false (p refl))
+fifth true b c d false p q r u = refl
+fifth false true c d true p q r u = absurd (true≢false (q refl))
+fifth false true c d false p q r u = refl
+fifth false false true d true p q r u = absurd (true≢false (r refl))
+fifth false false true d false p q r u = refl
+fifth false false false true true p q r u = absurd (true≢false (u refl))
+fifth false false false true false p q r u = refl
+fifth false false false false true p q r u = refl
+fifth false false false false false p q r u = refl
+
+pub class-comma : (b : ℕ) → eqb (classOf b) 4 ≡ isComma b
+unfolding classOf isDigit isLower isCapital
+class-comma b =
+    fourth (isDigit b) (isLower b) (isCapital b) (isComma b) (isNewline b)
+    (λ h. rw (eqb-true b 44 h)) (λ h. rw (eqb-true b 44 h)) (λ h. rw (eqb-true b 44 h))
+
+pub class-newline : (b : ℕ) → eqb (classOf b) 5 ≡ isNewline b
+unfolding classOf isDigit isLower isCapital
+class-newline b =
+    fifth (isDigit b) (isLower b) (isCapital b) (isComma b) (isNewline b)
+    (λ h. rw (eqb-true b 10 h)) (λ h. rw (eqb-true b 10 h)) (λ h. rw (eqb-true b 10 h)) (λ h. rw (eqb-true b 10 h))
+
+pub name-digit : (b k : ℕ) → k ≡ classOf b → k ≡ 1 → true ≡ isNameByte b
+unfolding isNameByte
+name-digit b k e h = rw (← class-digit b, ← e, h)
+
+pub name-other : (b k : ℕ) → k ≡ classOf b → (k ≡ 1 → ⊥) → eqb k 2 ≡ isNameByte b
+unfolding isNameByte classOf
+name-other b k e h =
+    let d : isDigit b ≡ false = sym (class-digit b) ∙ rw (← e) (ne-eqb k 1 h) in
+    rw (e, d) (second false (isLower b) (isCapital b) (isComma b) (isNewline b) refl)
+
+-- Bytes of names and digits are neither newline nor comma.
+pub name-byte-digit : (b : ℕ) → isDigit b ≡ true → isNameByte b ≡ true
+unfolding isNameByte
+name-byte-digit b h = rw h
+
+pub name-byte-newline : (b : ℕ) → isNameByte b ≡ true → isNewline b ≡ false
+unfolding isNameByte isDigit isLower
+name-byte-newline b h = ne-eqb b 10 (λ e. false≢true (rw e at h))
+
+pub name-byte-comma : (b : ℕ) → isNameByte b ≡ true → isComma b ≡ false
+unfolding isNameByte isDigit isLower
+name-byte-comma b h = ne-eqb b 44 (λ e. false≢true (rw e at h))
+
+pub name-bytes-newline : (s : List ℕ) → allOf isNameByte s ≡ true → anyOf isNewline s ≡ false
+name-bytes-newline [] h = refl
+name-bytes-newline (b ∷ s) h =
+    let t = both (isNameByte b) (allOf isNameByte s) h in
+    rw (name-byte-newline b (t .0)) (name-bytes-newline s (t .1))
+
+pub name-bytes-comma : (s : List ℕ) → allOf isNameByte s ≡ true → anyOf isComma s ≡ false
+name-bytes-comma [] h = refl
+name-bytes-comma (b ∷ s) h =
+    let t = both (isNameByte b) (allOf isNameByte s) h in
+    rw (name-byte-comma b (t .0)) (name-bytes-comma s (t .1))

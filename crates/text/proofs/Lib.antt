@@ -1,0 +1,6 @@
+pub mod Table
+pub mod Bytes
+pub mod Decimal
+pub mod Round
+pub mod Names
+pub mod Examples

@@ -1,0 +1,3 @@
+pub mod Class
+pub mod Name
+pub mod Decimal

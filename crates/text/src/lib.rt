@@ -1,0 +1,452 @@
+// Bytes by their class, names, and decimal numbers: read from a place of a slice and written to one.
+use ids::name::Name;
+ghost use mathlib.Core.Path.{_≡_};
+ghost use Prim.Native.Nat.{_+_, _≤_, _<_};
+ghost use mathlib.Core.List.{[], _∷_};
+ghost use lib.ListN.{length};
+ghost use Rattle.lists.specs.Written.{Wrote};
+ghost use Rattle.ids.specs.Names.{nameOf};
+ghost use Rattle.text.specs.Class.{classOf, isDigit, isComma, isNewline};
+ghost use Rattle.text.specs.Name.{isNameByte, isName};
+ghost use Rattle.text.specs.Decimal.{digits, readAt};
+
+// The class of each byte.
+const CLASS: [u8; 256] = [
+    0,
+    0,
+    0,
+    0,
+    0,
+    0,
+    0,
+    0,
+    0,
+    0,
+    5,
+    0,
+    0,
+    0,
+    0,
+    0,
+    0,
+    0,
+    0,
+    0,
+    0,
+    0,
+    0,
+    0,
+    0,
+    0,
+    0,
+    0,
+    0,
+    0,
+    0,
+    0,
+    0,
+    0,
+    0,
+    0,
+    0,
+    0,
+    0,
+    0,
+    0,
+    0,
+    0,
+    0,
+    4,
+    0,
+    0,
+    0,
+    1,
+    1,
+    1,
+    1,
+    1,
+    1,
+    1,
+    1,
+    1,
+    1,
+    0,
+    0,
+    0,
+    0,
+    0,
+    0,
+    0,
+    3,
+    3,
+    3,
+    3,
+    3,
+    3,
+    3,
+    3,
+    3,
+    3,
+    3,
+    3,
+    3,
+    3,
+    3,
+    3,
+    3,
+    3,
+    3,
+    3,
+    3,
+    3,
+    3,
+    3,
+    3,
+    3,
+    0,
+    0,
+    0,
+    0,
+    2,
+    0,
+    2,
+    2,
+    2,
+    2,
+    2,
+    2,
+    2,
+    2,
+    2,
+    2,
+    2,
+    2,
+    2,
+    2,
+    2,
+    2,
+    2,
+    2,
+    2,
+    2,
+    2,
+    2,
+    2,
+    2,
+    2,
+    2,
+    0,
+    0,
+    0,
+    0,
+    0,
+    0,
+    0,
+    0,
+    0,
+    0,
+    0,
+    0,
+    0,
+    0,
+    0,
+    0,
+    0,
+    0,
+    0,
+    0,
+    0,
+    0,
+    0,
+    0,
+    0,
+    0,
+    0,
+    0,
+    0,
+    0,
+    0,
+    0,
+    0,
+    0,
+    0,
+    0,
+    0,
+    0,
+    0,
+    0,
+    0,
+    0,
+    0,
+    0,
+    0,
+    0,
+    0,
+    0,
+    0,
+    0,
+    0,
+    0,
+    0,
+    0,
+    0,
+    0,
+    0,
+    0,
+    0,
+    0,
+    0,
+    0,
+    0,
+    0,
+    0,
+    0,
+    0,
+    0,
+    0,
+    0,
+    0,
+    0,
+    0,
+    0,
+    0,
+    0,
+    0,
+    0,
+    0,
+    0,
+    0,
+    0,
+    0,
+    0,
+    0,
+    0,
+    0,
+    0,
+    0,
+    0,
+    0,
+    0,
+    0,
+    0,
+    0,
+    0,
+    0,
+    0,
+    0,
+    0,
+    0,
+    0,
+    0,
+    0,
+    0,
+    0,
+    0,
+    0,
+    0,
+    0,
+    0,
+    0,
+    0,
+    0,
+    0,
+    0,
+    0,
+    0,
+    0,
+    0,
+    0,
+    0,
+    0,
+    0,
+    0,
+    0,
+    0,
+    0,
+    0,
+    0,
+    0,
+    0,
+    0,
+];
+
+// The classes that are asked for.
+const DIGIT: u8 = 1;
+
+const LOWER: u8 = 2;
+
+const COMMA: u8 = 4;
+
+const NEWLINE: u8 = 5;
+
+pub fn class_of(b: u8) -> u8
+    ensures { λ r. ⌜ r ≡ classOf b ⌝ }
+{
+    let i = b as usize;
+    CLASS[i]
+}
+
+pub fn is_digit(b: u8) -> bool
+    ensures { λ r. ⌜ r ≡ isDigit b ⌝ }
+{
+    class_of(b) == DIGIT
+}
+
+pub fn is_comma(b: u8) -> bool
+    ensures { λ r. ⌜ r ≡ isComma b ⌝ }
+{
+    class_of(b) == COMMA
+}
+
+pub fn is_newline(b: u8) -> bool
+    ensures { λ r. ⌜ r ≡ isNewline b ⌝ }
+{
+    class_of(b) == NEWLINE
+}
+
+// a-z, 0-9 or `_`.
+pub fn is_name_byte(b: u8) -> bool
+    ensures { λ r. ⌜ r ≡ isNameByte b ⌝ }
+{
+    let k = class_of(b);
+    if k == DIGIT {
+        return true;
+    }
+    k == LOWER
+}
+
+pub fn is_name(s: &[u8]) -> bool
+    ensures { λ r. ⌜ r ≡ isName (now (s .entry)) ⌝ }
+{
+    if s.len() == 0 {
+        return false;
+    }
+    if s.len() > 32 {
+        return false;
+    }
+    let mut i = 0;
+    while i < s.len() {
+        if !is_name_byte(s[i]) {
+            return false;
+        }
+        i += 1;
+    }
+    true
+}
+
+pub fn valid_name(n: Name) -> bool
+    ensures { λ r. ⌜ r ≡ isName (nameOf n) ⌝ }
+{
+    let k = n.length();
+    let bytes = n.bytes;
+    is_name(&bytes[..k])
+}
+
+// A number and the place after it, or nothing.
+pub enum Number {
+    At(u64, usize),
+    Nothing,
+}
+
+fn wide(x: u8) -> u64
+    ensures { λ r. ⌜ r ≡ x ⌝ }
+{
+    x as u64
+}
+
+// The number that starts at `at`, without leading zeros and at most `limit`.
+pub fn read_number(s: &[u8], at: usize, limit: u64) -> Number
+    ensures { λ r. ⌜ r ≡ readAt limit (now (s .entry)) at ⌝ }
+{
+    if s.len() <= at {
+        return Number::Nothing;
+    }
+    let first = s[at];
+    if !is_digit(first) {
+        return Number::Nothing;
+    }
+    let mut n = wide(first - 48);
+    if n > limit {
+        return Number::Nothing;
+    }
+    let mut i = at + 1;
+    while i < s.len() {
+        let b = s[i];
+        if !is_digit(b) {
+            return Number::At(n, i);
+        }
+        if n == 0 {
+            return Number::Nothing;
+        }
+        if n > limit / 10 {
+            return Number::Nothing;
+        }
+        let d = wide(b - 48);
+        if d > limit - n * 10 {
+            return Number::Nothing;
+        }
+        n = n * 10 + d;
+        i += 1;
+    }
+    Number::At(n, i)
+}
+
+// How many bytes `put_number` writes.
+pub fn number_length(n: u64) -> usize
+    ensures { λ r. ⌜ r ≡ length (digits n) ⌝ }
+{
+    let mut m = n;
+    let mut k: usize = 1;
+    while 10 <= m {
+        m = m / 10;
+        k += 1;
+    }
+    k
+}
+
+// Internal: the caller has looked for room. Each function that writes returns the place after what it wrote.
+pub fn put_number(out: &mut [u8], at: usize, n: u64) -> usize
+    requires { ⌜ at + length (digits n) ≤ length (now out) ⌝ }
+    ensures { λ r. ⌜ Wrote (now (out .entry)) at (digits n) (now (out .exit)) r ⌝ }
+{
+    if n < 10 {
+        out[at] = 48 + n as u8;
+        at + 1
+    } else {
+        let i = put_number(out, at, n / 10);
+        out[i] = 48 + (n % 10) as u8;
+        i + 1
+    }
+}
+
+// Internal: the caller has looked for room.
+pub fn put_byte(out: &mut [u8], at: usize, b: u8) -> usize
+    requires { ⌜ at < length (now out) ⌝ }
+    ensures { λ r. ⌜ Wrote (now (out .entry)) at (b ∷ []) (now (out .exit)) r ⌝ }
+{
+    out[at] = b;
+    at + 1
+}
+
+// Internal: the caller has looked for room.
+pub fn put_bytes(out: &mut [u8], at: usize, src: &[u8]) -> usize
+    requires { ⌜ at + length (now src) ≤ length (now out) ⌝ }
+    ensures { λ r. ⌜ Wrote (now (out .entry)) at (now (src .entry)) (now (out .exit)) r ⌝ }
+{
+    let mut i = 0;
+    while i < src.len() {
+        out[at + i] = src[i];
+        i += 1;
+    }
+    at + i
+}
+
+// Internal: the caller has looked for room.
+pub fn put_name(out: &mut [u8], at: usize, n: Name) -> usize
+    requires { ⌜ at + length (nameOf n) ≤ length (now out) ⌝ }
+    ensures { λ r. ⌜ Wrote (now (out .entry)) at (nameOf n) (now (out .exit)) r ⌝ }
+{
+    let k = n.length();
+    let bytes = n.bytes;
+    put_bytes(out, at, &bytes[..k])
+}

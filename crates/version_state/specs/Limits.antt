@@ -1,0 +1,16 @@
+-- Document 01's limits. Assumes nothing.
+use Prim.Native.Nat.{ℕ}
+
+abbrev pub mostTables : ℕ
+mostTables = 16
+
+-- pairs held, and vectors held
+abbrev pub mostHeld : ℕ
+mostHeld = 256
+
+abbrev pub lastEpoch : ℕ
+lastEpoch = 4294967295
+
+-- bytes of a manifest
+abbrev pub longestManifest : ℕ
+longestManifest = 65536

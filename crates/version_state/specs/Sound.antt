@@ -1,0 +1,39 @@
+-- 17 and 29: what a state may not show, and what no call hands out. Assumes nothing.
+use mathlib.Core.Bool.{Bool, true, false, not, _&&_, _||_}
+use mathlib.Core.List.{List, [], _∷_}
+use Prim.Native.Nat.{ℕ}
+use lib.Dec.{leb, ltb}
+use lib.ListN.{take}
+use Rattle.lists.specs.Keyed.{keep, allOf, has, ascending}
+use Rattle.text.specs.Name.{isName}
+use Rattle.snapshot.specs.Entries.{byIds, shownBy, within}
+use Rattle.snapshot.specs.Tables.{byTable}
+use Rattle.version_state.specs.Limits.{longestManifest}
+use Rattle.version_state.specs.State.{State, stateOf, countsFit}
+use Rattle.version_state.specs.declared.VersionManagerInner.{VersionManagerInner}
+
+-- 17: in what epoch e shows, a vector is without its rowset or a rowset without its table
+abbrev pub leftBehind : ℕ → State → Bool
+leftBehind e s =
+    not (allOf (λ v. has byIds (take 2 (byIds v)) (keep (shownBy e) (s .pairs))) (keep (shownBy e) (s .vectors))
+    && allOf (λ p. has byTable (take 1 (byIds p)) (s .tables)) (keep (shownBy e) (s .pairs)))
+
+-- beyond the limits: a list too long, a manifest too long, a name that is none
+abbrev pub beyondLimits : VersionManagerInner → Bool
+beyondLimits m =
+    not (countsFit m) || (ltb longestManifest (stateOf m .manifest) || not (allOf (λ t. isName (t .name)) (stateOf m .tables)))
+
+-- a list that does not rise strictly by its ids
+abbrev pub outOfOrder : State → Bool
+outOfOrder s = not (ascending byTable (s .tables) && (ascending byIds (s .pairs) && ascending byIds (s .vectors)))
+
+-- an epoch above the state's own, or an id not below the next one
+abbrev pub aboveOwn : State → Bool
+aboveOwn s =
+    not (allOf (λ t. ltb (t .table) (s .nextTable)) (s .tables)
+    && (allOf (within (s .epoch) (s .nextTable ∷ s .nextRowset ∷ [])) (s .pairs)
+    && allOf (within (s .epoch) (s .nextTable ∷ s .nextRowset ∷ s .nextVector ∷ [])) (s .vectors)))
+
+-- 29
+abbrev pub badManager : VersionManagerInner → Bool
+badManager m = beyondLimits m || (outOfOrder (stateOf m) || (aboveOwn (stateOf m) || leftBehind (stateOf m .epoch) (stateOf m)))
