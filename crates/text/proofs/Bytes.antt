@@ -1,12 +1,12 @@
 -- What the class of a byte says. Assumes nothing.
 use mathlib.Core.Path.{_≡_, refl, sym, _∙_}
-use mathlib.Core.Bool.{Bool, true, false, false≢true, true≢false, cond, _&&_, _||_}
+use mathlib.Core.Bool.{Bool, true, false, false≢true, true≢false, cond}
 use mathlib.Core.List.{List, [], _∷_}
 use Prim.Native.Nat.{ℕ, _+_, _<_, _≤_}
 use native.Mathlib.Omega.{arith}
 use lib.Dec.{leb, ltb, eqb}
 use borrow.Author.Tests.{leb-true, ltb-true, le-leb, lt-ltb, ne-eqb, eqb-true}
-use Rattle.lists.proofs.Tests.{by-cases, both}
+use Rattle.lists.proofs.Tests.{both}
 use Rattle.lists.specs.Keyed.{allOf, anyOf}
 use Rattle.text.specs.Class.{classOf, isDigit, isLower, isCapital, isComma, isNewline}
 use Rattle.text.specs.Name.{isNameByte}

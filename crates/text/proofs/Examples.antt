@@ -1,7 +1,7 @@
 -- Worked examples, computed. Assumes nothing.
 use mathlib.Core.Path.{_≡_, refl}
 use mathlib.Core.Bool.{true, false}
-use mathlib.Core.List.{List, [], _∷_}
+use mathlib.Core.List.{[], _∷_}
 use Rattle.text.specs.declared.Number.the-variants.{At, Nothing}
 use Rattle.text.specs.Class.{classOf, isDigit, isLower, isCapital}
 use Rattle.text.specs.Name.{isNameByte, isName}

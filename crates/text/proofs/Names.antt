@@ -1,14 +1,14 @@
 -- Laws of names. Assumes nothing.
-use mathlib.Core.Path.{_≡_, refl, sym, ap, _∙_}
+use mathlib.Core.Path.{_≡_}
 use mathlib.Core.Bool.{Bool, true, false, _&&_}
-use mathlib.Core.List.{List, [], _∷_}
+use mathlib.Core.List.{List}
 use Prim.Native.Nat.{ℕ, _+_, _<_, _≤_}
 use native.Mathlib.Numerals.{add-one}
 use native.Mathlib.Omega.{arith}
 use lib.Dec.{leb, ltb}
-use lib.ListN.{length, getD, take, drop, drop-of-length-le, length-take}
+use lib.ListN.{length, getD, take, drop, drop-of-length-le}
 use lib.Seq.{drop-cons, length-take-le}
-use borrow.Author.Tests.{lt-ltb, le-ltb, le-leb, lt-leb, ltb-true, leb-true}
+use borrow.Author.Tests.{lt-ltb, le-leb, lt-leb, ltb-true, leb-true}
 use Rattle.lists.specs.Keyed.{allOf, anyOf}
 use Rattle.lists.proofs.Tests.{by-cases, both}
 use Rattle.ids.specs.declared.name.Name.{Name}

@@ -1,3 +1,4 @@
 pub mod Class
 pub mod Name
 pub mod Decimal
+pub mod Laws

@@ -9,6 +9,7 @@ ghost use Rattle.ids.specs.Names.{nameOf};
 ghost use Rattle.text.specs.Class.{classOf, isDigit, isComma, isNewline};
 ghost use Rattle.text.specs.Name.{isNameByte, isName};
 ghost use Rattle.text.specs.Decimal.{digits, readAt};
+ghost use Rattle.text.specs.Laws.{NumbersAgree};
 
 // The class of each byte.
 const CLASS: [u8; 256] = [
@@ -279,6 +280,8 @@ const COMMA: u8 = 4;
 
 const NEWLINE: u8 = 5;
 
+const LONGEST_NAME: usize = 32;
+
 pub fn class_of(b: u8) -> u8
     ensures { λ r. ⌜ r ≡ classOf b ⌝ }
 {
@@ -321,7 +324,7 @@ pub fn is_name(s: &[u8]) -> bool
     if s.len() == 0 {
         return false;
     }
-    if s.len() > 32 {
+    if s.len() > LONGEST_NAME {
         return false;
     }
     let mut i = 0;
@@ -365,7 +368,7 @@ pub fn read_number(s: &[u8], at: usize, limit: u64) -> Number
     if !is_digit(first) {
         return Number::Nothing;
     }
-    let mut n = wide(first - 48);
+    let mut n = wide(first - b'0');
     if n > limit {
         return Number::Nothing;
     }
@@ -381,7 +384,7 @@ pub fn read_number(s: &[u8], at: usize, limit: u64) -> Number
         if n > limit / 10 {
             return Number::Nothing;
         }
-        let d = wide(b - 48);
+        let d = wide(b - b'0');
         if d > limit - n * 10 {
             return Number::Nothing;
         }
@@ -410,11 +413,11 @@ pub fn put_number(out: &mut [u8], at: usize, n: u64) -> usize
     ensures { λ r. ⌜ Wrote (now (out .entry)) at (digits n) (now (out .exit)) r ⌝ }
 {
     if n < 10 {
-        out[at] = 48 + n as u8;
+        out[at] = b'0' + n as u8;
         at + 1
     } else {
         let i = put_number(out, at, n / 10);
-        out[i] = 48 + (n % 10) as u8;
+        out[i] = b'0' + (n % 10) as u8;
         i + 1
     }
 }
@@ -450,3 +453,8 @@ pub fn put_name(out: &mut [u8], at: usize, n: Name) -> usize
     let bytes = n.bytes;
     put_bytes(out, at, &bytes[..k])
 }
+
+// The laws of numbers as text.
+pub fn agrees()
+    ensures { λ _. ⌜ NumbersAgree ⌝ }
+{}

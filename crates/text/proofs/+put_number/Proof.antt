@@ -1,3 +1,4 @@
+-- `text::put_number` meets its contract: it writes the digits before the last by a call of itself, on a smaller number. Assumes nothing.
 use native.Mathlib.Omega.{arith}
 use Prim.Native.Nat.{ℕ, _<_, _≤_}
 use borrow.Author.Needs.{needs}

@@ -1,5 +1,5 @@
 -- `text::is_name` meets its contract. Assumes nothing.
-use Prim.Native.Nat.{ℕ, _≤_, _-_}
+use Prim.Native.Nat.{_≤_, _-_}
 use mathlib.Core.Path.{_≡_, sym, _∙_}
 use native.Mathlib.Omega.{arith}
 use borrow.Author.Needs.{needs}
@@ -9,9 +9,6 @@ use Rattle.text.specs.Name.{isName}
 use Rattle.text.proofs.Names.{allNameFrom, names-end, names-stop, names-more, name-empty, name-long, name-all}
 use Rattle.text.proofs.is_name.Statement.{statement}
 use Rattle.text.proofs.is_name.Tie as tie
-use Rattle.text.proofs.is_name.Reads as reads
-use Rattle.text.proofs.is_name.Lts as lts
-use Rattle.text.proofs.is_name_byte.Reads as is-name-byte-reads
 
 abbrev Inv-loop : tie.InvT-loop
 Inv-loop s i₀ i = (i ≤ length s) × (allNameFrom s i ≡ isName s)

@@ -3,9 +3,6 @@ use Rattle.text.proofs.Bytes.{name-digit, name-other}
 use borrow.Author.Needs.{needs}
 use Rattle.text.proofs.is_name_byte.Statement.{statement}
 use Rattle.text.proofs.is_name_byte.Tie as tie
-use Rattle.text.proofs.is_name_byte.Reads as reads
-use Rattle.text.proofs.is_name_byte.Lts as lts
-use Rattle.text.proofs.class_of.Reads as class-of-reads
 
 class-of-requires : tie.Need-class-of-requires
 class-of-requires c κs = search needs

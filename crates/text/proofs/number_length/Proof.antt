@@ -1,6 +1,6 @@
 -- `text::number_length` meets its contract: what is counted, with what is still to count, is the length. Assumes nothing.
 use Prim.Native.Nat.{_+_, _≤_}
-use mathlib.Core.Path.{_≡_, refl}
+use mathlib.Core.Path.{_≡_}
 use native.Mathlib.Omega.{arith}
 use lib.ListN.{length}
 use Rattle.text.specs.Decimal.{digits}
@@ -8,8 +8,6 @@ use Rattle.text.proofs.Decimal.{length-small, length-big}
 use Rattle.text.proofs.Round.{digits-64}
 use Rattle.text.proofs.number_length.Statement.{statement}
 use Rattle.text.proofs.number_length.Tie as tie
-use Rattle.text.proofs.number_length.Reads as reads
-use Rattle.text.proofs.number_length.Lts as lts
 
 abbrev Inv-loop : tie.InvT-loop
 Inv-loop n m₀ k₀ m k = (n ≤ 18446744073709551615) × (k + length (digits m) ≡ length (digits n) + 1)

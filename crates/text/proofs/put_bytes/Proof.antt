@@ -8,8 +8,6 @@ use Rattle.lists.specs.Written.{written}
 use Rattle.lists.proofs.Written.{written-none, written-turn}
 use Rattle.text.proofs.put_bytes.Statement.{statement}
 use Rattle.text.proofs.put_bytes.Tie as tie
-use Rattle.text.proofs.put_bytes.Reads as reads
-use Rattle.text.proofs.put_bytes.Lts as lts
 
 abbrev Inv-loop : tie.InvT-loop
 Inv-loop out₀ at src i₀ out i = (i ≤ length src) × (out ≡ written out₀ at (take i src)) × (length out ≡ length out₀)

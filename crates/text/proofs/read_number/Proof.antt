@@ -1,9 +1,9 @@
 -- `text::read_number` meets its contract. Assumes nothing.
 use Prim.Native.Nat.{ℕ, _≤_, _-_}
-use mathlib.Core.Path.{_≡_, refl, sym, _∙_}
+use mathlib.Core.Path.{_≡_, sym, _∙_}
 use native.Mathlib.Omega.{arith}
 use borrow.Author.Needs.{needs}
-use borrow.Author.Tests.{lt-ltb, le-ltb, le-leb, lt-leb, not-true, not-false}
+use borrow.Author.Tests.{not-true, not-false}
 use lib.ListN.{length, getD}
 use Rattle.text.specs.Decimal.{readAt}
 use Rattle.text.proofs.Decimal.{readFrom}
@@ -13,10 +13,6 @@ use Rattle.text.specs.Class.{isDigit}
 use Rattle.text.proofs.Bytes.{digit-bounds}
 use Rattle.text.proofs.read_number.Statement.{statement}
 use Rattle.text.proofs.read_number.Tie as tie
-use Rattle.text.proofs.read_number.Reads as reads
-use Rattle.text.proofs.read_number.Lts as lts
-use Rattle.text.proofs.is_digit.Reads as is-digit-reads
-use Rattle.text.proofs.wide.Reads as wide-reads
 
 abbrev Inv-loop : tie.InvT-loop
 Inv-loop s at limit first n₀ i₀ n i = (i ≤ length s) × (n ≤ limit) × (readFrom limit s n i ≡ readAt limit s at)

@@ -1,0 +1,5 @@
+pub mod Fields
+pub mod Texts
+pub mod Split
+pub mod Lines
+pub mod Examples

@@ -1,0 +1,23 @@
+-- `manifest::agrees` meets its contract. Assumes nothing.
+use Rattle.manifest.proofs.Lines.{parse-line, text-parse, begin-parse, end-parse, read-back}
+use Rattle.manifest.proofs.Texts.{text-room}
+use Rattle.manifest.proofs.Split.{lines-on-append, rest-newline, lines-prefix}
+use Rattle.manifest.proofs.agrees.Statement.{statement}
+use Rattle.manifest.proofs.agrees.Tie as tie
+
+returns : tie.Need-returns
+returns c =
+    record {
+      written = parse-line;
+      read = text-parse;
+      begun = begin-parse;
+      ended = end-parse;
+      room = text-room;
+      split = lines-on-append;
+      whole = rest-newline;
+      torn = lines-prefix;
+      back = read-back;
+    }
+
+pub agrees-spec : {M : Type 1} → statement M
+agrees-spec = tie.close (tie.spec returns)

@@ -1,0 +1,5 @@
+pub mod Operations
+pub mod Lines
+pub mod Fields
+pub mod Split
+pub mod Laws
