@@ -19,10 +19,7 @@ impl PinBook {
     pub fn none() -> PinBook
         ensures { λ r. ⌜ (r .count ≡ 0) × (pinsOf r ≡ []) ⌝ }
     {
-        let none = Pin {
-            epoch: 0,
-            count: 0,
-        };
+        let none = Pin { epoch: 0, count: 0 };
         PinBook {
             items: [none; 64],
             count: 0,

@@ -1,0 +1,78 @@
+-- `operations::add` meets its contract. Assumes nothing.
+use mathlib.Core.Path.{_≡_, sym, _∙_}
+use Prim.Native.Nat.{_+_, max}
+use native.Mathlib.Omega.{arith}
+use borrow.Author.Tests.{le-leb, lt-leb, not-true, not-false}
+use Rattle.lists.proofs.Places.{known}
+use borrow.Author.Needs.{needs}
+use Rattle.operations.proofs.add.Statement.{statement}
+use Rattle.operations.proofs.add.Tie as tie
+
+holds-requires : tie.Need-holds-requires
+holds-requires c κs = c .before .pre .fits .tables
+
+refused-requires : tie.Need-refused-requires
+refused-requires c κs = search known
+
+returns : tie.Need-returns
+returns c = rw (sym (c .before .before .holds .ensures) ∙ not-true _ (c .before .if1 .taken)) (c .refused .ensures)
+
+refused-requires-2 : tie.Need-refused-requires-2
+refused-requires-2 c κs = search known
+
+returns-2 : tie.Need-returns-2
+returns-2 c = rw (sym (c .before .before .before .before .before .holds .ensures) ∙ not-false _ (c .before .before .before .before .if1 .left), le-leb _ _ (c .before .if2 .taken)) (c .refused2 .ensures)
+
+holds-requires-2 : tie.Need-holds-requires-2
+holds-requires-2 c κs = omega (arith, c .before .before .before .before .before .before .before .pre .fits .rowsets)
+
+refused-requires-3 : tie.Need-refused-requires-3
+refused-requires-3 c κs = search known
+
+returns-3 : tie.Need-returns-3
+returns-3 c = rw (sym (c .before .before .before .before .before .before .before .before .holds .ensures) ∙ not-false _ (c .before .before .before .before .before .before .before .if1 .left), lt-leb _ _ (c .before .before .before .before .if2 .left), sym (c .before .before .holds2 .ensures) ∙ c .before .if3 .taken) (c .refused3 .ensures)
+
+rowsets-held-requires : tie.Need-rowsets-held-requires
+rowsets-held-requires c κs = omega (arith, c .before .before .before .before .before .before .before .before .before .pre .fits .rowsets)
+
+refused-requires-4 : tie.Need-refused-requires-4
+refused-requires-4 c κs = search known
+
+returns-4 : tie.Need-returns-4
+returns-4 c =
+    let f = c .before .before .before .before .before .before .before .before .before .before .before .before .pre .fits in
+    let n = sym (c .before .before .rowsets-held .ensures .0) in
+    rw (sym (c .before .before .before .before .before .before .before .before .before .before .holds .ensures) ∙ not-false _ (c .before .before .before .before .before .before .before .before .before .if1 .left), lt-leb _ _ (c .before .before .before .before .before .before .if2 .left), sym (c .before .before .before .before .holds2 .ensures) ∙ c .before .before .before .if3 .left, n, le-leb _ _ (c .before .if4 .taken)) (c .refused4 .ensures)
+
+put-requires : tie.Need-put-requires
+put-requires c κs = omega (arith, c .before .rowsets-held .ensures .1, c .if4 .left)
+
+accepted-requires : tie.Need-accepted-requires
+accepted-requires c κs = search known
+
+returns-5 : tie.Need-returns-5
+returns-5 c =
+    let f = c .before .before .before .before .before .before .before .before .before .before .before .before .before .pre .fits in
+    let n = sym (c .before .before .before .rowsets-held .ensures .0) in
+    let w = c .before .put .ensures in
+    let m : max (c .before .before .before .before .before .before .before .before .before .before .before .before .before .args .inner .next .rowset .0) (c .before .before .before .before .before .before .before .before .before .before .before .before .before .args .rowset .0 + 1) ≡ c .before .before .before .before .before .before .before .before .before .before .before .before .before .args .inner .next .rowset .0 = omega (arith, c .before .before .before .before .before .before .before .if2 .left) in
+    rw (sym (c .before .before .before .before .before .before .before .before .before .before .before .holds .ensures) ∙ not-false _ (c .before .before .before .before .before .before .before .before .before .before .if1 .left), lt-leb _ _ (c .before .before .before .before .before .before .before .if2 .left), sym (c .before .before .before .before .before .holds2 .ensures) ∙ c .before .before .before .before .if3 .left, n, lt-leb _ _ (c .before .before .if4 .left)) (c .accepted .ensures .0, rw (c .accepted .ensures .1) (record { fits = record { tables = f .tables; rowsets = omega (arith, w .0, c .before .before .before .rowsets-held .ensures .1, c .before .before .if4 .left); vectors = f .vectors }; state = rw (w .1, m) }))
+
+pub add-spec : {M : Type 1} → statement M
+add-spec =
+    tie.close
+    (tie.spec
+    holds-requires
+    refused-requires
+    returns
+    refused-requires-2
+    returns-2
+    holds-requires-2
+    refused-requires-3
+    returns-3
+    rowsets-held-requires
+    refused-requires-4
+    returns-4
+    put-requires
+    accepted-requires
+    returns-5)

@@ -1,0 +1,3 @@
+pub mod Effect
+pub mod Judge
+pub mod Steps

@@ -1,0 +1,41 @@
+-- One operation after another: each is judged on what the ones before it left. Assumes nothing.
+use mathlib.Core.Path.{_≡_}
+use mathlib.Core.Bool.{true}
+use mathlib.Core.List.{List, [], _∷_}
+use Prim.Native.Nat.{ℕ, _+_}
+use lib.Dec.{ltb}
+use Rattle.lists.specs.Keyed.{allOf}
+use Rattle.ids.specs.declared.refusal.Refusal.{Refusal}
+use Rattle.ids.specs.declared.refusal.Verdict.{Verdict}
+use Rattle.ids.specs.declared.refusal.Verdict.the-variants.{Accepted, Refused}
+use Rattle.ids.specs.Verdicts.{judged}
+use Rattle.manifest.specs.Operations.{Operation}
+use Rattle.version_state.specs.declared.VersionManagerInner.{VersionManagerInner}
+use Rattle.version_state.specs.State.{State, stateOf, Fit, Hands}
+use Rattle.operations.specs.declared.Stepped.{Stepped}
+use Rattle.operations.specs.Effect.{applied}
+use Rattle.operations.specs.Judge.{opRules}
+
+-- all were accepted and this is left, or the first refusal
+pub data Outcome : Type 0 where
+  left : State → Outcome
+  stopped : Refusal → Outcome
+
+abbrev pub onward : Verdict → Outcome → Outcome
+onward Accepted o = o
+onward (Refused k) o = stopped k
+
+-- the operations in order at epoch e, the first at place i
+abbrev pub stepsOf : ℕ → ℕ → List Operation → State → Outcome
+stepsOf i e [] s = left s
+stepsOf i e (o ∷ os) s = onward (judged (opRules i e o s)) (stepsOf (i + 1) e os (applied e o s))
+
+-- Internal: what a step needs of a state. Its lists fit, and its tables' ids are below the next one.
+pub record Ready (m : VersionManagerInner) : Type 0 where
+  pub fits : Fit m
+  pub below : allOf (λ t. ltb (t .table) (stateOf m .nextTable)) (stateOf m .tables) ≡ true
+
+-- a step is accepted and leaves the state s, or is refused
+abbrev pub StepIs : Outcome → Stepped → Type 0
+StepIs (left s) r = (r .verdict ≡ Accepted) × Hands (r .inner) s
+StepIs (stopped k) r = r .verdict ≡ Refused k
