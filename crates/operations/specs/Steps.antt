@@ -25,10 +25,18 @@ abbrev pub onward : Verdict → Outcome → Outcome
 onward Accepted o = o
 onward (Refused k) o = stopped k
 
+abbrev pub andThen : Outcome → (State → Outcome) → Outcome
+andThen (left s) f = f s
+andThen (stopped k) f = stopped k
+
+-- one operation at epoch e, at place i
+unfoldable pub stepOf : ℕ → ℕ → Operation → State → Outcome
+stepOf i e o s = onward (judged (opRules i e o s)) (left (applied e o s))
+
 -- the operations in order at epoch e, the first at place i
 abbrev pub stepsOf : ℕ → ℕ → List Operation → State → Outcome
 stepsOf i e [] s = left s
-stepsOf i e (o ∷ os) s = onward (judged (opRules i e o s)) (stepsOf (i + 1) e os (applied e o s))
+stepsOf i e (o ∷ os) s = andThen (stepOf i e o s) (λ t. stepsOf (i + 1) e os t)
 
 -- Internal: what a step needs of a state. Its lists fit, and its tables' ids are below the next one.
 pub record Ready (m : VersionManagerInner) : Type 0 where
@@ -36,6 +44,6 @@ pub record Ready (m : VersionManagerInner) : Type 0 where
   pub below : allOf (λ t. ltb (t .table) (stateOf m .nextTable)) (stateOf m .tables) ≡ true
 
 -- a step is accepted and leaves the state s, or is refused
-abbrev pub StepIs : Outcome → Stepped → Type 0
+unfoldable pub StepIs : Outcome → Stepped → Type 0
 StepIs (left s) r = (r .verdict ≡ Accepted) × Hands (r .inner) s
 StepIs (stopped k) r = r .verdict ≡ Refused k

@@ -27,8 +27,8 @@ ghost use Rattle.manifest.specs.Operations.{Operation, createTable, dropTable, 
 ghost use Rattle.snapshot.specs.Views.{pairIds, vectorIds, tablesOf, rowsetsOf, vectorsOf};
 ghost use Rattle.version_state.specs.State.{stateOf};
 ghost use Rattle.operations.specs.Effect.{applied};
-ghost use Rattle.operations.specs.Judge.{isShown, stateRules, opRules};
-ghost use Rattle.operations.specs.Steps.{onward, left, Ready, StepIs};
+ghost use Rattle.operations.specs.Judge.{isShown, stateRules};
+ghost use Rattle.operations.specs.Steps.{onward, left, stepOf, Ready, StepIs};
 
 pub struct Stepped {
     pub verdict: Verdict,
@@ -267,7 +267,7 @@ fn delete_vector(
 
 pub fn step(inner: VersionManagerInner, place: usize, epoch: u32, change: Change) -> Stepped
     requires { ⌜ Ready inner ⌝ }
-    ensures { λ r. ⌜ StepIs (onward (judged (opRules place epoch (operationOf change) (stateOf inner))) (left (applied epoch (operationOf change) (stateOf inner)))) r ⌝ }
+    ensures { λ r. ⌜ StepIs (stepOf place epoch (operationOf change) (stateOf inner)) r ⌝ }
 {
     if !change.well_formed() {
         return refused(inner, Refusal::Malformed(place));

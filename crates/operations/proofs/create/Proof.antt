@@ -7,6 +7,7 @@ use Rattle.lists.proofs.Places.{known}
 use Rattle.ids.specs.Names.{nameOf}
 use Rattle.snapshot.specs.Views.{tablesOf}
 use Rattle.operations.proofs.Tables.{create-last}
+use Rattle.operations.specs.Steps.{StepIs}
 use borrow.Author.Needs.{needs}
 use Rattle.operations.proofs.create.Statement.{statement}
 use Rattle.operations.proofs.create.Tie as tie
@@ -15,6 +16,7 @@ refused-requires : tie.Need-refused-requires
 refused-requires c κs = search known
 
 returns : tie.Need-returns
+unfolding StepIs
 returns c = rw (ne-eqb _ _ (c .before .if1 .taken)) (c .refused .ensures)
 
 taken-requires : tie.Need-taken-requires
@@ -24,6 +26,7 @@ refused-requires-2 : tie.Need-refused-requires-2
 refused-requires-2 c κs = search known
 
 returns-2 : tie.Need-returns-2
+unfolding StepIs
 returns-2 c = rw (eq-eqb _ _ (c .before .before .before .before .if1 .left), sym (c .before .before .taken .ensures) ∙ c .before .if2 .taken) (c .refused2 .ensures)
 
 tables-held-requires : tie.Need-tables-held-requires
@@ -33,6 +36,7 @@ refused-requires-3 : tie.Need-refused-requires-3
 refused-requires-3 c κs = search known
 
 returns-3 : tie.Need-returns-3
+unfolding StepIs
 returns-3 c =
     let f = c .before .before .before .before .before .before .before .before .before .pre .0 .fits in
     let n = sym (c .before .before .tables-held .ensures .0) in
@@ -48,6 +52,7 @@ accepted-requires : tie.Need-accepted-requires
 accepted-requires c κs = search known
 
 returns-4 : tie.Need-returns-4
+unfolding StepIs
 returns-4 c =
     let f = c .before .before .before .before .before .before .before .before .before .before .before .before .pre .0 .fits in
     let n = sym (c .before .before .before .before .before .tables-held .ensures .0) in

@@ -5,6 +5,7 @@ use borrow.Author.Tests.{not-true, not-false, ltb-true}
 use Rattle.lists.proofs.Places.{known}
 use Rattle.lists.proofs.Tests.{both}
 use Rattle.manifest.specs.Operations.{operationOf, wellFormed}
+use Rattle.operations.specs.Steps.{StepIs, stepOf}
 use borrow.Author.Needs.{needs}
 use Rattle.operations.proofs.step.Statement.{statement}
 use Rattle.operations.proofs.step.Tie as tie
@@ -16,6 +17,7 @@ refused-requires : tie.Need-refused-requires
 refused-requires c κs = search known
 
 returns : tie.Need-returns
+unfolding StepIs stepOf
 returns c = rw (sym (c .before .before .well-formed .ensures) ∙ not-true _ (c .before .if1 .taken)) (c .refused .ensures)
 
 enum-known-op : tie.Need-enum-known-op
@@ -64,36 +66,43 @@ refused-requires-2 : tie.Need-refused-requires-2
 refused-requires-2 c κs = search known
 
 returns-2 : tie.Need-returns-2
+unfolding StepIs stepOf
 returns-2 c =
     let w : wellFormed (operationOf (c .before .before .before .before .before .before .before .args .change)) ≡ true = sym (c .before .before .before .before .before .before .well-formed .ensures) ∙ not-false _ (c .before .before .before .before .before .if1 .left) in
     rw (w, c .before .before .op .given .1) (c .create .ensures)
 
 returns-3 : tie.Need-returns-3
+unfolding StepIs stepOf
 returns-3 c =
     let w : wellFormed (operationOf (c .before .before .before .before .before .before .before .args .change)) ≡ true = sym (c .before .before .before .before .before .before .well-formed .ensures) ∙ not-false _ (c .before .before .before .before .before .if1 .left) in
     rw (w, c .before .before .op2 .given .1) (c .drop .ensures)
 
 returns-4 : tie.Need-returns-4
+unfolding StepIs stepOf
 returns-4 c =
     let w : wellFormed (operationOf (c .before .before .before .before .before .before .before .args .change)) ≡ true = sym (c .before .before .before .before .before .before .well-formed .ensures) ∙ not-false _ (c .before .before .before .before .before .if1 .left) in
     rw (w, c .before .before .op3 .given .1) (c .add .ensures)
 
 returns-5 : tie.Need-returns-5
+unfolding StepIs stepOf
 returns-5 c =
     let w : wellFormed (operationOf (c .before .before .before .before .before .before .before .args .change)) ≡ true = sym (c .before .before .before .before .before .before .well-formed .ensures) ∙ not-false _ (c .before .before .before .before .before .if1 .left) in
     rw (w, c .before .before .op4 .given .1) (c .delete .ensures)
 
 returns-6 : tie.Need-returns-6
+unfolding StepIs stepOf
 returns-6 c =
     let w : wellFormed (operationOf (c .before .before .before .before .before .before .before .args .change)) ≡ true = sym (c .before .before .before .before .before .before .well-formed .ensures) ∙ not-false _ (c .before .before .before .before .before .if1 .left) in
     rw (w, c .before .before .op5 .given .1) (c .add-vector .ensures)
 
 returns-7 : tie.Need-returns-7
+unfolding StepIs stepOf
 returns-7 c =
     let w : wellFormed (operationOf (c .before .before .before .before .before .before .before .args .change)) ≡ true = sym (c .before .before .before .before .before .before .well-formed .ensures) ∙ not-false _ (c .before .before .before .before .before .if1 .left) in
     rw (w, c .before .before .op6 .given .1) (c .delete-vector .ensures)
 
 returns-8 : tie.Need-returns-8
+unfolding StepIs stepOf
 returns-8 c =
     let w : wellFormed (operationOf (c .before .before .before .before .before .before .args .change)) ≡ true = sym (c .before .before .before .before .before .well-formed .ensures) ∙ not-false _ (c .before .before .before .before .if1 .left) in
     rw (w, c .before .enum-told .given .1) (c .refused2 .ensures)
