@@ -1,0 +1,2 @@
+pub mod LetGo
+pub mod Says

@@ -1,0 +1,2 @@
+pub mod Managers
+pub mod Draw
