@@ -1,2 +1,4 @@
-pub mod Keeps
+pub mod Stepwise
 pub mod Append
+pub mod Sounds
+pub mod Older

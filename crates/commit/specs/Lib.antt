@@ -1,2 +1,3 @@
 pub mod Append
 pub mod Commit
+pub mod Laws

@@ -18,6 +18,7 @@ ghost use Rattle.version_state.specs.State.{stateOf, Fit};
 ghost use Rattle.version_state.specs.Sound.{outOfOrder};
 ghost use Rattle.operations.specs.Steps.{Ready, StepIs, stepsOf};
 ghost use Rattle.commit.specs.Append.{appendOf};
+ghost use Rattle.commit.specs.Laws.{CommitLaws};
 ghost use Rattle.commit.specs.Commit.{finishOf, commitTold, CommitIs, CommitSays};
 
 pub enum CommitAnswer {
@@ -39,6 +40,11 @@ fn refused(inner: VersionManagerInner, refusal: Refusal) -> Committed
         answer: CommitAnswer::Refused(refusal),
     }
 }
+
+// The laws of an accepted commit.
+pub fn keeps()
+    ensures { λ _. ⌜ CommitLaws ⌝ }
+{}
 
 // Internal, as is what follows: the batch is no longer than its array.
 pub fn steps(first: VersionManagerInner, epoch: u32, batch: Batch) -> Stepped

@@ -1,3 +1,4 @@
 pub mod Effect
 pub mod Judge
 pub mod Steps
+pub mod Laws

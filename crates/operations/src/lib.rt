@@ -28,12 +28,18 @@ ghost use Rattle.snapshot.specs.Views.{pairIds, vectorIds, tablesOf, rowsetsOf,
 ghost use Rattle.version_state.specs.State.{stateOf};
 ghost use Rattle.operations.specs.Effect.{applied};
 ghost use Rattle.operations.specs.Judge.{isShown, stateRules};
+ghost use Rattle.operations.specs.Laws.{JudgedAlike};
 ghost use Rattle.operations.specs.Steps.{onward, left, stepOf, Ready, StepIs};
 
 pub struct Stepped {
     pub verdict: Verdict,
     pub inner: VersionManagerInner,
 }
+
+// Whether an operation is refused rests on the entries of its table, the held vector ids, the counts, the names and the next ids.
+pub fn judged_alike()
+    ensures { λ _. ⌜ JudgedAlike ⌝ }
+{}
 
 fn refused(inner: VersionManagerInner, refusal: Refusal) -> Stepped
     ensures { λ r. ⌜ r .verdict ≡ Verdict.Refused refusal ⌝ }

@@ -7,7 +7,7 @@ use Rattle.lists.proofs.Places.{known}
 use Rattle.manifest.specs.Operations.{batchOf}
 use Rattle.version_state.specs.State.{stateOf}
 use Rattle.version_state.proofs.Facts.{sound-of, order-in}
-use Rattle.commit.proofs.Keeps.{steps-stopped, steps-left, steps-ordered, steps-manifest}
+use Rattle.commit.proofs.Stepwise.{steps-stopped, steps-left, steps-ordered, steps-manifest}
 use borrow.Author.Needs.{needs}
 use Rattle.commit.proofs.commit.Statement.{statement}
 use Rattle.commit.proofs.commit.Tie as tie

@@ -11,7 +11,7 @@ use Rattle.lists.proofs.Views.{seen-end}
 use Rattle.manifest.specs.Operations.{operationOf, batchOf}
 use Rattle.version_state.specs.State.{stateOf, Fit}
 use Rattle.operations.specs.Steps.{stepsOf, StepIs}
-use Rattle.commit.proofs.Keeps.{Below, turn-off, turn-fits, turn-below, turn-on}
+use Rattle.commit.proofs.Stepwise.{Below, turn-off, turn-fits, turn-below, turn-on}
 use Rattle.commit.proofs.steps.Statement.{statement}
 use Rattle.commit.proofs.steps.Tie as tie
 

@@ -23,7 +23,7 @@ handed-requires : tie.Need-handed-requires
 handed-requires c κs = search known
 
 returns-3 : tie.Need-returns-3
-returns-3 c = 
+returns-3 c =
     let b = sym (c .before .before .before .before .bad .ensures) ∙ c .before .before .before .if1 .left in
     let n = lt-leb _ _ (c .before .before .if2 .left) in
     let f = sound-of (c .before .before .before .before .before .before .args .self .inner) b .fits in

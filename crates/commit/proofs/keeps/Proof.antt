@@ -1,0 +1,27 @@
+-- `commit::keeps` meets its contract: the laws of an accepted commit. Assumes nothing.
+use mathlib.Core.Path.{_≡_, refl, sym, ap, _∙_}
+use Prim.Native.Nat.{_+_}
+use lib.ListN.{length}
+use Rattle.manifest.specs.Operations.{batchOf}
+use Rattle.version_state.specs.State.{State, stateOf}
+use Rattle.commit.specs.Append.{appendOf}
+use Rattle.commit.proofs.Stepwise.{steps-manifest}
+use Rattle.commit.proofs.Sounds.{accepts, commit-sound}
+use Rattle.commit.proofs.Older.{older-pairs, older-vectors}
+use Rattle.commit.proofs.keeps.Statement.{statement}
+use Rattle.commit.proofs.keeps.Tie as tie
+
+returns : tie.Need-returns
+returns c =
+    record {
+      sound = commit-sound;
+      epoch = λ m b room s h. sym (ap (λ (t : State). t .epoch) (accepts m b room s h .state));
+      manifest = λ m b room s h.
+          let a = accepts m b room s h in
+          sym (ap (λ (t : State). t .manifest) (a .state)) ∙ ap (λ n. n + length (appendOf (batchOf b))) (steps-manifest (m .epoch + 1) (batchOf b) (stateOf m) (a .done) (a .steps));
+      pairs = older-pairs;
+      vectors = older-vectors;
+    }
+
+pub keeps-spec : {M : Type 1} → statement M
+keeps-spec = tie.close (tie.spec returns)
