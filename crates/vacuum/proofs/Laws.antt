@@ -16,7 +16,7 @@ use Rattle.snapshot.specs.Entries.{Entry, goneAt, shownAt, goneBy, shownBy, sho
 use Rattle.snapshot.specs.Tables.{TableEntry}
 use Rattle.version_state.specs.declared.VersionManagerInner.{VersionManagerInner}
 use Rattle.version_state.specs.Limits.{longestManifest}
-use Rattle.version_state.specs.State.{State, stateOf, countsFit, Hands, pairsAt, vectorsAt}
+use Rattle.version_state.specs.State.{State, stateOf, countsFit, Hands, pairsAt, vectorsAt, HandsBack}
 use Rattle.version_state.specs.Sound.{leftBehind, beyondLimits, outOfOrder, aboveOwn, badManager}
 use Rattle.version_state.proofs.Facts.{fit-counts, in-order, order-in}
 use Rattle.pins.specs.declared.PinBook.{PinBook}
@@ -25,7 +25,7 @@ use Rattle.pins.proofs.Bound.{bound-le, bound-shows}
 use Rattle.ids.specs.declared.refusal.Verdict.{Verdict}
 use Rattle.ids.specs.declared.refusal.Verdict.the-variants.{Accepted, Refused}
 use Rattle.vacuum.specs.declared.Vacuumed.{Vacuumed}
-use Rattle.vacuum.specs.Says.{boundOf, vacuumVerdict, HandsBack, VacuumSays}
+use Rattle.vacuum.specs.Says.{boundOf, vacuumVerdict, VacuumSays}
 use Rattle.vacuum.specs.LetGo.{vacuumList, staysBy, vacuumed}
 
 -- what is gone by b is gone by every later epoch

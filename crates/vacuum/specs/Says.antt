@@ -13,7 +13,7 @@ use Rattle.ids.specs.Verdicts.{Rule, _⇒_, judged}
 use Rattle.ids.specs.Answers.{Told, told, after}
 use Rattle.snapshot.specs.Entries.{Entry, field}
 use Rattle.version_state.specs.declared.VersionManagerInner.{VersionManagerInner}
-use Rattle.version_state.specs.State.{State, stateOf, Hands}
+use Rattle.version_state.specs.State.{stateOf, HandsBack}
 use Rattle.version_state.specs.Sound.{badManager}
 use Rattle.pins.specs.declared.PinBook.{PinBook}
 use Rattle.pins.specs.Book.{pinsOf, badBook, bound}
@@ -50,11 +50,6 @@ module _ (m : VersionManagerInner) (b : PinBook) where
 
   abbrev pub vacuumVerdict : ℕ → ℕ → Verdict
   vacuumVerdict t r = judged (vacuumRules t r)
-
--- the manager handed back: on a refusal the very same m, and else one that stands for s
-abbrev pub HandsBack : Verdict → VersionManagerInner → State → VersionManagerInner → Type 0
-HandsBack Accepted m s n = Hands n s
-HandsBack (Refused q) m s n = n ≡ m
 
 -- vacuum of m and b, lent the slices ts and rs, returns v and leaves ts′ and rs′ in them
 pub record VacuumSays (m : VersionManagerInner) (b : PinBook) (ts rs : List ℕ) (v : Vacuumed) (ts′ rs′ : List ℕ) : Type 0 where

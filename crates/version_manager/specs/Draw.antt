@@ -10,9 +10,8 @@ use Rattle.ids.specs.declared.refusal.Verdict.{Verdict}
 use Rattle.ids.specs.declared.refusal.Verdict.the-variants.{Accepted, Refused}
 use Rattle.ids.specs.Verdicts.{Rule, _⇒_, judged}
 use Rattle.ids.specs.Answers.{Told, told}
-use Rattle.version_state.specs.State.{State, stateOf, withNext}
+use Rattle.version_state.specs.State.{State, stateOf, withNext, HandsBack}
 use Rattle.version_state.specs.Sound.{badManager}
-use Rattle.vacuum.specs.Says.{HandsBack}
 use Rattle.version_manager.specs.declared.VersionManager.{VersionManager}
 use Rattle.version_manager.specs.declared.RowsetAnswer.{RowsetAnswer}
 use Rattle.version_manager.specs.declared.RowsetAnswer.the-variants as rowset

@@ -1,7 +1,6 @@
 -- Managers that are handed back: one place for what a manager holds beside its state. Assumes nothing.
 use mathlib.Core.Path.{_≡_}
 use mathlib.Core.List.{[]}
-use Rattle.ids.specs.declared.refusal.Verdict.{Verdict}
 use Rattle.version_state.specs.State.{State, start, Hands}
 use Rattle.pins.specs.Book.{pinsOf}
 use Rattle.commit.specs.declared.Committed as committed

@@ -5,10 +5,12 @@ use ids::VectorNo;
 use ids::refusal::Refusal;
 use manifest::operation::Batch;
 use pins::PinBook;
+use show::ShowAnswer;
 use vacuum::VacuumAnswer;
 use version_state::VersionManagerInner;
 ghost use mathlib.Core.Path.{_≡_};
 ghost use Rattle.commit.specs.Commit.{CommitSays};
+ghost use Rattle.show.specs.Says.{ShowTablesSays, ShowPairsSays, ShowVectorsSays};
 ghost use Rattle.vacuum.specs.Says.{VacuumSays};
 ghost use Rattle.version_manager.specs.Managers.{FreshSays, committedOf, vacuumedOf};
 ghost use Rattle.version_manager.specs.Draw.{DrawRowsetSays, DrawVectorSays};
@@ -148,5 +150,47 @@ impl VersionManager {
         let inner = done.inner;
         let manager = handed(inner);
         Vacuumed { manager, answer }
+    }
+
+    pub fn show_tables(
+        self,
+        book: PinBook,
+        epoch: u32,
+        ids: &mut [u32],
+        shapes: &mut [u32],
+        lengths: &mut [u32],
+        names: &mut [u8],
+    ) -> ShowAnswer
+        ensures { λ r. ⌜ ShowTablesSays (self .inner) book epoch (now (ids .entry)) (now (shapes .entry)) (now (lengths .entry)) (now (names .entry)) r (now (ids .exit)) (now (shapes .exit)) (now (lengths .exit)) (now (names .exit)) ⌝ }
+    {
+        let inner = self.inner;
+        show::show_tables(inner, book, epoch, ids, shapes, lengths, names)
+    }
+
+    pub fn show_pairs(
+        self,
+        book: PinBook,
+        epoch: u32,
+        tables: &mut [u32],
+        rowsets: &mut [u32],
+    ) -> ShowAnswer
+        ensures { λ r. ⌜ ShowPairsSays (self .inner) book epoch (now (tables .entry)) (now (rowsets .entry)) r (now (tables .exit)) (now (rowsets .exit)) ⌝ }
+    {
+        let inner = self.inner;
+        show::show_pairs(inner, book, epoch, tables, rowsets)
+    }
+
+    pub fn show_vectors(
+        self,
+        book: PinBook,
+        epoch: u32,
+        tables: &mut [u32],
+        rowsets: &mut [u32],
+        vectors: &mut [u64],
+    ) -> ShowAnswer
+        ensures { λ r. ⌜ ShowVectorsSays (self .inner) book epoch (now (tables .entry)) (now (rowsets .entry)) (now (vectors .entry)) r (now (tables .exit)) (now (rowsets .exit)) (now (vectors .exit)) ⌝ }
+    {
+        let inner = self.inner;
+        show::show_vectors(inner, book, epoch, tables, rowsets, vectors)
     }
 }

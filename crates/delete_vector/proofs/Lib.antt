@@ -1,0 +1,9 @@
+pub mod Encoding
+pub mod Sizes
+pub mod Records
+pub mod Bytes
+pub mod Files
+pub mod Merging
+pub mod Masking
+pub mod Says
+pub mod Together

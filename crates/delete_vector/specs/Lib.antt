@@ -1,0 +1,8 @@
+pub mod Encoding
+pub mod Sizes
+pub mod Records
+pub mod Memory
+pub mod Mask
+pub mod Answers
+pub mod Says
+pub mod Laws

@@ -1,0 +1,115 @@
+// A delete vector: what its file holds, how that is read back, and how it masks rows.
+use file::Scanned;
+use ids::RowNo;
+use ids::refusal::Refusal;
+ghost use mathlib.Core.Path.{_≡_};
+ghost use mathlib.Core.Bool.{false};
+ghost use lib.ListN.{length};
+ghost use Rattle.delete_vector.specs.Records.{recordsIn, isBad, rowsIn};
+ghost use Rattle.delete_vector.specs.Laws.{Laws};
+ghost use Rattle.delete_vector.specs.Says.{WriteSays, ReadSays, MemorySays, MaskSays};
+
+pub mod file;
+pub mod mask;
+pub mod memory;
+pub mod record;
+
+// What writing rows gives: the count of bytes, or the refusal.
+pub enum Written {
+    Bytes(usize),
+    Refused(Refusal),
+}
+
+// What reading a file gives: the count of rows, or the refusal.
+pub enum Loaded {
+    Rows(usize),
+    Refused(Refusal),
+}
+
+// What putting rows into their form in memory gives: the count of rows, or the refusal.
+pub enum Held {
+    Rows(usize),
+    Refused(Refusal),
+}
+
+// What masking gives.
+pub enum Masked {
+    Cleared,
+    Refused(Refusal),
+}
+
+// The most records of a vector.
+const MOST_RECORDS: usize = 4096;
+
+// The rows' records, in the order given and with repeats, go to the front of out.
+pub fn write_all(rows: &[u32], out: &mut [u8]) -> Written
+    ensures { λ r. ⌜ WriteSays (now (rows .entry)) (now (out .entry)) r (now (out .exit)) ⌝ }
+{
+    if rows.len() > MOST_RECORDS {
+        return Written::Refused(Refusal::WrongCount);
+    }
+    let size = file::file_size(rows);
+    if out.len() < size {
+        return Written::Refused(Refusal::OutputTooShort);
+    }
+    file::put_records(rows, out, 0);
+    Written::Bytes(size)
+}
+
+// A file without a bad record, of `count` records.
+fn read_good(bytes: &[u8], count: usize, rows: &mut [u32]) -> Loaded
+    requires { ⌜ (isBad (recordsIn (now bytes)) ≡ false) × (count ≡ length (rowsIn (recordsIn (now bytes)))) ⌝ }
+    ensures { λ r. ⌜ ReadSays (now (bytes .entry)) (now (rows .entry)) r (now (rows .exit)) ⌝ }
+{
+    if count > MOST_RECORDS {
+        return Loaded::Refused(Refusal::WrongCount);
+    }
+    if rows.len() < count {
+        return Loaded::Refused(Refusal::OutputTooShort);
+    }
+    file::put_rows(bytes, rows);
+    Loaded::Rows(count)
+}
+
+// The rows of a file's records, in the file's order, go to the front of rows. Only what `write_all` makes is taken.
+pub fn read_all(bytes: &[u8], rows: &mut [u32]) -> Loaded
+    ensures { λ r. ⌜ ReadSays (now (bytes .entry)) (now (rows .entry)) r (now (rows .exit)) ⌝ }
+{
+    match file::scan(bytes) {
+        Scanned::Bad(place) => Loaded::Refused(Refusal::BadRecord(place)),
+        Scanned::Records(count) => read_good(bytes, count, rows),
+    }
+}
+
+// The rows, lent in any order, go to the front of out ascending, each once.
+pub fn in_memory(rows: &[u32], out: &mut [u32]) -> Held
+    ensures { λ r. ⌜ MemorySays (now (rows .entry)) (now (out .entry)) r (now (out .exit)) ⌝ }
+{
+    if rows.len() > MOST_RECORDS {
+        return Held::Refused(Refusal::WrongCount);
+    }
+    let mut ascending = [0u32; 4096];
+    let mut spare = [0u32; 4096];
+    let count = memory::ascend(rows, &mut ascending, &mut spare);
+    if out.len() < count {
+        return Held::Refused(Refusal::OutputTooShort);
+    }
+    memory::copy(&ascending, 0, count, out, 0);
+    Held::Rows(count)
+}
+
+// The bits of the rows are cleared; bit i stands for row offset + i.
+pub fn apply_to(rows: &[u32], bits: &mut [u8], offset: RowNo) -> Masked
+    ensures { λ r. ⌜ MaskSays (now (rows .entry)) (now (bits .entry)) (offset .0) r (now (bits .exit)) ⌝ }
+{
+    if rows.len() > MOST_RECORDS {
+        return Masked::Refused(Refusal::WrongCount);
+    }
+    mask::clear_all(rows, bits, offset);
+    Masked::Cleared
+}
+
+// The laws of the definitions, held to by the check.
+pub fn laws()
+    ensures { λ _. ⌜ Laws ⌝ }
+{}

@@ -1,0 +1,6 @@
+-- The whole log book. Assumes nothing.
+use Rattle.log_book.specs.LogBook.{LogBook}
+use Rattle.log_book.proofs.Rows.{row-cases}
+
+pub log-book : LogBook
+log-book = record { rows = row-cases }
