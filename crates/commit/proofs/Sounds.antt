@@ -26,6 +26,7 @@ use Rattle.version_state.specs.declared.VersionManagerInner.{VersionManagerInne
 use Rattle.version_state.specs.Limits.{longestManifest}
 use Rattle.version_state.specs.State.{State, stateOf, withEpoch, Hands}
 use Rattle.version_state.specs.Sound.{leftBehind, badManager}
+use Rattle.version_state.proofs.Within.{Within, within-of, of-within, within-up}
 use Rattle.version_state.proofs.Facts.{Ordered, Sound, sound-of, of-sound}
 use Rattle.operations.specs.Effect.{applied}
 use Rattle.operations.specs.Judge.{opRules, stateRules, isLive, isShown}
@@ -33,40 +34,6 @@ use Rattle.operations.specs.Steps.{Outcome, left, stopped, onward, andThen, ste
 use Rattle.commit.specs.Append.{appendOf}
 use Rattle.commit.specs.Commit.{firstRules, lastRules, finishOf, commitOf}
 use Rattle.commit.proofs.Stepwise.{Below, below-applied, ordered-applied, halt, steps-keep, steps-manifest}
-
--- Next ids that rise.
-abbrev Rises : List ℕ → List ℕ → Type 0
-Rises [] [] = Unit {0}
-Rises [] (m ∷ ms) = ⊥
-Rises (n ∷ ns) [] = ⊥
-Rises (n ∷ ns) (m ∷ ms) = (n ≤ m) × Rises ns ms
-
-below-up : (k ns ms : List ℕ) → Rises ns ms → belowNext k ns ≡ true → belowNext k ms ≡ true
-below-up [] ns ms r h = refl
-below-up (x ∷ k) [] ms r h = clash h refl
-below-up (x ∷ k) (n ∷ ns) [] r h = absurd r
-below-up (x ∷ k) (n ∷ ns) (m ∷ ms) r h =
-    let d = both (ltb x n) (belowNext k ns) h in
-    join (lt-ltb x m (omega (arith, ltb-true x n (d .0), r .0))) (below-up k ns ms (r .1) (d .1))
-
--- an entry's epochs and ids, as facts
-record Within (e : ℕ) (ns : List ℕ) (x : Entry) : Type 0 where
-  added : x .added ≤ e
-  deleted : x .deleted ≤ e
-  ids : belowNext (x .ids) ns ≡ true
-
-within-of : (e : ℕ) (ns : List ℕ) (x : Entry) → within e ns x ≡ true → Within e ns x
-within-of e ns x h =
-    let a = both (leb (x .added) e) (leb (x .deleted) e && belowNext (x .ids) ns) h in
-    let b = both (leb (x .deleted) e) (belowNext (x .ids) ns) (a .1) in
-    record { added = leb-true (x .added) e (a .0); deleted = leb-true (x .deleted) e (b .0); ids = b .1 }
-
-of-within : (e : ℕ) (ns : List ℕ) (x : Entry) → Within e ns x → within e ns x ≡ true
-of-within e ns x w = rw (le-leb (x .added) e (w .added), le-leb (x .deleted) e (w .deleted)) (w .ids)
-
-within-up : (e d : ℕ) (ns ms : List ℕ) → e ≤ d → Rises ns ms → (l : List Entry) → All (Within e ns) l → All (Within d ms) l
-within-up e d ns ms h r l a =
-    all-map l (λ x w. record { added = omega (arith, w .added); deleted = omega (arith, w .deleted); ids = below-up (x .ids) ns ms r (w .ids) }) a
 
 -- all that 29 asks of a state but 17 and the limits
 record Kept (e : ℕ) (s : State) : Type 0 where

@@ -1,6 +1,7 @@
 -- The whole log book. Assumes nothing.
 use Rattle.log_book.specs.LogBook.{LogBook}
 use Rattle.log_book.proofs.Rows.{row-cases}
+use Rattle.log_book.proofs.Vacuums.{vacuum-cases}
 
 pub log-book : LogBook
-log-book = record { rows = row-cases }
+log-book = record { rows = row-cases; vacuums = vacuum-cases }

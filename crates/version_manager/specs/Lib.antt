@@ -1,2 +1,3 @@
 pub mod Managers
 pub mod Draw
+pub mod Laws

@@ -13,6 +13,7 @@ ghost use Rattle.commit.specs.Commit.{CommitSays};
 ghost use Rattle.show.specs.Says.{ShowTablesSays, ShowPairsSays, ShowVectorsSays};
 ghost use Rattle.vacuum.specs.Says.{VacuumSays};
 ghost use Rattle.version_manager.specs.Managers.{FreshSays, committedOf, vacuumedOf};
+ghost use Rattle.version_manager.specs.Laws.{DrawLaws};
 ghost use Rattle.version_manager.specs.Draw.{DrawRowsetSays, DrawVectorSays};
 
 pub struct VersionManager {
@@ -61,6 +62,11 @@ pub fn handed(inner: VersionManagerInner) -> VersionManager
 {
     VersionManager { inner }
 }
+
+// What fresh and draw hand out passes 29.
+pub fn draws_sound()
+    ensures { λ _. ⌜ DrawLaws ⌝ }
+{}
 
 impl VersionManager {
     pub fn fresh() -> Opened

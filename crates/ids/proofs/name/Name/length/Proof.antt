@@ -1,3 +1,4 @@
+-- `ids::name::Name::length` meets its contract. Assumes nothing.
 use mathlib.Core.Path.{_≡_, refl, sym, ap, _∙_}
 use Prim.Native.Nat.{ℕ, _+_, _-_, _≤_}
 use native.Mathlib.Omega.{arith}
@@ -10,14 +11,10 @@ use Rattle.ids.specs.Names.{nameOf}
 use Rattle.ids.proofs.Names.{name-short, name-over, name-length, name-room, same-more, same-differ, same-short, same-both, same-long, copy-more}
 use Rattle.ids.proofs.name.Name.length.Statement.{statement}
 use Rattle.ids.proofs.name.Name.length.Tie as tie
-use Rattle.ids.proofs.name.Name.length.Reads as reads
-use Rattle.ids.proofs.name.Name.length.Lts as lts
 
--- src/name.rt:47:13
 returns : tie.Need-returns
 returns c = sym (name-length (c .before .before .args .self) (search known) (c .if1 .taken))
 
--- src/name.rt:43:5
 returns-2 : tie.Need-returns-2
 returns-2 c = ap length (sym (name-over (c .before .before .args .self) (c .if1 .left)))
 

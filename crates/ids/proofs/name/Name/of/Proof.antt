@@ -1,3 +1,4 @@
+-- `ids::name::Name::of` meets its contract. Assumes nothing.
 use mathlib.Core.Path.{_≡_, refl, sym, ap, _∙_}
 use Prim.Native.Nat.{ℕ, _+_, _-_, _≤_}
 use native.Mathlib.Omega.{arith}
@@ -10,8 +11,6 @@ use Rattle.ids.specs.Names.{nameOf}
 use Rattle.ids.proofs.Names.{name-short, name-over, name-length, name-room, same-more, same-differ, same-short, same-both, same-long, copy-more}
 use Rattle.ids.proofs.name.Name.of.Statement.{statement}
 use Rattle.ids.proofs.name.Name.of.Tie as tie
-use Rattle.ids.proofs.name.Name.of.Reads as reads
-use Rattle.ids.proofs.name.Name.of.Lts as lts
 
 abbrev Inv-loop : tie.InvT-loop
 Inv-loop src n bytes₀ i₀ bytes i = (i ≤ n) × (length bytes ≡ 32) × (take i bytes ≡ take i src)
@@ -19,32 +18,25 @@ Inv-loop src n bytes₀ i₀ bytes i = (i ≤ n) × (length bytes ≡ 32) × (ta
 abbrev μ-loop : tie.MeasureT-loop
 μ-loop src n bytes₀ i₀ bytes i = n - i
 
--- src/name.rt:33:9
 loop-holds : tie.Need-loop-holds Inv-loop μ-loop
 loop-holds c = search known
 
--- src/name.rt:34:24
 shared-slice-read-bytes : tie.Need-shared-slice-read-bytes Inv-loop μ-loop
 shared-slice-read-bytes c = search known
 
--- src/name.rt:34:13
 array-write-bytes : tie.Need-array-write-bytes Inv-loop μ-loop
 array-write-bytes c = search known
 
--- src/name.rt:35:13
 add-i : tie.Need-add-i Inv-loop μ-loop
 add-i c = search known
 
--- src/name.rt:33:9
 loop-less : tie.Need-loop-less Inv-loop μ-loop
 loop-less c = search known
 
--- src/name.rt:33:9
 loop-again : tie.Need-loop-again Inv-loop μ-loop
 loop-again c =
     (search known, search known, copy-more (c .before .before .loop .bytes) (now (c .before .before .before .args .src)) (c .before .before .loop .i) (search known) (search known) (c .before .before .loop .inv .2))
 
--- src/name.rt:26:5
 returns : tie.Need-returns Inv-loop μ-loop
 returns c =
     let src = now (c .before .before .args .src) in

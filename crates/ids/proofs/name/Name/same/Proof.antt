@@ -1,3 +1,4 @@
+-- `ids::name::Name::same` meets its contract. Assumes nothing.
 use mathlib.Core.Path.{_≡_, refl, sym, ap, _∙_}
 use Prim.Native.Nat.{ℕ, _+_, _-_, _≤_}
 use native.Mathlib.Omega.{arith}
@@ -10,9 +11,6 @@ use Rattle.ids.specs.Names.{nameOf}
 use Rattle.ids.proofs.Names.{name-short, name-over, name-length, name-room, same-more, same-differ, same-short, same-both, same-long, copy-more}
 use Rattle.ids.proofs.name.Name.same.Statement.{statement}
 use Rattle.ids.proofs.name.Name.same.Tie as tie
-use Rattle.ids.proofs.name.Name.same.Reads as reads
-use Rattle.ids.proofs.name.Name.same.Lts as lts
-use Rattle.ids.proofs.name.Name.length.Reads as length-reads
 
 abbrev Inv-loop : tie.InvT-loop
 Inv-loop self other n m i₀ i = (i ≤ n) × (n ≡ length (nameOf self)) × (m ≡ length (nameOf other)) × (n ≤ 32) × (m ≤ 32) × (same (nameOf self) (nameOf other) ≡ same (drop i (nameOf self)) (drop i (nameOf other)))
@@ -20,15 +18,12 @@ Inv-loop self other n m i₀ i = (i ≤ n) × (n ≡ length (nameOf self)) × (m
 abbrev μ-loop : tie.MeasureT-loop
 μ-loop self other n m i₀ i = n - i
 
--- src/name.rt:55:13
 length-requires : tie.Need-length-requires Inv-loop μ-loop
 length-requires c κs = search known
 
--- src/name.rt:56:13
 length-requires-2 : tie.Need-length-requires-2 Inv-loop μ-loop
 length-requires-2 c κs = search known
 
--- src/name.rt:58:9
 loop-holds : tie.Need-loop-holds Inv-loop μ-loop
 loop-holds c =
     let start = c .before .before in
@@ -36,41 +31,32 @@ loop-holds c =
     let b = name-room (start .args .t2) in
     (omega arith, c .before .length .ensures, c .length2 .ensures, omega (arith, c .before .length .ensures), omega (arith, c .length2 .ensures), refl)
 
--- src/name.rt:60:17
 returns : tie.Need-returns Inv-loop μ-loop
 returns c = let i = c .before .before .loop .inv in same-short _ _ (c .before .before .loop .i) (i .5) (omega arith) (omega arith)
 
--- src/name.rt:62:21
 element-copy-out-a : tie.Need-element-copy-out-a Inv-loop μ-loop
 element-copy-out-a c = search known
 
--- src/name.rt:63:21
 element-copy-out-b : tie.Need-element-copy-out-b Inv-loop μ-loop
 element-copy-out-b c = search known
 
--- src/name.rt:65:17
 returns-2 : tie.Need-returns-2 Inv-loop μ-loop
 returns-2 c = let i = c .before .before .before .before .before .loop .inv in same-differ _ _ _ (i .5) (omega arith) (omega arith) (c .if2 .taken)
 
--- src/name.rt:67:13
 add-i : tie.Need-add-i Inv-loop μ-loop
 add-i c = search known
 
--- src/name.rt:58:9
 loop-less : tie.Need-loop-less Inv-loop μ-loop
 loop-less c = search known
 
--- src/name.rt:58:9
 loop-again : tie.Need-loop-again Inv-loop μ-loop
 loop-again c =
     let i = c .before .before .before .before .before .loop .inv in
     (omega arith, i .1, i .2, i .3, i .4, same-more _ _ _ (i .5) (omega arith) (omega arith) (c .if2 .left))
 
--- src/name.rt:70:13
 returns-3 : tie.Need-returns-3 Inv-loop μ-loop
 returns-3 c = let i = c .before .before .loop .inv in same-both _ _ (c .before .before .loop .i) (i .5) (omega arith) (omega arith)
 
--- src/name.rt:52:5
 returns-4 : tie.Need-returns-4 Inv-loop μ-loop
 returns-4 c = let i = c .before .before .loop .inv in same-long _ _ (c .before .before .loop .i) (i .5) (omega arith) (omega arith)
 

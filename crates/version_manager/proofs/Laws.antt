@@ -1,0 +1,79 @@
+-- What draw and fresh hand out passes 29. Assumes nothing.
+use mathlib.Core.Path.{_≡_, refl, sym, ap, subst, _∙_}
+use mathlib.Core.Bool.{true, false}
+use mathlib.Core.List.{List, [], _∷_}
+use Prim.Native.Nat.{ℕ, _+_, _≤_}
+use native.Mathlib.Omega.{arith}
+use lib.Dec.{ltb}
+use Rattle.lists.specs.Keyed.{allOf}
+use Rattle.lists.proofs.Keyed.{all-map, allOf-all, all-allOf}
+use Rattle.ids.specs.declared.refusal.Verdict.{Verdict}
+use Rattle.ids.specs.declared.refusal.Verdict.the-variants.{Accepted, Refused}
+use Rattle.ids.proofs.Verdicts.{none-judged}
+use Rattle.ids.specs.Ids.{largest32, largest64}
+use Rattle.text.specs.Name.{isName}
+use Rattle.snapshot.specs.Entries.{Entry, within}
+use Rattle.version_state.specs.declared.VersionManagerInner.{VersionManagerInner}
+use Rattle.version_state.specs.Limits.{longestManifest}
+use Rattle.version_state.specs.State.{State, start, stateOf, withNext, Hands, HandsBack}
+use Rattle.version_state.specs.Sound.{leftBehind, badManager}
+use Rattle.version_state.proofs.Within.{Rises, within-of, of-within, within-up}
+use Rattle.version_state.proofs.Facts.{Ordered, Sound, sound-of, of-sound}
+use Rattle.version_manager.specs.declared.VersionManager.{VersionManager}
+use Rattle.version_manager.specs.Draw.{drawRules, rowsetVerdict, vectorVerdict, rowsetDrawn, vectorDrawn}
+use Rattle.version_manager.specs.Laws.{DrawLaws}
+
+-- entries stay within next ids that rise
+entries-up : (e : ℕ) (ns ms : List ℕ) (l : List Entry) → Rises ns ms → allOf (within e ns) l ≡ true → allOf (within e ms) l ≡ true
+entries-up e ns ms l r t =
+    all-allOf (within e ms) l (all-map l (of-within e ms) (within-up e e ns ms (omega arith) r l (all-map l (within-of e ns) (allOf-all (within e ns) l t))))
+
+-- next ids of rowsets and vectors that rise leave a manager that passes 29 passing it
+raised-sound : (m n : VersionManagerInner) (r v : ℕ) → stateOf m .nextRowset ≤ r → stateOf m .nextVector ≤ v
+    → badManager m ≡ false → Hands n (withNext (stateOf m) (stateOf m .nextTable) r v) → badManager n ≡ false
+raised-sound m n r v hr hv b k =
+    let s = sound-of m b in
+    let q = sym (k .state) in
+    let t = stateOf m in
+    of-sound n
+    (record {
+      fits = k .fits;
+      manifest = subst (λ (u : State). u .manifest ≤ longestManifest) q (s .manifest);
+      names = subst (λ (u : State). allOf (λ x. isName (x .name)) (u .tables) ≡ true) q (s .names);
+      ordered = subst Ordered q (record { tables = s .ordered .tables; pairs = s .ordered .pairs; vectors = s .ordered .vectors });
+      below = subst (λ (u : State). allOf (λ x. ltb (x .table) (u .nextTable)) (u .tables) ≡ true) q (s .below);
+      pairs = subst (λ (u : State). allOf (within (u .epoch) (u .nextTable ∷ u .nextRowset ∷ [])) (u .pairs) ≡ true) q (entries-up (t .epoch) (t .nextTable ∷ t .nextRowset ∷ []) (t .nextTable ∷ r ∷ []) (t .pairs) (omega arith, (hr, tt)) (s .pairs));
+      vectors = subst (λ (u : State). allOf (within (u .epoch) (u .nextTable ∷ u .nextRowset ∷ u .nextVector ∷ [])) (u .vectors) ≡ true) q (entries-up (t .epoch) (t .nextTable ∷ t .nextRowset ∷ t .nextVector ∷ []) (t .nextTable ∷ r ∷ v ∷ []) (t .vectors) (omega arith, (hr, (hv, tt))) (s .vectors));
+      whole = subst (λ (u : State). leftBehind (u .epoch) u ≡ false) q (s .whole);
+    })
+
+start-sound : (n : VersionManagerInner) → Hands n start → badManager n ≡ false
+start-sound n k =
+    let q = sym (k .state) in
+    of-sound n
+    (record {
+      fits = k .fits;
+      manifest = subst (λ (u : State). u .manifest ≤ longestManifest) q (omega arith);
+      names = subst (λ (u : State). allOf (λ x. isName (x .name)) (u .tables) ≡ true) q refl;
+      ordered = subst Ordered q (record { tables = refl; pairs = refl; vectors = refl });
+      below = subst (λ (u : State). allOf (λ x. ltb (x .table) (u .nextTable)) (u .tables) ≡ true) q refl;
+      pairs = subst (λ (u : State). allOf (within (u .epoch) (u .nextTable ∷ u .nextRowset ∷ [])) (u .pairs) ≡ true) q refl;
+      vectors = subst (λ (u : State). allOf (within (u .epoch) (u .nextTable ∷ u .nextRowset ∷ u .nextVector ∷ [])) (u .vectors) ≡ true) q refl;
+      whole = subst (λ (u : State). leftBehind (u .epoch) u ≡ false) q refl;
+    })
+
+handed-back : (d : Verdict) (m n : VersionManagerInner) (s : State) → d ≡ Accepted → HandsBack d m s n → Hands n s
+handed-back Accepted m n s e h = h
+handed-back (Refused k) m n s e h = absurd (let z : _≡_ {A = ℕ} 0 1 = cc in omega arith)
+
+pub draw-laws : DrawLaws
+draw-laws =
+    record {
+      fresh = λ r h. start-sound (r .manager .inner) (h .manager);
+      rowset = λ m r h a.
+          raised-sound (m .inner) (r .manager .inner) (stateOf (m .inner) .nextRowset + 1) (stateOf (m .inner) .nextVector) (omega arith) (omega arith) (none-judged (drawRules m (stateOf (m .inner) .nextRowset) largest32) a .0)
+          (handed-back (rowsetVerdict m) (m .inner) (r .manager .inner) (rowsetDrawn (stateOf (m .inner))) a (h .manager));
+      vector = λ m r h a.
+          raised-sound (m .inner) (r .manager .inner) (stateOf (m .inner) .nextRowset) (stateOf (m .inner) .nextVector + 1) (omega arith) (omega arith) (none-judged (drawRules m (stateOf (m .inner) .nextVector) largest64) a .0)
+          (handed-back (vectorVerdict m) (m .inner) (r .manager .inner) (vectorDrawn (stateOf (m .inner))) a (h .manager));
+    }
