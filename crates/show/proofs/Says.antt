@@ -24,7 +24,7 @@ use Rattle.pins.specs.declared.PinBook.{PinBook}
 use Rattle.pins.specs.Book.{badBook}
 use Rattle.show.specs.declared.ShowAnswer.the-variants.{Shown, Refused as NotShown}
 use Rattle.show.specs.Names.{namesRun}
-use Rattle.show.specs.Says.{column, showVerdict, unseen, past, shownPairs, shownVectors, shownTables, pairsVerdict, vectorsVerdict, tablesVerdict, ShowPairsSays, ShowVectorsSays, ShowTablesSays}
+use Rattle.show.specs.Says.{column, showVerdict, unseen, notCurrent, shownPairs, shownVectors, shownTables, pairsVerdict, vectorsVerdict, tablesVerdict, ShowPairsSays, ShowVectorsSays, ShowTablesSays}
 
 -- what 29 lets pass fits
 pub fits-in : (m : VersionManagerInner) → badManager m ≡ false → Fit m
@@ -104,25 +104,25 @@ module _ (m : VersionManagerInner) (b : PinBook) (e : ℕ) where
     pub vectors-room : n ≤ length ts → n ≤ length rs → n ≤ length vs → vectorsVerdict m b e (length ts) (length rs) (length vs) ≡ Accepted
     vectors-room x y z = seen m b (unseen m b e) vectors-short h k u (rw (← counted, le-ltb _ _ x, le-ltb _ _ y, le-ltb _ _ z))
 
-  module _ (is hs ls ns : List ℕ) (n : ℕ) (counted : n ≡ length (shownTables m b e)) (h : badManager m ≡ false) (k : badBook (m .epoch) b ≡ false) (u : past m b e ≡ false) where
+  module _ (is hs ls ns : List ℕ) (n : ℕ) (counted : n ≡ length (shownTables m b e)) (h : badManager m ≡ false) (k : badBook (m .epoch) b ≡ false) (u : notCurrent m b e ≡ false) where
     abbrev tables-short : Bool
     tables-short =
         ltb (length is) (length (shownTables m b e)) || (ltb (length hs) (length (shownTables m b e)) || (ltb (length ls) (length (shownTables m b e)) || ltb (length ns) (32 * length (shownTables m b e))))
 
     pub tables-short-1 : length is < n → tablesVerdict m b e (length is) (length hs) (length ls) (length ns) ≡ Refused OutputTooShort
-    tables-short-1 x = too-short m b (past m b e) tables-short h k u (rw (← counted, lt-ltb _ _ x))
+    tables-short-1 x = too-short m b (notCurrent m b e) tables-short h k u (rw (← counted, lt-ltb _ _ x))
 
     pub tables-short-2 : n ≤ length is → length hs < n → tablesVerdict m b e (length is) (length hs) (length ls) (length ns) ≡ Refused OutputTooShort
-    tables-short-2 x y = too-short m b (past m b e) tables-short h k u (rw (← counted, le-ltb _ _ x, lt-ltb _ _ y))
+    tables-short-2 x y = too-short m b (notCurrent m b e) tables-short h k u (rw (← counted, le-ltb _ _ x, lt-ltb _ _ y))
 
     pub tables-short-3 : n ≤ length is → n ≤ length hs → length ls < n → tablesVerdict m b e (length is) (length hs) (length ls) (length ns) ≡ Refused OutputTooShort
-    tables-short-3 x y z = too-short m b (past m b e) tables-short h k u (rw (← counted, le-ltb _ _ x, le-ltb _ _ y, lt-ltb _ _ z))
+    tables-short-3 x y z = too-short m b (notCurrent m b e) tables-short h k u (rw (← counted, le-ltb _ _ x, le-ltb _ _ y, lt-ltb _ _ z))
 
     pub tables-short-4 : n ≤ length is → n ≤ length hs → n ≤ length ls → length ns < 32 * n → tablesVerdict m b e (length is) (length hs) (length ls) (length ns) ≡ Refused OutputTooShort
-    tables-short-4 x y z w = too-short m b (past m b e) tables-short h k u (rw (← counted, le-ltb _ _ x, le-ltb _ _ y, le-ltb _ _ z, lt-ltb _ _ w))
+    tables-short-4 x y z w = too-short m b (notCurrent m b e) tables-short h k u (rw (← counted, le-ltb _ _ x, le-ltb _ _ y, le-ltb _ _ z, lt-ltb _ _ w))
 
     pub tables-room : n ≤ length is → n ≤ length hs → n ≤ length ls → 32 * n ≤ length ns → tablesVerdict m b e (length is) (length hs) (length ls) (length ns) ≡ Accepted
-    tables-room x y z w = seen m b (past m b e) tables-short h k u (rw (← counted, le-ltb _ _ x, le-ltb _ _ y, le-ltb _ _ z, le-ltb _ _ w))
+    tables-room x y z w = seen m b (notCurrent m b e) tables-short h k u (rw (← counted, le-ltb _ _ x, le-ltb _ _ y, le-ltb _ _ z, le-ltb _ _ w))
 
   module _ (ts rs : List ℕ) where
     pub pairs-refuse : (q : Refusal) → pairsVerdict m b e (length ts) (length rs) ≡ Refused q → ShowPairsSays m b e ts rs (NotShown q) ts rs

@@ -47,8 +47,8 @@ module _ (m : VersionManagerInner) (b : PinBook) (e : ℕ) where
   unseen = not (mayShow (m .epoch) (pinsOf b) e)
 
   -- 24: tables are shown of the current epoch
-  abbrev pub past : Bool
-  past = not (eqb e (m .epoch))
+  abbrev pub notCurrent : Bool
+  notCurrent = not (eqb e (m .epoch))
 
   abbrev pub shownPairs : List (List ℕ)
   shownPairs = pairsAt e (stateOf m)
@@ -68,7 +68,7 @@ module _ (m : VersionManagerInner) (b : PinBook) (e : ℕ) where
 
   abbrev pub tablesVerdict : ℕ → ℕ → ℕ → ℕ → Verdict
   tablesVerdict i h l n =
-      showVerdict m b past (ltb i (length shownTables) || (ltb h (length shownTables) || (ltb l (length shownTables) || ltb n (longestName * length shownTables))))
+      showVerdict m b notCurrent (ltb i (length shownTables) || (ltb h (length shownTables) || (ltb l (length shownTables) || ltb n (longestName * length shownTables))))
 
   -- show of pairs, lent the slices ts and rs, returns r and leaves ts′ and rs′ in them
   pub record ShowPairsSays (ts rs : List ℕ) (r : ShowAnswer) (ts′ rs′ : List ℕ) : Type 0 where

@@ -23,7 +23,9 @@ refused-requires : tie.Need-refused-requires
 refused-requires c κs = search known
 
 returns : tie.Need-returns
-returns c = refuses (c .before .before .before .before .before .args .inner) (c .before .before .before .before .before .args .book) (c .before .before .before .before .before .args .tables .now) (c .before .before .before .before .before .args .rowsets .now) _ _ (manager-bad (c .before .before .before .before .before .args .inner) (c .before .before .before .before .before .args .book) (c .before .before .before .before .before .args .tables .now) (c .before .before .before .before .before .args .rowsets .now) (sym (c .before .before .bad .ensures) ∙ c .before .if1 .taken)) (c .refused .ensures)
+returns c =
+    let a = c .before .before .before .before .before .args in
+    refuses (a .inner) (a .book) (a .tables .now) (a .rowsets .now) _ _ (manager-bad (a .inner) (a .book) (a .tables .now) (a .rowsets .now) (sym (c .before .before .bad .ensures) ∙ c .before .if1 .taken)) (c .refused .ensures)
 
 bad-requires-2 : tie.Need-bad-requires-2
 bad-requires-2 c κs = search known
@@ -32,25 +34,33 @@ refused-requires-2 : tie.Need-refused-requires-2
 refused-requires-2 c κs = search known
 
 returns-2 : tie.Need-returns-2
-returns-2 c = refuses (c .before .before .before .before .before .before .before .args .inner) (c .before .before .before .before .before .before .before .args .book) (c .before .before .before .before .before .before .before .args .tables .now) (c .before .before .before .before .before .before .before .args .rowsets .now) _ _ (book-bad (c .before .before .before .before .before .before .before .args .inner) (c .before .before .before .before .before .before .before .args .book) (c .before .before .before .before .before .before .before .args .tables .now) (c .before .before .before .before .before .before .before .args .rowsets .now) (sym (c .before .before .before .before .bad .ensures) ∙ c .before .before .before .if1 .left) (sym (c .before .before .bad2 .ensures) ∙ c .before .if2 .taken)) (c .refused2 .ensures)
+returns-2 c =
+    let a = c .before .before .before .before .before .before .before .args in
+    refuses (a .inner) (a .book) (a .tables .now) (a .rowsets .now) _ _ (book-bad (a .inner) (a .book) (a .tables .now) (a .rowsets .now) (sym (c .before .before .before .before .bad .ensures) ∙ c .before .before .before .if1 .left) (sym (c .before .before .bad2 .ensures) ∙ c .before .if2 .taken)) (c .refused2 .ensures)
 
 bound-requires : tie.Need-bound-requires
 bound-requires c κs = good-book _ _ (sym (c .before .bad2 .ensures) ∙ c .if2 .left)
 
 listed-requires : tie.Need-listed-requires
-listed-requires c κs = fits-in (c .before .before .before .before .before .before .before .args .inner) (sym (c .before .before .before .before .bad .ensures) ∙ c .before .before .before .if1 .left)
+listed-requires c κs =
+    let a = c .before .before .before .before .before .before .before .args in
+    fits-in (a .inner) (sym (c .before .before .before .before .bad .ensures) ∙ c .before .before .before .if1 .left)
 
 refused-requires-3 : tie.Need-refused-requires-3
 refused-requires-3 c κs = search known
 
 returns-3 : tie.Need-returns-3
-returns-3 c = refuses (c .before .before .before .before .before .before .before .before .before .before .args .inner) (c .before .before .before .before .before .before .before .before .before .before .args .book) (c .before .before .before .before .before .before .before .before .before .before .args .tables .now) (c .before .before .before .before .before .before .before .before .before .before .args .rowsets .now) _ _ (tables-short (c .before .before .before .before .before .before .before .before .before .before .args .inner) (c .before .before .before .before .before .before .before .before .before .before .args .book) (c .before .before .before .before .before .before .before .before .before .before .args .tables .now) (c .before .before .before .before .before .before .before .before .before .before .args .rowsets .now) (c .before .before .listed .result .count) (c .before .before .listed .ensures .1 ∙ ap (λ (e : ℕ). length (vacuumList e (stateOf (c .before .before .before .before .before .before .before .before .before .before .args .inner)))) (c .before .before .before .bound .ensures)) (sym (c .before .before .before .before .before .before .before .bad .ensures) ∙ c .before .before .before .before .before .before .if1 .left) (sym (c .before .before .before .before .before .bad2 .ensures) ∙ c .before .before .before .before .if2 .left) (c .before .if3 .taken)) (c .refused3 .ensures)
+returns-3 c =
+    let a = c .before .before .before .before .before .before .before .before .before .before .args in
+    refuses (a .inner) (a .book) (a .tables .now) (a .rowsets .now) _ _ (tables-short (a .inner) (a .book) (a .tables .now) (a .rowsets .now) (c .before .before .listed .result .count) (c .before .before .listed .ensures .1 ∙ ap (λ (e : ℕ). length (vacuumList e (stateOf (a .inner)))) (c .before .before .before .bound .ensures)) (sym (c .before .before .before .before .before .before .before .bad .ensures) ∙ c .before .before .before .before .before .before .if1 .left) (sym (c .before .before .before .before .before .bad2 .ensures) ∙ c .before .before .before .before .if2 .left) (c .before .if3 .taken)) (c .refused3 .ensures)
 
 refused-requires-4 : tie.Need-refused-requires-4
 refused-requires-4 c κs = search known
 
 returns-4 : tie.Need-returns-4
-returns-4 c = refuses (c .before .before .before .before .before .before .before .before .before .before .before .args .inner) (c .before .before .before .before .before .before .before .before .before .before .before .args .book) (c .before .before .before .before .before .before .before .before .before .before .before .args .tables .now) (c .before .before .before .before .before .before .before .before .before .before .before .args .rowsets .now) _ _ (rowsets-short (c .before .before .before .before .before .before .before .before .before .before .before .args .inner) (c .before .before .before .before .before .before .before .before .before .before .before .args .book) (c .before .before .before .before .before .before .before .before .before .before .before .args .tables .now) (c .before .before .before .before .before .before .before .before .before .before .before .args .rowsets .now) (c .before .before .before .listed .result .count) (c .before .before .before .listed .ensures .1 ∙ ap (λ (e : ℕ). length (vacuumList e (stateOf (c .before .before .before .before .before .before .before .before .before .before .before .args .inner)))) (c .before .before .before .before .bound .ensures)) (sym (c .before .before .before .before .before .before .before .before .bad .ensures) ∙ c .before .before .before .before .before .before .before .if1 .left) (sym (c .before .before .before .before .before .before .bad2 .ensures) ∙ c .before .before .before .before .before .if2 .left) (c .before .before .if3 .left) (c .before .if4 .taken)) (c .refused4 .ensures)
+returns-4 c =
+    let a = c .before .before .before .before .before .before .before .before .before .before .before .args in
+    refuses (a .inner) (a .book) (a .tables .now) (a .rowsets .now) _ _ (rowsets-short (a .inner) (a .book) (a .tables .now) (a .rowsets .now) (c .before .before .before .listed .result .count) (c .before .before .before .listed .ensures .1 ∙ ap (λ (e : ℕ). length (vacuumList e (stateOf (a .inner)))) (c .before .before .before .before .bound .ensures)) (sym (c .before .before .before .before .before .before .before .before .bad .ensures) ∙ c .before .before .before .before .before .before .before .if1 .left) (sym (c .before .before .before .before .before .before .bad2 .ensures) ∙ c .before .before .before .before .before .if2 .left) (c .before .before .if3 .left) (c .before .if4 .taken)) (c .refused4 .ensures)
 
 write-tables-requires : tie.Need-write-tables-requires
 write-tables-requires c κs = (c .before .before .before .listed .ensures .0, c .before .before .if3 .left)
@@ -59,7 +69,9 @@ write-rowsets-requires : tie.Need-write-rowsets-requires
 write-rowsets-requires c κs = (c .before .before .before .before .before .before .before .listed .ensures .0, c .before .before .before .before .before .if4 .left)
 
 let-go-requires : tie.Need-let-go-requires
-let-go-requires c κs = fits-in (c .before .before .before .before .before .before .before .before .before .before .before .before .before .before .before .before .before .before .args .inner) (sym (c .before .before .before .before .before .before .before .before .before .before .before .before .before .before .before .bad .ensures) ∙ c .before .before .before .before .before .before .before .before .before .before .before .before .before .before .if1 .left)
+let-go-requires c κs =
+    let a = c .before .before .before .before .before .before .before .before .before .before .before .before .before .before .before .before .before .before .args in
+    fits-in (a .inner) (sym (c .before .before .before .before .before .before .before .before .before .before .before .before .before .before .before .bad .ensures) ∙ c .before .before .before .before .before .before .before .before .before .before .before .before .before .before .if1 .left)
 
 same-length : tie.Need-same-length
 same-length c = search known
@@ -69,12 +81,13 @@ same-length-2 c = search known
 
 returns-5 : tie.Need-returns-5
 returns-5 c =
-    let s = stateOf (c .before .before .before .before .before .before .before .before .before .before .before .before .before .before .before .before .before .before .before .args .inner) in
-    let k = room-for-all (c .before .before .before .before .before .before .before .before .before .before .before .before .before .before .before .before .before .before .before .args .inner) (c .before .before .before .before .before .before .before .before .before .before .before .before .before .before .before .before .before .before .before .args .book) (c .before .before .before .before .before .before .before .before .before .before .before .before .before .before .before .before .before .before .before .args .tables .now) (c .before .before .before .before .before .before .before .before .before .before .before .before .before .before .before .before .before .before .before .args .rowsets .now) (c .before .before .before .before .before .before .before .before .before .before .before .listed .result .count) (c .before .before .before .before .before .before .before .before .before .before .before .listed .ensures .1 ∙ ap (λ (e : ℕ). length (vacuumList e (stateOf (c .before .before .before .before .before .before .before .before .before .before .before .before .before .before .before .before .before .before .before .args .inner)))) (c .before .before .before .before .before .before .before .before .before .before .before .before .bound .ensures)) (sym (c .before .before .before .before .before .before .before .before .before .before .before .before .before .before .before .before .bad .ensures) ∙ c .before .before .before .before .before .before .before .before .before .before .before .before .before .before .before .if1 .left) (sym (c .before .before .before .before .before .before .before .before .before .before .before .before .before .before .bad2 .ensures) ∙ c .before .before .before .before .before .before .before .before .before .before .before .before .before .if2 .left) (c .before .before .before .before .before .before .before .before .before .before .if3 .left) (c .before .before .before .before .before .before .before .before .before .if4 .left) in
+    let a = c .before .before .before .before .before .before .before .before .before .before .before .before .before .before .before .before .before .before .before .args in
+    let s = stateOf (a .inner) in
+    let k = room-for-all (a .inner) (a .book) (a .tables .now) (a .rowsets .now) (c .before .before .before .before .before .before .before .before .before .before .before .listed .result .count) (c .before .before .before .before .before .before .before .before .before .before .before .listed .ensures .1 ∙ ap (λ (e : ℕ). length (vacuumList e (stateOf (a .inner)))) (c .before .before .before .before .before .before .before .before .before .before .before .before .bound .ensures)) (sym (c .before .before .before .before .before .before .before .before .before .before .before .before .before .before .before .before .bad .ensures) ∙ c .before .before .before .before .before .before .before .before .before .before .before .before .before .before .before .if1 .left) (sym (c .before .before .before .before .before .before .before .before .before .before .before .before .before .before .bad2 .ensures) ∙ c .before .before .before .before .before .before .before .before .before .before .before .before .before .if2 .left) (c .before .before .before .before .before .before .before .before .before .before .if3 .left) (c .before .before .before .before .before .before .before .before .before .if4 .left) in
     let l = c .before .before .before .before .before .before .before .before .before .before .before .listed .ensures in
-    let x = c .before .before .before .before .before .before .before .write-tables .ensures ∙ ap (λ (t : List Entry). over (field 0 t) (c .before .before .before .before .before .before .before .before .before .before .before .before .before .before .before .before .before .before .before .args .tables .now)) (l .2) in
-    let y = c .before .before .before .write-rowsets .ensures ∙ ap (λ (t : List Entry). over (field 1 t) (c .before .before .before .before .before .before .before .before .before .before .before .before .before .before .before .before .before .before .before .args .rowsets .now)) (l .2) in
-    accepts (c .before .before .before .before .before .before .before .before .before .before .before .before .before .before .before .before .before .before .before .args .inner) (c .before .before .before .before .before .before .before .before .before .before .before .before .before .before .before .before .before .before .before .args .book) (c .before .before .before .before .before .before .before .before .before .before .before .before .before .before .before .before .before .before .before .args .tables .now) (c .before .before .before .before .before .before .before .before .before .before .before .before .before .before .before .before .before .before .before .args .rowsets .now) _ _ _ (c .before .before .before .before .before .before .before .before .before .before .before .before .bound .result) (c .before .before .before .before .before .before .before .before .before .before .before .before .bound .ensures) k (ap Listed (l .1)) x y (c .let-go .ensures)
+    let x = c .before .before .before .before .before .before .before .write-tables .ensures ∙ ap (λ (t : List Entry). over (field 0 t) (a .tables .now)) (l .2) in
+    let y = c .before .before .before .write-rowsets .ensures ∙ ap (λ (t : List Entry). over (field 1 t) (a .rowsets .now)) (l .2) in
+    accepts (a .inner) (a .book) (a .tables .now) (a .rowsets .now) _ _ _ (c .before .before .before .before .before .before .before .before .before .before .before .before .bound .result) (c .before .before .before .before .before .before .before .before .before .before .before .before .bound .ensures) k (ap Listed (l .1)) x y (c .let-go .ensures)
 
 pub vacuum-spec : {M : Type 1} → statement M
 vacuum-spec =
