@@ -5,10 +5,9 @@ use mathlib.Core.List.{List, [], _∷_, map}
 use Prim.Native.Nat.{ℕ, _*_, _≤_, _<_}
 use lib.Dec.{ltb}
 use lib.ListN.{length, getD}
-use borrow.Author.Tests.{lt-ltb, le-ltb, not-false}
+use borrow.Author.Tests.{lt-ltb, le-ltb}
 use Rattle.lists.specs.Keyed.{keep}
 use Rattle.lists.specs.Written.{over}
-use Rattle.lists.proofs.Tests.{neither}
 use Rattle.ids.specs.declared.refusal.Refusal.{Refusal}
 use Rattle.ids.specs.declared.refusal.Refusal.the-variants.{BadManager, BadPinBook, EpochNotPinned, OutputTooShort}
 use Rattle.ids.specs.declared.refusal.Verdict.{Verdict}
@@ -17,22 +16,13 @@ use Rattle.ids.specs.Verdicts.{_⇒_, judged}
 use Rattle.snapshot.specs.Entries.{Entry, shownBy, field}
 use Rattle.snapshot.specs.Tables.{TableEntry}
 use Rattle.version_state.specs.declared.VersionManagerInner.{VersionManagerInner}
-use Rattle.version_state.specs.State.{stateOf, countsFit, Fit}
-use Rattle.version_state.specs.Sound.{leftBehind, beyondLimits, outOfOrder, aboveOwn, badManager}
-use Rattle.version_state.proofs.Facts.{counts-fit}
+use Rattle.version_state.specs.State.{stateOf}
+use Rattle.version_state.specs.Sound.{badManager}
 use Rattle.pins.specs.declared.PinBook.{PinBook}
 use Rattle.pins.specs.Book.{badBook}
 use Rattle.show.specs.declared.ShowAnswer.the-variants.{Shown, Refused as NotShown}
 use Rattle.show.specs.Names.{namesRun}
 use Rattle.show.specs.Says.{column, showVerdict, unseen, notCurrent, shownPairs, shownVectors, shownTables, pairsVerdict, vectorsVerdict, tablesVerdict, ShowPairsSays, ShowVectorsSays, ShowTablesSays}
-
--- what 29 lets pass fits
-pub fits-in : (m : VersionManagerInner) → badManager m ≡ false → Fit m
-fits-in m h =
-    let s = stateOf m in
-    let x = neither (beyondLimits m) (outOfOrder s || (aboveOwn s || leftBehind (s .epoch) s)) h in
-    let l = neither (not (countsFit m)) _ (x .0) in
-    counts-fit m (not-false _ (l .0))
 
 -- a column of the ids that are shown is a field of the entries
 pub column-field : (n : ℕ) (l : List Entry) → column n (map (λ (x : Entry). x .ids) l) ≡ field n l

@@ -4,8 +4,7 @@ use mathlib.Core.Bool.{Bool, true, false, not, _||_}
 use mathlib.Core.List.{List, [], _∷_}
 use Prim.Native.Nat.{ℕ, _≤_, _<_}
 use lib.ListN.{length}
-use borrow.Author.Tests.{lt-ltb, le-ltb, not-false}
-use Rattle.lists.proofs.Tests.{neither}
+use borrow.Author.Tests.{lt-ltb, le-ltb}
 use Rattle.lists.specs.Written.{over}
 use Rattle.ids.specs.declared.refusal.Refusal.{Refusal}
 use Rattle.ids.specs.declared.refusal.Refusal.the-variants.{BadManager, BadPinBook, OutputTooShort}
@@ -14,23 +13,14 @@ use Rattle.ids.specs.declared.refusal.Verdict.the-variants.{Accepted, Refused}
 use Rattle.ids.specs.Verdicts.{_⇒_, judged}
 use Rattle.snapshot.specs.Entries.{field}
 use Rattle.version_state.specs.declared.VersionManagerInner.{VersionManagerInner}
-use Rattle.version_state.specs.State.{stateOf, countsFit, Fit, Hands}
-use Rattle.version_state.specs.Sound.{leftBehind, beyondLimits, outOfOrder, aboveOwn, badManager}
-use Rattle.version_state.proofs.Facts.{counts-fit}
+use Rattle.version_state.specs.State.{stateOf, Hands}
+use Rattle.version_state.specs.Sound.{badManager}
 use Rattle.pins.specs.declared.PinBook.{PinBook}
 use Rattle.pins.specs.Book.{badBook}
 use Rattle.vacuum.specs.declared.VacuumAnswer.the-variants.{Listed, Refused as NotListed}
 use Rattle.vacuum.specs.declared.Vacuumed.{Vacuumed}
 use Rattle.vacuum.specs.LetGo.{vacuumList, vacuumed}
 use Rattle.vacuum.specs.Says.{boundOf, listOf, tooShort, vacuumVerdict, VacuumSays}
-
--- what 29 lets pass fits
-pub fits-in : (m : VersionManagerInner) → badManager m ≡ false → Fit m
-fits-in m h =
-    let s = stateOf m in
-    let x = neither (beyondLimits m) (outOfOrder s || (aboveOwn s || leftBehind (s .epoch) s)) h in
-    let l = neither (not (countsFit m)) _ (x .0) in
-    counts-fit m (not-false _ (l .0))
 
 module _ (x y z : Bool) where
   abbrev verdict : Verdict

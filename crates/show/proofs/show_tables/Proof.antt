@@ -8,7 +8,8 @@ use lib.Dec.{ltb}
 use lib.ListN.{length}
 use Rattle.lists.proofs.Places.{known}
 use Rattle.show.specs.Says.{notCurrent, shownTables}
-use Rattle.show.proofs.Says.{fits-in, manager-bad, book-bad, not-seen, tables-short-1, tables-short-2, tables-short-3, tables-short-4, tables-room, tables-refuse, tables-accept}
+use Rattle.version_state.proofs.Facts.{sound-of}
+use Rattle.show.proofs.Says.{manager-bad, book-bad, not-seen, tables-short-1, tables-short-2, tables-short-3, tables-short-4, tables-room, tables-refuse, tables-accept}
 use borrow.Author.Needs.{needs}
 use Rattle.show.proofs.show_tables.Statement.{statement}
 use Rattle.show.proofs.show_tables.Tie as tie
@@ -37,7 +38,7 @@ returns-3 c =
 tables-now-requires : tie.Need-tables-now-requires
 tables-now-requires c κs =
     let a = c .before .before .before .before .before .before .before .before .before .args in
-    fits-in (a .inner) (sym (c .before .before .before .before .bad .ensures) ∙ c .before .before .before .if1 .left)
+    sound-of (a .inner) (sym (c .before .before .before .before .bad .ensures) ∙ c .before .before .before .if1 .left) .fits
 
 returns-4 : tie.Need-returns-4
 returns-4 c =

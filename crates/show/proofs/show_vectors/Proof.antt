@@ -6,7 +6,8 @@ use lib.ListN.{length}
 use Rattle.lists.proofs.Places.{known}
 use Rattle.pins.proofs.Facts.{good-book}
 use Rattle.show.specs.Says.{unseen, shownVectors}
-use Rattle.show.proofs.Says.{fits-in, manager-bad, book-bad, not-seen, vectors-short-1, vectors-short-2, vectors-short-3, vectors-room, vectors-refuse, vectors-accept}
+use Rattle.version_state.proofs.Facts.{sound-of}
+use Rattle.show.proofs.Says.{manager-bad, book-bad, not-seen, vectors-short-1, vectors-short-2, vectors-short-3, vectors-room, vectors-refuse, vectors-accept}
 use borrow.Author.Needs.{needs}
 use Rattle.show.proofs.show_vectors.Statement.{statement}
 use Rattle.show.proofs.show_vectors.Tie as tie
@@ -38,7 +39,7 @@ returns-3 c =
 vectors-at-requires : tie.Need-vectors-at-requires
 vectors-at-requires c κs =
     let a = c .before .before .before .before .before .before .before .before .before .args in
-    fits-in (a .inner) (sym (c .before .before .before .before .before .bad .ensures) ∙ c .before .before .before .before .if1 .left)
+    sound-of (a .inner) (sym (c .before .before .before .before .before .bad .ensures) ∙ c .before .before .before .before .if1 .left) .fits
 
 returns-4 : tie.Need-returns-4
 returns-4 c =

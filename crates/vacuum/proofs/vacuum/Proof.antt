@@ -11,7 +11,8 @@ use Rattle.pins.specs.Book.{bound}
 use Rattle.pins.proofs.Facts.{good-book}
 use Rattle.vacuum.specs.declared.VacuumAnswer.the-variants.{Listed}
 use Rattle.vacuum.specs.LetGo.{vacuumList}
-use Rattle.vacuum.proofs.Says.{fits-in, manager-bad, book-bad, tables-short, rowsets-short, room-for-all, refuses, accepts}
+use Rattle.version_state.proofs.Facts.{sound-of}
+use Rattle.vacuum.proofs.Says.{manager-bad, book-bad, tables-short, rowsets-short, room-for-all, refuses, accepts}
 use borrow.Author.Needs.{needs}
 use Rattle.vacuum.proofs.vacuum.Statement.{statement}
 use Rattle.vacuum.proofs.vacuum.Tie as tie
@@ -44,7 +45,7 @@ bound-requires c κs = good-book _ _ (sym (c .before .bad2 .ensures) ∙ c .if2 
 listed-requires : tie.Need-listed-requires
 listed-requires c κs =
     let a = c .before .before .before .before .before .before .before .args in
-    fits-in (a .inner) (sym (c .before .before .before .before .bad .ensures) ∙ c .before .before .before .if1 .left)
+    sound-of (a .inner) (sym (c .before .before .before .before .bad .ensures) ∙ c .before .before .before .if1 .left) .fits
 
 refused-requires-3 : tie.Need-refused-requires-3
 refused-requires-3 c κs = search known
@@ -71,7 +72,7 @@ write-rowsets-requires c κs = (c .before .before .before .before .before .befor
 let-go-requires : tie.Need-let-go-requires
 let-go-requires c κs =
     let a = c .before .before .before .before .before .before .before .before .before .before .before .before .before .before .before .before .before .before .args in
-    fits-in (a .inner) (sym (c .before .before .before .before .before .before .before .before .before .before .before .before .before .before .before .bad .ensures) ∙ c .before .before .before .before .before .before .before .before .before .before .before .before .before .before .if1 .left)
+    sound-of (a .inner) (sym (c .before .before .before .before .before .before .before .before .before .before .before .before .before .before .before .bad .ensures) ∙ c .before .before .before .before .before .before .before .before .before .before .before .before .before .before .if1 .left) .fits
 
 same-length : tie.Need-same-length
 same-length c = search known
