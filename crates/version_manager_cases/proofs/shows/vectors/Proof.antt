@@ -1,0 +1,74 @@
+-- `version_manager_cases::shows::vectors` meets its contract. Assumes nothing.
+use lib.Seq.{length-take-le}
+use borrow.Author.Needs.{needs}
+use Rattle.version_manager_cases.proofs.shows.vectors.Statement.{statement}
+use Rattle.version_manager_cases.proofs.shows.vectors.Tie as tie
+
+array-read-id : tie.Need-array-read-id
+array-read-id c = search needs
+
+id-requires : tie.Need-id-requires
+id-requires c κs = search needs
+
+array-read-part : tie.Need-array-read-part
+array-read-part c = search needs
+
+part-requires : tie.Need-part-requires
+part-requires c κs = search needs
+
+array-read-part-2 : tie.Need-array-read-part-2
+array-read-part-2 c = search needs
+
+part-requires-2 : tie.Need-part-requires-2
+part-requires-2 c κs = search needs
+
+array-read-part-3 : tie.Need-array-read-part-3
+array-read-part-3 c = search needs
+
+part-requires-3 : tie.Need-part-requires-3
+part-requires-3 c κs = search needs
+
+array-borrow-prefix-tables : tie.Need-array-borrow-prefix-tables
+array-borrow-prefix-tables c = search needs
+
+slice-aggregate-vectors-into : tie.Need-slice-aggregate-vectors-into
+slice-aggregate-vectors-into c = search (needs, length-take-le)
+
+array-borrow-prefix-rowsets : tie.Need-array-borrow-prefix-rowsets
+array-borrow-prefix-rowsets c = search needs
+
+slice-aggregate-vectors-into-2 : tie.Need-slice-aggregate-vectors-into-2
+slice-aggregate-vectors-into-2 c = search (needs, length-take-le)
+
+array-borrow-prefix-vectors : tie.Need-array-borrow-prefix-vectors
+array-borrow-prefix-vectors c = search needs
+
+slice-aggregate-vectors-into-3 : tie.Need-slice-aggregate-vectors-into-3
+slice-aggregate-vectors-into-3 c = search (needs, length-take-le)
+
+vectors-into-requires : tie.Need-vectors-into-requires
+vectors-into-requires c κs = search needs
+
+returns : tie.Need-returns
+returns c = search needs
+
+pub vectors-spec : {M : Type 1} → statement M
+vectors-spec =
+    tie.close
+    (tie.spec
+    array-read-id
+    id-requires
+    array-read-part
+    part-requires
+    array-read-part-2
+    part-requires-2
+    array-read-part-3
+    part-requires-3
+    array-borrow-prefix-tables
+    slice-aggregate-vectors-into
+    array-borrow-prefix-rowsets
+    slice-aggregate-vectors-into-2
+    array-borrow-prefix-vectors
+    slice-aggregate-vectors-into-3
+    vectors-into-requires
+    returns)
