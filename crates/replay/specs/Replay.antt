@@ -50,8 +50,8 @@ abbrev pub reopened : ℕ
 reopened = 1
 
 -- lines count from 1
-abbrev pub before : Carried
-before = carried (withEpoch start reopened 0) none 1
+abbrev pub atStart : Carried
+atStart = carried (withEpoch start reopened 0) none 1
 
 -- 3: a `T` with a live id or name, an `X` of a table that is not live
 abbrev pub conflicts : Operation → State → Bool
@@ -118,7 +118,7 @@ finished s = cond (tableless s) (refused RowsetWithoutTable) (given (withoutOrph
 
 -- the state at the end of a manifest's complete lines
 abbrev pub linesReplayed : List (List ℕ) → Result State
-linesReplayed ls = andThen (linesRead ls before) (λ c. finished (c .state))
+linesReplayed ls = andThen (linesRead ls atStart) (λ c. finished (c .state))
 
 abbrev pub replayOf : List ℕ → Result State
 replayOf s = cond (ltb longestManifest (length s)) (refused ManifestTooLong) (linesReplayed (lines s))
