@@ -12,7 +12,7 @@ use Rattle.lists.specs.Order.{less, same, lex}
 use Rattle.lists.specs.Keyed.{keep, allOf, anyOf, isAt, has, put, without, changed, ascending}
 use Rattle.lists.proofs.Tests.{by-cases, clash, neither, tri}
 use Rattle.lists.proofs.Order.{lex-lt, lex-eq, lex-gt, less-trans, less-same, same-true}
-use Rattle.lists.proofs.Keyed.{All, After, Ascending, keep-map, anyOf-map, all-map}
+use Rattle.lists.proofs.Keyed.{All, After, Ascending, keep-map, anyOf-map, all-map, all-mapped}
 use Rattle.replay_lists.specs.Rows.{beside, rows, byBoth, byFirst}
 
 module _ {X A : Type 0} (f : X → A) (kx : X → List ℕ) (ka : A → List ℕ) (below : (x y : X) → less (ka (f x)) (ka (f y)) ≡ less (kx x) (kx y)) (alike : (x y : X) → same (ka (f x)) (ka (f y)) ≡ same (kx x) (kx y)) where
@@ -24,6 +24,11 @@ module _ {X A : Type 0} (f : X → A) (kx : X → List ℕ) (ka : A → List ℕ
       by-cases (less (kx y) (kx x))
       (λ t. rw (b, t) (ap (λ (m : List A). f y ∷ m) (map-put x l)))
       (λ t. by-cases (same (kx y) (kx x)) (λ u. rw (b, t, s, u)) (λ u. rw (b, t, s, u)))
+
+pub ascending-mapped : {X A : Type 0} (f : X → A) (kx : X → List ℕ) (ka : A → List ℕ) → ((x y : X) → less (ka (f x)) (ka (f y)) ≡ less (kx x) (kx y)) → (l : List X) → Ascending kx l → Ascending ka (map f l)
+ascending-mapped f kx ka below [] h = tt
+ascending-mapped f kx ka below (x ∷ l) h =
+    (all-mapped (λ z. less (ka (f x)) (ka z) ≡ true) f l (all-map l (λ y t. below x y ∙ t) (h .0)), ascending-mapped f kx ka below l (h .1))
 
 -- the entries with the key k, under a map
 pub map-without : {X A : Type 0} (f : X → A) (kx : X → List ℕ) (ka : A → List ℕ) (jx ja : List ℕ) → ((x : X) → same (ka (f x)) ja ≡ same (kx x) jx) → (l : List X) → without ka ja (map f l) ≡ map f (without kx jx l)

@@ -4,19 +4,21 @@ use mathlib.Core.Bool.{Bool, true, false, cond, not, _&&_, _||_}
 use mathlib.Core.List.{List, [], _∷_, map}
 use Prim.Native.Nat.{ℕ, _+_, _-_, _*_, _/_, _%_, _≤_, _<_, max}
 use native.Mathlib.Omega.{arith}
-use borrow.Author.Tests.{le-leb}
+use borrow.Author.Tests.{le-leb, ltb-true}
 use lib.Dec.{leb, eqb}
 use lib.ListN.{length, take, drop}
 use Rattle.lists.specs.Order.{less, same}
 use Rattle.lists.specs.Keyed.{keep, allOf, anyOf, isAt, has, put, without, ascending}
-use Rattle.lists.proofs.Tests.{by-cases, join}
+use Rattle.lists.proofs.Tests.{by-cases, both, join}
 use Rattle.lists.proofs.Keyed.{All, Ascending, ascend-to, ascend-from, ascending-put, ascending-keep, all-put, all-keep, allOf-all, all-allOf, anyOf-map}
-use Rattle.ids.specs.Ids.{largest32}
+use Rattle.ids.specs.Ids.{largest32, largest64, isId32, isId64}
+use Rattle.text.specs.Name.{isName}
 use Rattle.manifest.specs.Operations.{Operation, createTable, dropTable, addRowset, deleteRowset, addVector, deleteVector, nextIds, Line, operation, bad}
 use Rattle.manifest.specs.Lines.{lineOf, lineBy}
 use Rattle.manifest.specs.Split.{linesFrom, lineAt}
 use Rattle.manifest.specs.declared.reader.LineAt.{LineAt}
 use Rattle.manifest.specs.declared.reader.LineAt.the-variants as found
+use Rattle.manifest.proofs.Lines.{text-parse}
 use Rattle.manifest.proofs.Split.{lines-at, lines-none}
 use Rattle.snapshot.specs.Entries.{Entry, addedAt, byIds}
 use Rattle.snapshot.specs.Tables.{TableEntry, created, byTable, nameTaken}
@@ -142,14 +144,16 @@ module _ (a b c d : List ℕ) (n m : ℕ) (lc : length c ≡ length a) (ld : len
       let fresh : has byFirst (t ∷ []) l ≡ false = sym (table-has src t l) ∙ new in
       let f : rows c d m ≡ put byFirst (t, at) l = e ∙ put-first (t, at) l fresh in
       let ga = g .first in
-      let gb = g .second in
-      (record {
-        first = lc ∙ ga;
-        second = ld ∙ gb;
-        within = omega arith;
-        rising = rise-put byFirst (t, at) l (rows c d m) f (g .rising);
-        small = all-in byFirst narrowFirst (t, at) l (rows c d m) f (le-leb t largest32 ok) (g .small);
-      }, ap (map (tableRow src)) f ∙ sym (table-put src (t, at) l) ∙ rw (es, eh))
+      let gb = g .second in (
+        record {
+          first = lc ∙ ga;
+          second = ld ∙ gb;
+          within = omega arith;
+          rising = rise-put byFirst (t, at) l (rows c d m) f (g .rising);
+          small = all-in byFirst narrowFirst (t, at) l (rows c d m) f (le-leb t largest32 ok) (g .small);
+        },
+        ap (map (tableRow src)) f ∙ sym (table-put src (t, at) l) ∙ rw (es, eh),
+      )
 
   pub tables-out : (src : List ℕ) (t : ℕ) → TablesGood a b n → m ≤ n → rows c d m ≡ without byFirst (t ∷ []) (rows a b n)
       → TablesGood c d m × (tablesIn src c d m ≡ without byTable (t ∷ []) (tablesIn src a b n))
@@ -157,28 +161,32 @@ module _ (a b c d : List ℕ) (n m : ℕ) (lc : length c ≡ length a) (ld : len
       let l = rows a b n in
       let ga = g .first in
       let gb = g .second in
-      let gw = g .within in
-      (record {
-        first = lc ∙ ga;
-        second = ld ∙ gb;
-        within = omega arith;
-        rising = rise-out byFirst (t ∷ []) l (rows c d m) e (g .rising);
-        small = all-out byFirst narrowFirst (t ∷ []) l (rows c d m) e (g .small);
-      }, ap (map (tableRow src)) e ∙ sym (table-without src t l))
+      let gw = g .within in (
+        record {
+          first = lc ∙ ga;
+          second = ld ∙ gb;
+          within = omega arith;
+          rising = rise-out byFirst (t ∷ []) l (rows c d m) e (g .rising);
+          small = all-out byFirst narrowFirst (t ∷ []) l (rows c d m) e (g .small);
+        },
+        ap (map (tableRow src)) e ∙ sym (table-without src t l),
+      )
 
   pub pairs-put : (t r : ℕ) → PairsGood a b n → n < heldRoom → m ≤ n + 1 → t ≤ largest32 → r ≤ largest32 → rows c d m ≡ put byBoth (t, r) (rows a b n)
       → PairsGood c d m × (pairsIn c d m ≡ put byIds (addedAt reopened (t ∷ r ∷ [])) (pairsIn a b n))
   pairs-put t r g u k st sr e =
       let l = rows a b n in
       let ga = g .first in
-      let gb = g .second in
-      (record {
-        first = lc ∙ ga;
-        second = ld ∙ gb;
-        within = omega arith;
-        rising = rise-put byBoth (t, r) l (rows c d m) e (g .rising);
-        small = all-in byBoth narrow (t, r) l (rows c d m) e (join (le-leb t largest32 st) (le-leb r largest32 sr)) (g .small);
-      }, ap (map pairRow) e ∙ sym (pair-put (t, r) l))
+      let gb = g .second in (
+        record {
+          first = lc ∙ ga;
+          second = ld ∙ gb;
+          within = omega arith;
+          rising = rise-put byBoth (t, r) l (rows c d m) e (g .rising);
+          small = all-in byBoth narrow (t, r) l (rows c d m) e (join (le-leb t largest32 st) (le-leb r largest32 sr)) (g .small);
+        },
+        ap (map pairRow) e ∙ sym (pair-put (t, r) l),
+      )
 
   pub pairs-out : (t r : ℕ) → PairsGood a b n → m ≤ n → rows c d m ≡ without byBoth (t ∷ r ∷ []) (rows a b n)
       → PairsGood c d m × (pairsIn c d m ≡ without byIds (t ∷ r ∷ []) (pairsIn a b n))
@@ -186,27 +194,31 @@ module _ (a b c d : List ℕ) (n m : ℕ) (lc : length c ≡ length a) (ld : len
       let l = rows a b n in
       let ga = g .first in
       let gb = g .second in
-      let gw = g .within in
-      (record {
-        first = lc ∙ ga;
-        second = ld ∙ gb;
-        within = omega arith;
-        rising = rise-out byBoth (t ∷ r ∷ []) l (rows c d m) e (g .rising);
-        small = all-out byBoth narrow (t ∷ r ∷ []) l (rows c d m) e (g .small);
-      }, ap (map pairRow) e ∙ sym (pair-without t r l))
+      let gw = g .within in (
+        record {
+          first = lc ∙ ga;
+          second = ld ∙ gb;
+          within = omega arith;
+          rising = rise-out byBoth (t ∷ r ∷ []) l (rows c d m) e (g .rising);
+          small = all-out byBoth narrow (t ∷ r ∷ []) l (rows c d m) e (g .small);
+        },
+        ap (map pairRow) e ∙ sym (pair-without t r l),
+      )
 
   pub vectors-put : (t r v : ℕ) → VectorsGood a b n → n < heldRoom → m ≤ n + 1 → r < wide32 → rows c d m ≡ put byBoth (t * wide32 + r, v) (rows a b n)
       → VectorsGood c d m × (vectorsIn c d m ≡ put byIds (addedAt reopened (t ∷ r ∷ v ∷ [])) (vectorsIn a b n))
   vectors-put t r v g u k sr e =
       let l = rows a b n in
       let ga = g .first in
-      let gb = g .second in
-      (record {
-        first = lc ∙ ga;
-        second = ld ∙ gb;
-        within = omega arith;
-        rising = rise-put byBoth (t * wide32 + r, v) l (rows c d m) e (g .rising);
-      }, ap (map vectorRow) e ∙ sym (vector-put (t * wide32 + r, v) l) ∙ ap (λ (x : Entry). put byIds x (vectorsIn a b n)) (vector-row t r v sr))
+      let gb = g .second in (
+        record {
+          first = lc ∙ ga;
+          second = ld ∙ gb;
+          within = omega arith;
+          rising = rise-put byBoth (t * wide32 + r, v) l (rows c d m) e (g .rising);
+        },
+        ap (map vectorRow) e ∙ sym (vector-put (t * wide32 + r, v) l) ∙ ap (λ (x : Entry). put byIds x (vectorsIn a b n)) (vector-row t r v sr),
+      )
 
   pub vectors-out : (t r v : ℕ) → VectorsGood a b n → m ≤ n → r < wide32 → rows c d m ≡ without byBoth ((t * wide32 + r) ∷ v ∷ []) (rows a b n)
       → VectorsGood c d m × (vectorsIn c d m ≡ without byIds (t ∷ r ∷ v ∷ []) (vectorsIn a b n))
@@ -214,10 +226,28 @@ module _ (a b c d : List ℕ) (n m : ℕ) (lc : length c ≡ length a) (ld : len
       let l = rows a b n in
       let ga = g .first in
       let gb = g .second in
-      let gw = g .within in
-      (record {
-        first = lc ∙ ga;
-        second = ld ∙ gb;
-        within = omega arith;
-        rising = rise-out byBoth ((t * wide32 + r) ∷ v ∷ []) l (rows c d m) e (g .rising);
-      }, ap (map vectorRow) e ∙ sym (vector-without t r v l sr))
+      let gw = g .within in (
+        record {
+          first = lc ∙ ga;
+          second = ld ∙ gb;
+          within = omega arith;
+          rising = rise-out byBoth ((t * wide32 + r) ∷ v ∷ []) l (rows c d m) e (g .rising);
+        },
+        ap (map vectorRow) e ∙ sym (vector-without t r v l sr),
+      )
+
+-- The ids of a line that is read.
+module _ (s : List ℕ) (t : ℕ) where
+  pub said-table : (h : ℕ) (n : List ℕ) → lineOf s ≡ operation (createTable t h n) → t < largest32
+  said-table h n e = ltb-true t largest32 (both (isId32 t) (leb h largest32 && isName n) (text-parse s (createTable t h n) e .0) .0)
+
+  pub said-pair : (r : ℕ) → lineOf s ≡ operation (addRowset t r) → (t < largest32) × (r < largest32)
+  said-pair r e =
+      let w = both (isId32 t) (isId32 r) (text-parse s (addRowset t r) e .0) in
+      (ltb-true t largest32 (w .0), ltb-true r largest32 (w .1))
+
+  pub said-vector : (r v : ℕ) → lineOf s ≡ operation (addVector t r v) → (r < largest32) × (v < largest64)
+  said-vector r v e =
+      let w = both (isId32 t) (isId32 r && isId64 v) (text-parse s (addVector t r v) e .0) in
+      let x = both (isId32 r) (isId64 v) (w .1) in
+      (ltb-true r largest32 (x .0), ltb-true v largest64 (x .1))

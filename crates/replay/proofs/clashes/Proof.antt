@@ -21,7 +21,7 @@ holds-requires : tie.Need-holds-requires
 holds-requires c κs = search known
 
 returns : tie.Need-returns
-returns c = 
+returns c =
     let yes : has byFirst (c .before .before .wide .result ∷ []) (rows (c .before .before .before .before .before .before .args .ids .now) (c .before .before .before .before .before .before .args .places .now) (c .before .before .before .before .before .before .args .count)) ≡ true = sym (c .before .holds .ensures) ∙ c .if1 .taken in
     let on : has byTable (c .before .before .before .before .before .before .args .table .0 ∷ []) (tablesIn (c .before .before .before .before .before .before .args .src .now) (c .before .before .before .before .before .before .args .ids .now) (c .before .before .before .before .before .before .args .places .now) (c .before .before .before .before .before .before .args .count)) ≡ true = table-has (c .before .before .before .before .before .before .args .src .now) (c .before .before .before .before .before .before .args .table .0) (rows (c .before .before .before .before .before .before .args .ids .now) (c .before .before .before .before .before .before .args .places .now) (c .before .before .before .before .before .before .args .count)) ∙ (rw (c .before .before .wide .ensures) at yes) in
     rw on
@@ -30,7 +30,7 @@ taken-requires : tie.Need-taken-requires
 taken-requires c κs = search known
 
 returns-2 : tie.Need-returns-2
-returns-2 c = 
+returns-2 c =
     let no : has byFirst (c .before .before .before .wide .result ∷ []) (rows (c .before .before .before .before .before .before .before .args .ids .now) (c .before .before .before .before .before .before .before .args .places .now) (c .before .before .before .before .before .before .before .args .count)) ≡ false = sym (c .before .before .holds .ensures) ∙ c .before .if1 .left in
     let off : has byTable (c .before .before .before .before .before .before .before .args .table .0 ∷ []) (tablesIn (c .before .before .before .before .before .before .before .args .src .now) (c .before .before .before .before .before .before .before .args .ids .now) (c .before .before .before .before .before .before .before .args .places .now) (c .before .before .before .before .before .before .before .args .count)) ≡ false = table-has (c .before .before .before .before .before .before .before .args .src .now) (c .before .before .before .before .before .before .before .args .table .0) (rows (c .before .before .before .before .before .before .before .args .ids .now) (c .before .before .before .before .before .before .before .args .places .now) (c .before .before .before .before .before .before .before .args .count)) ∙ (rw (c .before .before .before .wide .ensures) at no) in
     let g = c .before .before .before .before .before .before .before .pre in

@@ -14,6 +14,7 @@ use Rattle.replay_lists.specs.Rows.{rows, byFirst}
 use Rattle.replay.specs.Working.{tablesIn}
 use Rattle.replay.specs.declared.Sets.{Sets}
 use Rattle.replay.proofs.Working.{table-has, step-tables, tables-out}
+use Rattle.replay.specs.Working.{AppliedIs}
 use borrow.Author.Needs.{needs}
 use Rattle.replay.proofs.drop.Statement.{statement}
 use Rattle.replay.proofs.drop.Tie as tie
@@ -34,7 +35,8 @@ same-length-2 : tie.Need-same-length-2
 same-length-2 c = search known
 
 returns : tie.Need-returns
-returns c = 
+unfolding AppliedIs
+returns c =
     let no : has byFirst (c .before .before .before .before .before .wide .result ∷ []) (rows (c .before .before .before .before .before .before .before .before .before .args .ids .now) (c .before .before .before .before .before .before .before .before .before .args .places .now) (c .before .before .before .before .before .before .before .before .before .args .sets .tables)) ≡ false = sym (c .before .before .holds .ensures) ∙ not-true _ (c .before .if1 .taken) in
     let off : has byTable (c .before .before .before .before .before .before .before .before .before .args .table .0 ∷ []) (tablesIn (c .before .before .before .before .before .before .before .before .before .args .src .now) (c .before .before .before .before .before .before .before .before .before .args .ids .now) (c .before .before .before .before .before .before .before .before .before .args .places .now) (c .before .before .before .before .before .before .before .before .before .args .sets .tables)) ≡ false = table-has (c .before .before .before .before .before .before .before .before .before .args .src .now) (c .before .before .before .before .before .before .before .before .before .args .table .0) (rows (c .before .before .before .before .before .before .before .before .before .args .ids .now) (c .before .before .before .before .before .before .before .before .before .args .places .now) (c .before .before .before .before .before .before .before .before .before .args .sets .tables)) ∙ (rw (c .before .before .before .before .before .wide .ensures) at no) in
     λ p q v w g. rw off (c .refused .ensures)
@@ -52,17 +54,20 @@ same-length-4 : tie.Need-same-length-4
 same-length-4 c = search known
 
 returns-2 : tie.Need-returns-2
-returns-2 c = 
+unfolding AppliedIs
+returns-2 c =
     let yes : has byFirst (c .before .before .before .before .before .before .before .before .before .before .before .before .wide .result ∷ []) (rows (c .before .before .before .before .before .before .before .before .before .before .before .before .before .before .before .before .args .ids .now) (c .before .before .before .before .before .before .before .before .before .before .before .before .before .before .before .before .args .places .now) (c .before .before .before .before .before .before .before .before .before .before .before .before .before .before .before .before .args .sets .tables)) ≡ true = sym (c .before .before .before .before .before .before .before .before .before .holds .ensures) ∙ not-false _ (c .before .before .before .before .before .before .before .before .if1 .left) in
     let on : has byTable (c .before .before .before .before .before .before .before .before .before .before .before .before .before .before .before .before .args .table .0 ∷ []) (tablesIn (c .before .before .before .before .before .before .before .before .before .before .before .before .before .before .before .before .args .src .now) (c .before .before .before .before .before .before .before .before .before .before .before .before .before .before .before .before .args .ids .now) (c .before .before .before .before .before .before .before .before .before .before .before .before .before .before .before .before .args .places .now) (c .before .before .before .before .before .before .before .before .before .before .before .before .before .before .before .before .args .sets .tables)) ≡ true = table-has (c .before .before .before .before .before .before .before .before .before .before .before .before .before .before .before .before .args .src .now) (c .before .before .before .before .before .before .before .before .before .before .before .before .before .before .before .before .args .table .0) (rows (c .before .before .before .before .before .before .before .before .before .before .before .before .before .before .before .before .args .ids .now) (c .before .before .before .before .before .before .before .before .before .before .before .before .before .before .before .before .args .places .now) (c .before .before .before .before .before .before .before .before .before .before .before .before .before .before .before .before .args .sets .tables)) ∙ (rw (c .before .before .before .before .before .before .before .before .before .before .before .before .wide .ensures) at yes) in
     let e = c .accepted .ensures .1 in
     let f = c .before .before .before .before .before .without-first .ensures in
     let x = rw (c .before .before .before .before .before .before .before .before .before .before .before .before .wide .ensures) at (f .0) in
+    let less : c .before .before .before .before .before .without-first .result ≤ c .before .before .before .before .before .before .before .before .before .before .before .before .before .before .before .before .args .sets .tables + 1 = omega (arith, f .1) in
     let k = tables-out (c .before .before .before .before .before .before .before .before .before .before .before .before .before .before .before .before .args .ids .now) (c .before .before .before .before .before .before .before .before .before .before .before .before .before .before .before .before .args .places .now) _ _ (c .before .before .before .before .before .before .before .before .before .before .before .before .before .before .before .before .args .sets .tables) (c .before .before .before .before .before .without-first .result) (f .2) (f .3) (c .before .before .before .before .before .before .before .before .before .before .before .before .before .before .before .before .args .src .now) (c .before .before .before .before .before .before .before .before .before .before .before .before .before .before .before .before .args .table .0) (c .before .before .before .before .before .before .before .before .before .before .before .before .before .before .before .before .pre) (f .1) x in
     let j = (ap (λ (s : Sets). s .tables) e) in
-    let less : c .before .before .before .before .before .without-first .result ≤ c .before .before .before .before .before .before .before .before .before .before .before .before .before .before .before .before .args .sets .tables + 1 = omega (arith, f .1) in
-    λ p q v w g. rw on (c .accepted .ensures .0,
-    step-tables (c .before .before .before .before .before .before .before .before .before .before .before .before .before .before .before .before .args .src .now) (c .before .before .before .before .before .before .before .before .before .before .before .before .before .before .before .before .args .ids .now) (c .before .before .before .before .before .before .before .before .before .before .before .before .before .before .before .before .args .places .now) p q v w (c .before .before .before .before .before .before .before .before .before .before .before .before .before .before .before .before .args .sets) (c .accepted .result .sets) g _ _ _ (ap (λ (s : Sets). s .next .table .0) e) (ap (λ (s : Sets). s .next .rowset .0) e) (ap (λ (s : Sets). s .next .vector .0) e) _ _ _ (rw j (k .0)) (rw j (k .1)) (ap (λ (s : Sets). s .pairs) e) (ap (λ (s : Sets). s .vectors) e) (rw j less))
+    λ p q v w g. rw on (
+      c .accepted .ensures .0,
+      step-tables (c .before .before .before .before .before .before .before .before .before .before .before .before .before .before .before .before .args .src .now) (c .before .before .before .before .before .before .before .before .before .before .before .before .before .before .before .before .args .ids .now) (c .before .before .before .before .before .before .before .before .before .before .before .before .before .before .before .before .args .places .now) p q v w (c .before .before .before .before .before .before .before .before .before .before .before .before .before .before .before .before .args .sets) (c .accepted .result .sets) g _ _ _ (ap (λ (s : Sets). s .next .table .0) e) (ap (λ (s : Sets). s .next .rowset .0) e) (ap (λ (s : Sets). s .next .vector .0) e) _ _ _ (rw j (k .0)) (rw j (k .1)) (ap (λ (s : Sets). s .pairs) e) (ap (λ (s : Sets). s .vectors) e) (rw j less),
+    )
 
 pub drop-spec : {M : Type 1} → statement M
 drop-spec =

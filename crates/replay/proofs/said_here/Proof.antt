@@ -1,6 +1,7 @@
 -- `replay::said_here` meets its contract. Assumes nothing.
 use mathlib.Core.Path.{sym}
 use Rattle.lists.proofs.Places.{known}
+use Rattle.replay.proofs.Frames.{said-line}
 use borrow.Author.Needs.{needs}
 use Rattle.replay.proofs.said_here.Statement.{statement}
 use Rattle.replay.proofs.said_here.Tie as tie

@@ -30,7 +30,7 @@ named-requires : tie.Need-named-requires Inv-loop μ-loop
 named-requires c κs = search known
 
 returns : tie.Need-returns Inv-loop μ-loop
-returns c = 
+returns c =
     let inv = c .before .before .before .before .loop .inv in
     let e = drop-view (c .before .before .before .before .before .before .before .args .places .now) (c .before .before .before .before .before .before .before .args .count) (c .before .before .before .before .loop .i) 0 (c .before .before .before .loop-test .taken) (inv .1) in
     sym (inv .2 ∙ rw (e, sym (c .before .named .ensures) ∙ c .if1 .taken))
@@ -42,13 +42,13 @@ loop-less : tie.Need-loop-less Inv-loop μ-loop
 loop-less c = search known
 
 loop-again : tie.Need-loop-again Inv-loop μ-loop
-loop-again c = 
+loop-again c =
     let inv = c .before .before .before .before .loop .inv in
     let e = drop-view (c .before .before .before .before .before .before .before .args .places .now) (c .before .before .before .before .before .before .before .args .count) (c .before .before .before .before .loop .i) 0 (c .before .before .before .loop-test .taken) (inv .1) in
     (omega (arith, c .before .before .before .loop-test .taken), inv .1, inv .2 ∙ rw (e, sym (c .before .named .ensures) ∙ c .if1 .left))
 
 returns-2 : tie.Need-returns-2 Inv-loop μ-loop
-returns-2 c = 
+returns-2 c =
     let inv = c .before .loop .inv in
     let e = drop-end (c .before .before .before .before .args .places .now) (c .before .before .before .before .args .count) (c .before .loop .i) (c .loop-test .left) (inv .1) in
     sym (inv .2 ∙ rw e)

@@ -12,7 +12,7 @@ returns-2 : tie.Need-returns-2
 returns-2 c = sym (lex-gt _ _ _ (c .if2 .taken))
 
 returns-3 : tie.Need-returns-3
-returns-3 c = 
+returns-3 c =
     let e : c .before .before .args .a ≡ c .before .before .args .x = omega (arith, c .before .if1 .left, c .if2 .left) in
     rw (e, lex-eq, lex-last)
 

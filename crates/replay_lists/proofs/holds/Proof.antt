@@ -14,7 +14,7 @@ stands-requires : tie.Need-stands-requires
 stands-requires c κs = search known
 
 returns : tie.Need-returns
-returns c = 
+returns c =
     by-cases (c .stands .result)
     (λ t. t ∙ sym (first-there (c .before .before .before .before .args .a .now) (c .before .before .before .before .args .b .now) (c .before .before .before .before .args .count) (c .before .place .result) (c .before .before .before .before .args .x) 0 (c .before .before .before .before .pre .0) (c .before .before .before .before .pre .1) (c .before .place .ensures .0) (c .before .before .before .before .pre .2) (sym (c .stands .ensures) ∙ t)))
     (λ t. t ∙ sym (first-none (c .before .before .before .before .args .a .now) (c .before .before .before .before .args .b .now) (c .before .before .before .before .args .count) (c .before .place .result) (c .before .before .before .before .args .x) 0 (c .before .before .before .before .pre .0) (c .before .before .before .before .pre .1) (c .before .place .ensures .0) (c .before .before .before .before .pre .2) (sym (c .stands .ensures) ∙ t)))

@@ -38,7 +38,7 @@ before-requires : tie.Need-before-requires Inv-loop μ-loop
 before-requires c κs = search known
 
 returns : tie.Need-returns Inv-loop μ-loop
-returns c = 
+returns c =
     let inv = c .before .before .before .before .before .loop .inv in
     let h = place-here (c .before .before .before .before .before .before .before .before .args .a .now) (c .before .before .before .before .before .before .before .before .args .b .now) (c .before .before .before .before .before .before .before .before .args .count) (inv .1) (inv .2) (c .before .before .before .before .before .loop .i) (c .before .before .before .before .before .before .before .before .args .x ∷ c .before .before .before .before .before .before .before .before .args .y ∷ []) (c .before .before .before .before .loop-test .taken) (sym (c .before .before2 .ensures) ∙ not-true _ (c .if1 .taken)) in
     (omega (arith, inv .3, h), inv .0)
@@ -50,13 +50,13 @@ loop-less : tie.Need-loop-less Inv-loop μ-loop
 loop-less c = search known
 
 loop-again : tie.Need-loop-again Inv-loop μ-loop
-loop-again c = 
+loop-again c =
     let inv = c .before .before .before .before .before .loop .inv in
     let h = place-next (c .before .before .before .before .before .before .before .before .args .a .now) (c .before .before .before .before .before .before .before .before .args .b .now) (c .before .before .before .before .before .before .before .before .args .count) (inv .1) (inv .2) (c .before .before .before .before .before .loop .i) (c .before .before .before .before .before .before .before .before .args .x ∷ c .before .before .before .before .before .before .before .before .args .y ∷ []) (c .before .before .before .before .loop-test .taken) (sym (c .before .before2 .ensures) ∙ not-false _ (c .if1 .left)) in
     (omega (arith, c .before .before .before .before .loop-test .taken), inv .1, inv .2, omega (arith, inv .3, h))
 
 returns-2 : tie.Need-returns-2 Inv-loop μ-loop
-returns-2 c = 
+returns-2 c =
     let inv = c .before .loop .inv in
     let e = rows-end (c .before .before .before .before .args .a .now) (c .before .before .before .before .args .b .now) (c .before .before .before .before .args .count) (inv .1) (inv .2) (c .before .loop .i) (c .loop-test .left) in
     (omega (arith, inv .3, ap (rank byBoth (c .before .before .before .before .args .x ∷ c .before .before .before .before .args .y ∷ [])) e), inv .0)

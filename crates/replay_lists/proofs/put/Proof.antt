@@ -21,7 +21,7 @@ same-length-2 : tie.Need-same-length-2
 same-length-2 c = search known
 
 returns : tie.Need-returns
-returns c = 
+returns c =
     (put-there (c .before .before .before .before .before .before .before .before .before .args .a .now) (c .before .before .before .before .before .before .before .before .before .args .b .now) (c .before .before .before .before .before .before .before .before .before .args .count) (c .before .before .before .before .place .result) (c .before .before .before .before .before .before .before .before .before .args .x) (c .before .before .before .before .before .before .before .before .before .args .y) (omega (arith, c .before .before .before .before .before .before .before .before .before .pre .0)) (omega (arith, c .before .before .before .before .before .before .before .before .before .pre .1)) (c .before .before .before .before .place .ensures .0) (sym (c .before .both-stand .ensures) ∙ c .if1 .taken), omega arith, refl, refl)
 
 insert-requires : tie.Need-insert-requires
@@ -40,7 +40,7 @@ same-length-4 : tie.Need-same-length-4
 same-length-4 c = search known
 
 returns-2 : tie.Need-returns-2
-returns-2 c = 
+returns-2 c =
     (put-in (c .before .before .before .before .before .before .before .before .before .before .before .before .before .before .before .before .before .args .a .now) (c .before .before .before .before .before .before .before .before .before .before .before .before .before .before .before .before .before .args .b .now) (c .before .before .before .before .before .before .before .before .before .before .before .before .before .before .before .before .before .args .count) (c .before .before .before .before .before .before .before .before .before .before .before .before .place .result) (c .before .before .before .before .before .before .before .before .before .before .before .before .before .before .before .before .before .args .x) (c .before .before .before .before .before .before .before .before .before .before .before .before .before .before .before .before .before .args .y) (omega (arith, c .before .before .before .before .before .before .before .before .before .before .before .before .before .before .before .before .before .pre .0)) (omega (arith, c .before .before .before .before .before .before .before .before .before .before .before .before .before .before .before .before .before .pre .1)) (c .before .before .before .before .before .before .before .before .before .before .before .before .place .ensures .0) _ _ (sym (c .before .before .before .before .before .before .before .before .before .both-stand .ensures) ∙ c .before .before .before .before .before .before .before .before .if1 .left) (c .before .before .before .before .before .before .insert .ensures .0) (c .before .before .insert2 .ensures .0) (c .before .before .before .before .before .before .before .before .before .before .before .before .place .ensures .1), omega arith, c .before .before .before .before .before .before .insert .ensures .1, c .before .before .insert2 .ensures .1)
 
 pub put-spec : {M : Type 1} → statement M

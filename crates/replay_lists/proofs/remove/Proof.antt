@@ -49,7 +49,7 @@ same-length : tie.Need-same-length Inv-loop μ-loop
 same-length c = c .before .loop .inv .2 .full
 
 returns : tie.Need-returns Inv-loop μ-loop
-returns c = 
+returns c =
     let inv = c .before .loop .inv in
     let n : suc (c .before .before .args .count - 1) ≡ c .before .before .args .count = omega (arith, inv .1) in
     let d = close-done _ _ _ _ _ _ (omega (arith, c .before .before .pre)) (omega (arith, c .before .before .pre)) (omega (arith, c .loop-test .left)) (inv .2) in
