@@ -3,3 +3,4 @@ pub mod Working
 pub mod Light
 pub mod Frames
 pub mod Handing
+pub mod Laws
