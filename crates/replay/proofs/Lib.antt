@@ -1,0 +1,6 @@
+pub mod Maps
+pub mod Working
+pub mod Light
+pub mod Frames
+pub mod Handing
+pub mod Laws
