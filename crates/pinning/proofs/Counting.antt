@@ -1,0 +1,65 @@
+-- Laws of counts: as a loop reads them, in a list that rises, and after one of them was changed. Assumes nothing.
+use mathlib.Core.Path.{_≡_, refl, sym, _∙_}
+use mathlib.Core.Bool.{Bool, true, false, cond, not, _&&_}
+use mathlib.Core.List.{List, [], _∷_, map}
+use Prim.Native.Nat.{ℕ, _+_, _≤_, _<_}
+use native.Mathlib.Omega.{arith}
+use borrow.Author.Tests.{ltb-true, ltb-false, leb-true, leb-false, eqb-true}
+use lib.Dec.{leb, ltb, eqb}
+use lib.ListN.{length, getD, take, drop}
+use Rattle.lists.specs.Keyed.{allOf, isAt, ascending, rank}
+use Rattle.lists.proofs.Tests.{by-cases, clash, both, past}
+use Rattle.lists.proofs.Keyed.{ascend-to}
+use Rattle.lists.proofs.Places.{has-end, has-here}
+use Rattle.lists.proofs.Views.{seen}
+use Rattle.pins.specs.declared.Pin.{Pin}
+use Rattle.pins.specs.Book.{PinEntry, pinEntry, byEpoch, mostPinned, validPin, pinned}
+use Rattle.pinning.specs.Counts.{pinsAt, epochsFull}
+
+-- what is left of a view at i
+module _ (l : List Pin) (n i : ℕ) (d : Pin) (h : i < n) (k : n ≤ length l) (e : ℕ) where
+  pub pins-here : isAt byEpoch (e ∷ []) (pinEntry (getD l i d)) ≡ true → pinsAt e (drop i (map pinEntry (take n l))) ≡ getD l i d .count
+  pins-here t = rw (seen pinEntry l n i d h k, t)
+
+  pub pins-next : isAt byEpoch (e ∷ []) (pinEntry (getD l i d)) ≡ false → pinsAt e (drop i (map pinEntry (take n l))) ≡ pinsAt e (drop (i + 1) (map pinEntry (take n l)))
+  pins-next t = rw (seen pinEntry l n i d h k, t)
+
+-- an epoch that is not at its place is not pinned
+absent : (e : ℕ) (l : List PinEntry) (d : PinEntry) → ascending byEpoch l ≡ true → ltb (rank byEpoch (e ∷ []) l) (length l) && isAt byEpoch (e ∷ []) (getD l (rank byEpoch (e ∷ []) l) d) ≡ false → pinned e l ≡ false
+absent e l d o h =
+    by-cases (ltb (rank byEpoch (e ∷ []) l) (length l))
+    (λ t. has-here byEpoch (e ∷ []) l d (ascend-to byEpoch l o) (ltb-true _ _ t) ∙ past (ltb (rank byEpoch (e ∷ []) l) (length l)) (isAt byEpoch (e ∷ []) (getD l (rank byEpoch (e ∷ []) l) d)) h t)
+    (λ t. has-end byEpoch (e ∷ []) l (ascend-to byEpoch l o) (ltb-false _ _ t))
+
+-- where 19 does not refuse it, there is a place for it
+pub room : (e : ℕ) (l : List PinEntry) (d : PinEntry) → ascending byEpoch l ≡ true → epochsFull e l ≡ false → ltb (rank byEpoch (e ∷ []) l) (length l) && isAt byEpoch (e ∷ []) (getD l (rank byEpoch (e ∷ []) l) d) ≡ false → length l < mostPinned
+room e l d o f h = leb-false mostPinned (length l) (past (not (pinned e l)) (leb mostPinned (length l)) f (rw (absent e l d o h)))
+
+-- a pinned epoch needs none
+pub place-had : (e : ℕ) (l : List PinEntry) → pinned e l ≡ true → epochsFull e l ≡ false
+place-had e l h = rw h
+
+-- a pinned epoch of a list that 28 lets pass at epoch c
+pub record Counted (c e : ℕ) (l : List PinEntry) : Type 0 where
+  pub some : 0 < pinsAt e l
+  pub first : 0 < e
+  pub last : e ≤ c
+
+pub counted : (c e : ℕ) (l : List PinEntry) → allOf (validPin c) l ≡ true → pinned e l ≡ true → Counted c e l
+counted c e [] v h = clash h refl
+counted c e (p ∷ l) v h =
+    let a = both (validPin c p) (allOf (validPin c) l) v in
+    by-cases (isAt byEpoch (e ∷ []) p)
+    (λ t.
+    let x = both (ltb 0 (p .count)) (ltb 0 (p .epoch) && leb (p .epoch) c) (a .0) in
+    let y = both (ltb 0 (p .epoch)) (leb (p .epoch) c) (x .1) in
+    let z : p .epoch ≡ e = eqb-true (p .epoch) e (both (eqb (p .epoch) e) true t .0) in
+    record { some = rw t (ltb-true 0 (p .count) (x .0)); first = omega (arith, ltb-true 0 (p .epoch) (y .0)); last = omega (arith, leb-true (p .epoch) c (y .1)) })
+    (λ t.
+    let r = counted c e l (a .1) (rw t at h) in
+    record { some = rw t (r .some); first = r .first; last = r .last })
+
+-- a number that is one or none is not above the one
+pub at-most : (y : Bool) (n k : ℕ) → n ≡ cond y k 0 → n ≤ k
+at-most true n k e = omega arith
+at-most false n k e = omega arith

@@ -1,0 +1,17 @@
+-- What pin and unpin leave of a book that 28 lets pass. Assumes nothing.
+use mathlib.Core.Path.{_≡_}
+use mathlib.Core.Bool.{false}
+use Prim.Native.Nat.{ℕ, _≤_}
+use Rattle.pins.specs.declared.PinBook.{PinBook}
+use Rattle.pins.specs.Book.{badBook}
+use Rattle.version_manager.specs.declared.VersionManager.{VersionManager}
+use Rattle.pinning.specs.declared.PinAnswer.{PinAnswer}
+use Rattle.pinning.specs.declared.UnpinAnswer.{UnpinAnswer}
+use Rattle.pinning.specs.Says.{current, PinSays, UnpinSays}
+
+pub record PinLaws : Type 0 where
+  -- it passes 28 afterwards too, whether the call was accepted or refused
+  pub pin : (m : VersionManager) (b : PinBook) (a : PinAnswer) (b′ : PinBook) → PinSays m b a b′ → badBook (current m) b ≡ false → badBook (current m) b′ ≡ false
+  pub unpin : (m : VersionManager) (e : ℕ) (b : PinBook) (a : UnpinAnswer) (b′ : PinBook) → UnpinSays m e b a b′ → badBook (current m) b ≡ false → badBook (current m) b′ ≡ false
+  -- and still does when the manager's epoch rises
+  pub later : (e d : ℕ) (b : PinBook) → e ≤ d → badBook e b ≡ false → badBook d b ≡ false

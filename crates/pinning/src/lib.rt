@@ -1,0 +1,168 @@
+// Pin and unpin. The work is done by functions that take the book and hand it back by value; `pin` and `unpin` are lent the
+// book and alter it there.
+use ids::refusal::Refusal;
+use ids::refusal::Verdict;
+use pins::PinBook;
+use version_manager::VersionManager;
+use version_state::VersionManagerInner;
+ghost use mathlib.Core.Path.{_≡_};
+ghost use mathlib.Core.Bool.{cond, not, _&&_};
+ghost use lib.Dec.{eqb};
+ghost use lib.ListN.{length};
+ghost use Rattle.version_state.specs.State.{Fit};
+ghost use Rattle.pins.specs.Book.{GoodBook};
+ghost use Rattle.vacuum.specs.Says.{listOf};
+ghost use Rattle.pinning.specs.Says.{pinVerdict, PinSays, unpinVerdict, UnpinSays};
+ghost use Rattle.pinning.specs.Laws.{PinLaws};
+
+pub mod counts;
+
+pub enum PinAnswer {
+    // The epoch that is pinned.
+    Pinned(u32),
+    Refused(Refusal),
+}
+
+pub struct PinStep {
+    pub book: PinBook,
+    pub answer: PinAnswer,
+}
+
+pub enum UnpinAnswer {
+    // Whether a vacuum is due, and how many deletions it would list.
+    Unpinned(bool, usize),
+    Refused(Refusal),
+}
+
+pub struct UnpinStep {
+    pub book: PinBook,
+    pub answer: UnpinAnswer,
+}
+
+// A book that passes 28 passes it after a pin or an unpin, and when the epoch rises.
+pub fn sound()
+    ensures { λ _. ⌜ PinLaws ⌝ }
+{}
+
+fn judge_pin(manager: VersionManager, book: PinBook) -> Verdict
+    ensures { λ r. ⌜ r ≡ pinVerdict manager book ⌝ }
+{
+    let inner = manager.inner;
+    let epoch = inner.epoch;
+    if inner.bad() {
+        return Verdict::Refused(Refusal::BadManager);
+    }
+    if book.bad(epoch) {
+        return Verdict::Refused(Refusal::BadPinBook);
+    }
+    if epoch == 0 {
+        return Verdict::Refused(Refusal::PinAtEpochZero);
+    }
+    if 65535 <= counts::pins_at(book, epoch) {
+        return Verdict::Refused(Refusal::PinsFull);
+    }
+    if counts::epochs_full(book, epoch) {
+        return Verdict::Refused(Refusal::PinnedEpochsFull);
+    }
+    Verdict::Accepted
+}
+
+// Pin, by value.
+pub fn after_pin(manager: VersionManager, book: PinBook) -> PinStep
+    ensures { λ r. ⌜ PinSays manager book (r .answer) (r .book) ⌝ }
+{
+    let verdict = judge_pin(manager, book);
+    if let Verdict::Refused(why) = verdict {
+        return PinStep {
+            book,
+            answer: PinAnswer::Refused(why),
+        };
+    }
+    let epoch = manager.inner.epoch;
+    let count = counts::pins_at(book, epoch);
+    let next = counts::recounted(book, epoch, count + 1);
+    PinStep {
+        book: next,
+        answer: PinAnswer::Pinned(epoch),
+    }
+}
+
+fn judge_unpin(manager: VersionManager, book: PinBook, epoch: u32) -> Verdict
+    ensures { λ r. ⌜ r ≡ unpinVerdict manager epoch book ⌝ }
+{
+    let inner = manager.inner;
+    if inner.bad() {
+        return Verdict::Refused(Refusal::BadManager);
+    }
+    if book.bad(inner.epoch) {
+        return Verdict::Refused(Refusal::BadPinBook);
+    }
+    if !book.holds(epoch) {
+        return Verdict::Refused(Refusal::EpochNotPinned);
+    }
+    Verdict::Accepted
+}
+
+// Internal, as is what follows: how many deletions a vacuum with this book would list, where it is due, and else 0.
+fn ready(inner: VersionManagerInner, book: PinBook, due: bool) -> usize
+    requires { ⌜ Fit inner × GoodBook (inner .epoch) book ⌝ }
+    ensures { λ r. ⌜ r ≡ cond due (length (listOf inner book)) 0 ⌝ }
+{
+    if !due {
+        return 0;
+    }
+    let bound = book.bound(inner.epoch);
+    let list = vacuum::listed(inner, bound);
+    list.count
+}
+
+fn is_due(epoch: u32, current: u32, left: u16) -> bool
+    ensures { λ r. ⌜ r ≡ eqb left 0 && not (eqb epoch current) ⌝ }
+{
+    if left != 0 {
+        return false;
+    }
+    epoch != current
+}
+
+// Unpin, by value.
+pub fn after_unpin(manager: VersionManager, book: PinBook, epoch: u32) -> UnpinStep
+    ensures { λ r. ⌜ UnpinSays manager epoch book (r .answer) (r .book) ⌝ }
+{
+    let verdict = judge_unpin(manager, book, epoch);
+    if let Verdict::Refused(why) = verdict {
+        return UnpinStep {
+            book,
+            answer: UnpinAnswer::Refused(why),
+        };
+    }
+    let inner = manager.inner;
+    let count = counts::pins_at(book, epoch);
+    let left = count - 1;
+    let next = counts::recounted(book, epoch, left);
+    let due = is_due(epoch, inner.epoch, left);
+    let ready = ready(inner, next, due);
+    UnpinStep {
+        book: next,
+        answer: UnpinAnswer::Unpinned(due, ready),
+    }
+}
+
+// The book at entry is read whole, and what the step makes of it is stored whole.
+pub fn pin(manager: VersionManager, book: &mut PinBook) -> PinAnswer
+    ensures { λ r. ⌜ PinSays manager (now (book .entry)) r (now (book .exit)) ⌝ }
+{
+    let old = *book;
+    let step = after_pin(manager, old);
+    *book = step.book;
+    step.answer
+}
+
+pub fn unpin(manager: VersionManager, book: &mut PinBook, epoch: u32) -> UnpinAnswer
+    ensures { λ r. ⌜ UnpinSays manager epoch (now (book .entry)) r (now (book .exit)) ⌝ }
+{
+    let old = *book;
+    let step = after_unpin(manager, old, epoch);
+    *book = step.book;
+    step.answer
+}
