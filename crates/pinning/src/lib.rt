@@ -166,3 +166,20 @@ pub fn unpin(manager: VersionManager, book: &mut PinBook, epoch: u32) -> UnpinAn
     *book = step.book;
     step.answer
 }
+
+// A program's calls: a book of the caller's own is lent, and handed back beside the answer.
+pub fn pinned(manager: VersionManager, old: PinBook) -> PinStep
+    ensures { λ r. ⌜ PinSays manager old (r .answer) (r .book) ⌝ }
+{
+    let mut book = old;
+    let answer = pin(manager, &mut book);
+    PinStep { book, answer }
+}
+
+pub fn unpinned(manager: VersionManager, old: PinBook, epoch: u32) -> UnpinStep
+    ensures { λ r. ⌜ UnpinSays manager epoch old (r .answer) (r .book) ⌝ }
+{
+    let mut book = old;
+    let answer = unpin(manager, &mut book, epoch);
+    UnpinStep { book, answer }
+}

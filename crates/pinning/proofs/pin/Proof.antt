@@ -1,5 +1,5 @@
 -- `pinning::pin` meets its contract: a walk of its MIR, by hand. The borrow is opened, `bookᵖ` is read whole into a local, `after_pin` is called on that copy, the step's `book` is stored whole, the borrow is closed at it, and the step's `answer` is returned.
--- All that the proof knows of the callee is that it meets its contract. Assumes nothing. Written by tools/walkgen.py.
+-- All that the proof knows of the callee is that it meets its contract. Assumes nothing.
 use mathlib.Core.Path.{_≡_, refl, ap}
 use Prim.Native.Nat.{ℕ}
 use mathlib.Core.List.{[], _∷_, List}
@@ -104,7 +104,7 @@ module _ {M : Type 1} (𝓤 : URA M) (H : Heap 𝓤) (A : Atoms 𝓤) (W : Given
       qed W (‵ (fobs γ (Aᵗ.the-row .coded .code (r .book))) ∷ ‵ (fbor κ (Body (mem Aᵗ.the-row) b o γ)) ∷ ‵ (flft κ q) ∷ []) ∵
       suffices ! _ (ends-at 𝓤 H A own.ended stayed (own.clauses 𝓤 H A at-mem run) W (((κ, tt), (q, tt), tt, x, at), tt) (EL.val Dᵗ.the-type Dᵗ′.the-laws (r .answer)) (r .answer) (tt, (r .book, tt)) (tt, (tt, tt))) $ says ! e $
       -- the token; what is had of the parameters; the answer
-      nothing ! $ move ! (3 ∷ 0 ∷ []) $ join ! $ frame ! $ feqI ! (List Val) (vptr b o ∷ []) (vptr b o ∷ []) refl $ fjoin3 ! $ nothing ! $ move ! (1 ∷ 0 ∷ []) $ fjoin ! $ owned ! Bᵗ.the-row (Is Bᵗ.the-row) (LL.makes Bᵗ.the-type Bᵗ′.the-plain 𝓤 H A) managerᵖ _ is-managerᵖ $ fjoin ! $ 
+      nothing ! $ move ! (3 ∷ 0 ∷ []) $ join ! $ frame ! $ feqI ! (List Val) (vptr b o ∷ []) (vptr b o ∷ []) refl $ fjoin3 ! $ nothing ! $ move ! (1 ∷ 0 ∷ []) $ fjoin ! $ owned ! Bᵗ.the-row (Is Bᵗ.the-row) (LL.makes Bᵗ.the-type Bᵗ′.the-plain 𝓤 H A) managerᵖ _ is-managerᵖ $ fjoin ! $
       owned ! Dᵗ.the-row (Is Dᵗ.the-row) (EL.makes Dᵗ.the-type Dᵗ′.the-plain 𝓤 H A) (r .answer) _ is $ move ! (1 ∷ 0 ∷ []) $ done !
 
   module _ (C : Calls 𝓤 H) (Λ : Loops 𝓤 H) (fm : FmC 𝓤 H (W .laws) C) (known : Triple 𝓤 (C #pinning·after-pin) (After 𝓤 H A at-mem run)) where
@@ -113,7 +113,7 @@ module _ {M : Type 1} (𝓤 : URA M) (H : Heap 𝓤) (A : Atoms 𝓤) (W : Given
         qed W ((‵ (flft κ q) ⊛ ‵ ftrue) ∷ ‵ (owns (Bᵗ.the-row ∷ MutRef (named 0) κ Aᵗ.the-row ∷ []) x at) ∷ []) ∵ split ! $ move ! (2 ∷ []) $ fsplit ! $ move ! (1 ∷ []) $ fsplit ! $ fsplit3 ! $ drop ! $ move ! (0 ∷ 1 ∷ 4 ∷ []) $
         -- [obs; the borrow; the token; …]
         enter ! C Λ code.function (LL.val Bᵗ.the-type Bᵗ′.the-laws managerᵖ ∷ vptr b o ∷ []) _ $
-        alloc1 ! (λ l0. alloc1 ! (λ l1. alloc1 ! (λ l2. alloc1 ! (λ l3. alloc1 ! (λ l4. alloc0 ! $ params1 ! $ pass1 ! (init ! 6 refl (LL.lawful Bᵗ.the-type Bᵗ′.the-laws 𝓤 H A W .typed managerᵖ _ is-managerᵖ .0)) $ pass1 ! (init ! 4 refl (tt, tt)) $ pass0 ! $
+        alloc1 ! {τ = Dᵗ′.mir} (λ l0. alloc1 ! {τ = Bᵗ′.mir} (λ l1. alloc1 ! (λ l2. alloc1 ! {τ = Aᵗ′.mir} (λ l3. alloc1 ! {τ = Cᵗ′.mir} (λ l4. alloc0 ! $ params1 ! $ pass1 ! (init ! 6 refl (LL.lawful Bᵗ.the-type Bᵗ′.the-laws 𝓤 H A W .typed managerᵖ _ is-managerᵖ .0)) $ pass1 ! (init ! 4 refl (tt, tt)) $ pass0 ! $
         move ! (10 ∷ 11 ∷ 12 ∷ []) $ opens ! tt Aᵗ.the-row {h = bookᵖ} b o (λ vs. spelt ! Aᵗ.the-row (Is Aᵗ.the-row) (shows 𝓤 H A Aᵗ.the-row) (LL.vals Aᵗ.the-type Aᵗ′.the-laws) (LL.tells Aᵗ.the-type Aᵗ′.the-laws) fullShare bookᵖ vs b o $
         move ! (1 ∷ []) $ peeks ! Aᵗ.the-row (Is Aᵗ.the-row) (shows 𝓤 H A Aᵗ.the-row) bookᵖ (LL.val Aᵗ.the-type Aᵗ′.the-laws bookᵖ ∷ []) (λ is-bookᵖ. move ! (1 ∷ 0 ∷ []) $
         -- [its cell; what it owns; the open borrow; obs; auth; _4 at 5; _3 at 7; _2 at 9; _1 at 11; _0 at 13]
@@ -129,7 +129,7 @@ module _ {M : Type 1} (𝓤 : URA M) (H : Heap 𝓤) (A : Atoms 𝓤) (W : Given
         assigns ! (of-opd ! (load ! (from ! (fld ! refl (stop !))) (look-in ! 5 (sub ! 1 refl (whole !))))) (from ! (stop !)) (init ! 13 refl (EL.lawful Dᵗ.the-type Dᵗ′.the-laws 𝓤 H A W tt .typed (r .answer) _ (answer-is r u is) .0)) $
         move ! (1 ∷ []) $ drop ! $ owned ! Aᵗ.the-row (Is Aᵗ.the-row) (LL.makes Aᵗ.the-type Aᵗ′.the-plain 𝓤 H A) (r .book) _ (book-is r u is) $ move ! (1 ∷ 0 ∷ []) $ closes ! tt Aᵗ.the-row (r .book) (LL.val Aᵗ.the-type Aᵗ′.the-laws (r .book) ∷ []) b o $
         -- [obs; the borrow; the token; _4 at 3; _3 at 5; _2 at 7; _1 at 9; _0 at 11]
-        returns ! (look ! 11 refl) $ forget ! 3 refl $ forget ! 5 refl $ forget ! 7 refl $ forget ! 9 refl $ forget ! 11 refl $ 
+        returns ! (look ! 11 refl) $ forget ! 3 refl $ forget ! 5 refl $ forget ! 7 refl $ forget ! 9 refl $ forget ! 11 refl $
         move ! (11 ∷ 12 ∷ []) $ free1 ! $ move ! (9 ∷ 10 ∷ []) $ free1 ! $ move ! (7 ∷ 8 ∷ []) $ free1 ! $ move ! (5 ∷ 6 ∷ []) $ free1 ! $ move ! (3 ∷ 4 ∷ []) $ free1 ! $ free0 ! $
         keep ! (0 ∷ 1 ∷ 2 ∷ []) $ by ! (exits r (answer-is r u is) e))))))))))))
 
