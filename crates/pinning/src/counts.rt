@@ -1,4 +1,4 @@
-// The counts of a book, and a book with one of them changed. Internal, all of it: the book's count is within its array.
+// The counts of a book, and a book with one of them changed. All of it is internal: the book's count is within its array.
 use pins::Pin;
 use pins::PinBook;
 ghost use mathlib.Core.Path.{_≡_};

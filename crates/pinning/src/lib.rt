@@ -1,5 +1,5 @@
-// Pin and unpin. The work is done by functions that take the book and hand it back by value; `pin` and `unpin` are lent the
-// book and alter it there.
+// Pin and unpin, lent the pin book and altering it there. The work is done by functions that take the book and hand it back by
+// value.
 use ids::refusal::Refusal;
 use ids::refusal::Verdict;
 use pins::PinBook;
@@ -15,7 +15,7 @@ ghost use Rattle.vacuum.specs.Says.{listOf};
 ghost use Rattle.pinning.specs.Says.{pinVerdict, PinSays, unpinVerdict, UnpinSays};
 ghost use Rattle.pinning.specs.Laws.{PinLaws};
 
-pub mod counts;
+mod counts;
 
 pub enum PinAnswer {
     // The epoch that is pinned.
@@ -103,7 +103,7 @@ fn judge_unpin(manager: VersionManager, book: PinBook, epoch: u32) -> Verdict
     Verdict::Accepted
 }
 
-// Internal, as is what follows: how many deletions a vacuum with this book would list, where it is due, and else 0.
+// The counts are within the limits, and the book has passed 28. How many deletions a vacuum would list where one is due, and else 0.
 fn ready(inner: VersionManagerInner, book: PinBook, due: bool) -> usize
     requires { ⌜ Fit inner × GoodBook (inner .epoch) book ⌝ }
     ensures { λ r. ⌜ r ≡ cond due (length (listOf inner book)) 0 ⌝ }
@@ -167,7 +167,7 @@ pub fn unpin(manager: VersionManager, book: &mut PinBook, epoch: u32) -> UnpinAn
     step.answer
 }
 
-// A program's calls: a book of the caller's own is lent, and handed back beside the answer.
+// For callers that go by value: a book of one's own is lent to `pin`, and handed back beside the answer.
 pub fn pinned(manager: VersionManager, old: PinBook) -> PinStep
     ensures { λ r. ⌜ PinSays manager old (r .answer) (r .book) ⌝ }
 {
