@@ -1,6 +1,8 @@
 // Calls that hand a manager back; the others are in `shows`.
 use crate::bench::Bench;
+use crate::fields::id;
 use crate::fields::part;
+use crate::pinnings;
 use crate::say;
 use crate::shows;
 use commit::CommitAnswer;
@@ -113,8 +115,16 @@ fn vacuum(bench: Bench, f: [u64; 6]) -> Bench {
     vacuum_into(bench, &mut tables[..a], &mut rowsets[..b])
 }
 
+// `n` pins, after so many other pins, and `m` unpins an epoch; the book alone changes.
+fn lend(bench: Bench, letter: u8, f: [u64; 6]) -> Bench {
+    match letter {
+        b'n' => pinnings::pin(bench, f[0]),
+        _ => pinnings::unpin(bench, id(f[0])),
+    }
+}
+
 // `r` and `w` draw a rowset's and a vector's id, `c` commits into so many bytes, `a` prints the append too, `u` is a vacuum
-// into slices of two lengths; `p`, `v` and `t` show pairs, vectors and tables of an epoch into slices of so many lengths.
+// into slices of two lengths, `n` and `m` pin and unpin; `p`, `v` and `t` show pairs, vectors and tables of an epoch into slices of so many lengths.
 pub fn call(bench: Bench, letter: u8, f: [u64; 6]) -> Bench {
     match letter {
         b'r' => draw_rowset(bench),
@@ -122,6 +132,8 @@ pub fn call(bench: Bench, letter: u8, f: [u64; 6]) -> Bench {
         b'c' => commit(bench, f[0]),
         b'a' => printed(bench),
         b'u' => vacuum(bench, f),
+        b'n' => lend(bench, letter, f),
+        b'm' => lend(bench, letter, f),
         b'p' => {
             shows::pairs(bench, f);
             bench

@@ -10,6 +10,7 @@ mod batches;
 mod bench;
 mod calls;
 mod fields;
+mod pinnings;
 mod say;
 mod sets;
 mod shows;

@@ -1,6 +1,7 @@
 // What is printed of answers, managers and lent outputs.
 use ids::refusal::Refusal;
 use libc::STDOUT_FILENO;
+use pins::PinBook;
 use version_manager::VersionManager;
 
 pub fn say(s: &[u8]) {
@@ -117,5 +118,30 @@ pub fn pairs(tables: &[u32], rowsets: &[u32], count: usize) {
     }
     say(b" |");
     pair_at(tables, rowsets, count);
+    say(b"\n");
+}
+
+// A place of a book, where it is one.
+fn pin_at(book: PinBook, i: usize) {
+    if book.count <= i {
+        return;
+    }
+    if i < 64 {
+        let x = book.items[i];
+        say(b" ");
+        number32(x.epoch);
+        say(b":");
+        number(x.count as u64);
+    }
+}
+
+// The epochs and their counts, as far as there are places.
+pub fn book(book: PinBook) {
+    counted(b"; pins ", book.count);
+    let mut i = 0;
+    while i < 64 {
+        pin_at(book, i);
+        i += 1;
+    }
     say(b"\n");
 }
