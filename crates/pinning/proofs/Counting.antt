@@ -4,17 +4,19 @@ use mathlib.Core.Bool.{Bool, true, false, cond, not, _&&_}
 use mathlib.Core.List.{List, [], _∷_, map}
 use Prim.Native.Nat.{ℕ, _+_, _≤_, _<_}
 use native.Mathlib.Omega.{arith}
-use borrow.Author.Tests.{ltb-true, ltb-false, leb-true, leb-false, eqb-true}
+use borrow.Author.Tests.{eq-eqb, ne-eqb, eqb-false, ltb-true, ltb-false, leb-true, leb-false, eqb-true}
 use lib.Dec.{leb, ltb, eqb}
 use lib.ListN.{length, getD, take, drop}
-use Rattle.lists.specs.Keyed.{allOf, isAt, ascending, rank}
+use Rattle.lists.specs.Order.{less}
+use Rattle.lists.specs.Keyed.{allOf, isAt, put, without, ascending, rank}
 use Rattle.lists.proofs.Tests.{by-cases, clash, both, past}
+use Rattle.lists.proofs.Order.{lex-last}
 use Rattle.lists.proofs.Keyed.{ascend-to}
 use Rattle.lists.proofs.Places.{has-end, has-here}
 use Rattle.lists.proofs.Views.{seen}
 use Rattle.pins.specs.declared.Pin.{Pin}
 use Rattle.pins.specs.Book.{PinEntry, pinEntry, byEpoch, mostPinned, validPin, pinned}
-use Rattle.pinning.specs.Counts.{pinsAt, epochsFull}
+use Rattle.pinning.specs.Counts.{pinsOn, pinsAt, recounted, epochsFull}
 
 -- what is left of a view at i
 module _ (l : List Pin) (n i : ℕ) (d : Pin) (h : i < n) (k : n ≤ length l) (e : ℕ) where
@@ -58,6 +60,44 @@ counted c e (p ∷ l) v h =
     (λ t.
     let r = counted c e l (a .1) (rw t at h) in
     record { some = rw t (r .some); first = r .first; last = r .last })
+
+-- the count of epoch j after the epoch e was taken out, after an entry was put in, and after a count was changed
+pins-without : (j e : ℕ) (l : List PinEntry) → pinsAt j (without byEpoch (e ∷ []) l) ≡ cond (eqb j e) 0 (pinsAt j l)
+pins-without j e [] = by-cases (eqb j e) (λ u. rw u) (λ u. rw u)
+pins-without j e (y ∷ l) =
+    let ih = pins-without j e l in
+    by-cases (eqb (y .epoch) e)
+    (λ t. by-cases (eqb j e)
+    (λ u. rw (t, ih, u))
+    (λ u. rw (t, ih, u, ne-eqb (y .epoch) j (λ q. eqb-false j e u (sym q ∙ eqb-true (y .epoch) e t)))))
+    (λ t. by-cases (eqb (y .epoch) j)
+    (λ v. rw (t, v, ne-eqb j e (λ q. eqb-false (y .epoch) e t (eqb-true (y .epoch) j v ∙ q))))
+    (λ v. rw (t, v, ih)))
+
+pins-put : (j : ℕ) (x : PinEntry) (l : List PinEntry) → pinsAt j (put byEpoch x l) ≡ cond (eqb (x .epoch) j) (x .count) (pinsAt j l)
+pins-put j x [] = by-cases (eqb (x .epoch) j) (λ u. rw u) (λ u. rw u)
+pins-put j x (y ∷ l) =
+    let ih = pins-put j x l in
+    by-cases (less (byEpoch y) (byEpoch x))
+    (λ t. by-cases (eqb (y .epoch) j)
+    (λ v.
+    let n : y .epoch < x .epoch = ltb-true (y .epoch) (x .epoch) (sym (lex-last (y .epoch) (x .epoch)) ∙ t) in
+    let w : y .epoch ≡ j = eqb-true (y .epoch) j v in
+    rw (t, v, ne-eqb (x .epoch) j (λ q. omega arith)))
+    (λ v. rw (t, v, ih)))
+    (λ t. by-cases (eqb (y .epoch) (x .epoch))
+    (λ u. by-cases (eqb (x .epoch) j)
+    (λ v. rw (t, u, v))
+    (λ v. rw (t, u, v, ne-eqb (y .epoch) j (λ q. eqb-false (x .epoch) j v (sym (eqb-true (y .epoch) (x .epoch) u) ∙ q)))))
+    (λ u. by-cases (eqb (x .epoch) j) (λ v. rw (t, u, v)) (λ v. rw (t, u, v))))
+
+pub pins-recounted : (e n j : ℕ) (l : List PinEntry) → pinsAt j (recounted e n l) ≡ cond (eqb e j) n (pinsAt j l)
+pins-recounted e n j l =
+    by-cases (eqb n 0)
+    (λ t. by-cases (eqb e j)
+    (λ u. rw (t, pins-without j e l, u, eq-eqb j e (sym (eqb-true e j u)), eqb-true n 0 t))
+    (λ u. rw (t, pins-without j e l, u, ne-eqb j e (λ q. eqb-false e j u (sym q)))))
+    (λ t. rw (t, pins-put j (pinsOn e n) l))
 
 -- a number that is one or none is not above the one
 pub at-most : (y : Bool) (n k : ℕ) → n ≡ cond y k 0 → n ≤ k

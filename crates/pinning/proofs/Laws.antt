@@ -13,6 +13,7 @@ use Rattle.version_manager.specs.declared.VersionManager.{VersionManager}
 use Rattle.pinning.specs.Counts.{pinsAt, leftOn, withPin, withoutPin}
 use Rattle.pinning.specs.Says.{current, Keeps, BookAfter, pinVerdict, unpinVerdict}
 use Rattle.pinning.specs.Laws.{PinLaws}
+use Rattle.pinning.proofs.Counting.{pins-recounted}
 use Rattle.pinning.proofs.Books.{good-recounted, book-later}
 use Rattle.pinning.proofs.Says.{pinnable, unpinnable}
 
@@ -35,6 +36,7 @@ either-way (Refused q) c b l b′ f k h = rw k h
 pub pin-laws : PinLaws
 pin-laws =
     record {
+      counts = pins-recounted;
       pin = λ m b a b′ s h. either-way (pinVerdict m b) (current m) b (withPin (current m) (pinsOf b)) b′ (pinned-good m b b′) (s .book) h;
       unpin = λ m e b a b′ s h. either-way (unpinVerdict m e b) (current m) b (withoutPin e (pinsOf b)) b′ (unpinned-good m e b b′) (s .book) h;
       later = book-later;

@@ -39,7 +39,7 @@ pub struct UnpinStep {
     pub answer: UnpinAnswer,
 }
 
-// A book that passes 28 passes it after a pin or an unpin, and when the epoch rises.
+// A pin and an unpin change one epoch's count; a book that passes 28 passes it after them, and when the epoch rises.
 pub fn sound()
     ensures { λ _. ⌜ PinLaws ⌝ }
 {}
