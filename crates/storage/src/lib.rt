@@ -29,9 +29,11 @@ fn refused(refusal: Refusal) -> Reopened
     ensures { λ r. ⌜ (reopenTold (r .answer) ≡ told (Verdict.Refused refusal) []) × Manages (r .manager) start × (pinsOf (r .book) ≡ []) ⌝ }
 {
     let opened = VersionManager::fresh();
+    let manager = opened.manager;
+    let book = opened.book;
     Reopened {
-        manager: opened.manager,
-        book: opened.book,
+        manager,
+        book,
         answer: ReopenAnswer::Refused(refusal),
     }
 }
@@ -50,9 +52,10 @@ fn rewrite_into(inner: VersionManagerInner, out: &mut [u8]) -> Reopened
     let mut inner = inner;
     inner.manifest = n;
     let manager = version_manager::handed(inner);
+    let book = PinBook::none();
     Reopened {
         manager,
-        book: PinBook::none(),
+        book,
         answer: ReopenAnswer::Rewritten(n),
     }
 }
