@@ -128,7 +128,7 @@ fn accepted(sets: Sets) -> Applied
 fn line_here(src: &[u8], at: usize) -> Parsed
     ensures { λ r. ⌜ lineSaid r ≡ lineHere (now (src .entry)) at ⌝ }
 {
-    match manifest::reader::line_at(src, at) {
+    match manifest_lines::next_line(src, at) {
         LineAt::Line {
             start,
             end,
@@ -460,7 +460,7 @@ fn operation_of(p: Parsed, next: usize) -> Here
 fn operation_at(src: &[u8], at: usize) -> Here
     ensures { λ r. ⌜ HereSays (now (src .entry)) at r ⌝ }
 {
-    match manifest::reader::line_at(src, at) {
+    match manifest_lines::next_line(src, at) {
         LineAt::Line { start, end, next } => {
             let p = manifest::parser::parse(&src[start..end]);
             operation_of(p, next)
@@ -748,7 +748,7 @@ fn run(
     let mut at: usize = 0;
     let mut n: usize = 1;
     loop {
-        match manifest::reader::line_at(src, at) {
+        match manifest_lines::next_line(src, at) {
             LineAt::Line { start, end, next } => {
                 let p = manifest::parser::parse(&src[start..end]);
                 let turn = read_line(
