@@ -10,7 +10,7 @@ use Rattle.ids.specs.declared.refusal.Refusal.the-variants.{OutputTooShort}
 use Rattle.ids.specs.declared.refusal.Verdict.the-variants.{Accepted, Refused}
 use Rattle.ids.specs.Answers.{Told, told}
 use Rattle.version_state.specs.State.{State, start, withEpoch}
-use Rattle.pins.specs.Book.{pinsOf}
+use Rattle.pins.specs.Book.{Keeps}
 use Rattle.version_manager.specs.Managers.{Manages}
 use Rattle.rewrite.specs.Rewritten.{rewrittenOf}
 use Rattle.replay.specs.Replay.{Result, refused, given, andThen, replayOf}
@@ -36,12 +36,12 @@ abbrev pub ReopenIs : Result State → List ℕ → Reopened → List ℕ → Ty
 ReopenIs (given s) out r out′ =
     (reopenTold (r .answer) ≡ told Accepted (s .manifest ∷ []))
     × Manages (r .manager) s
-    × (pinsOf (r .book) ≡ [])
+    × Keeps (r .book) []
     × (out′ ≡ over (rewrittenOf s) out)
 ReopenIs (refused k) out r out′ =
     (reopenTold (r .answer) ≡ told (Refused k) [])
     × Manages (r .manager) start
-    × (pinsOf (r .book) ≡ [])
+    × Keeps (r .book) []
     × (out′ ≡ out)
 
 -- what a reopen of the bytes src into the lent buffer says

@@ -10,7 +10,7 @@ ghost use lib.ListN.{length};
 ghost use Rattle.ids.specs.Answers.{told};
 ghost use Rattle.version_state.specs.State.{start, stateOf, Fit};
 ghost use Rattle.version_manager.specs.Managers.{Manages};
-ghost use Rattle.pins.specs.Book.{pinsOf};
+ghost use Rattle.pins.specs.Book.{Keeps};
 ghost use Rattle.storage.specs.Reopen.{openedOf, reopenTold, ReopenIs, ReopenSays};
 
 pub enum ReopenAnswer {
@@ -26,7 +26,7 @@ pub struct Reopened {
 }
 
 fn refused(refusal: Refusal) -> Reopened
-    ensures { λ r. ⌜ (reopenTold (r .answer) ≡ told (Verdict.Refused refusal) []) × Manages (r .manager) start × (pinsOf (r .book) ≡ []) ⌝ }
+    ensures { λ r. ⌜ (reopenTold (r .answer) ≡ told (Verdict.Refused refusal) []) × Manages (r .manager) start × Keeps (r .book) [] ⌝ }
 {
     let opened = VersionManager::fresh();
     let manager = opened.manager;

@@ -52,7 +52,7 @@ returns-2 c =
     let f = c .before .before .before .before .before .before .before .before .before .before .pre in
     let k : Hands (c .before .handed .result .inner) (withEpoch (stateOf (c .before .before .before .before .before .before .before .before .before .before .args .inner)) (c .before .before .before .before .before .before .before .before .before .before .args .inner .epoch) (length (rewrittenOf (stateOf (c .before .before .before .before .before .before .before .before .before .before .args .inner))))) =
     record { fits = rw (c .before .handed .ensures) (record { tables = f .tables; rowsets = f .rowsets; vectors = f .vectors }); state = ap stateOf (c .before .handed .ensures) ∙ ap (λ (n : ℕ). withEpoch (stateOf (c .before .before .before .before .before .before .before .before .before .before .args .inner)) (c .before .before .before .before .before .before .before .before .before .before .args .inner .epoch) n) e } in
-    rw (le-ltb _ _ room) (ap (λ (n : ℕ). told Accepted (n ∷ [])) e, k, c .none .ensures .1, c .before .before .before .before .put-frame .ensures ∙ ap (λ (os : List Operation). over (frameOf os) (now (c .before .before .before .before .before .before .before .before .before .before .args .out))) (c .before .before .before .before .before .before .before .before .rewritten .ensures .1))
+    rw (le-ltb _ _ room) (ap (λ (n : ℕ). told Accepted (n ∷ [])) e, k, record { fits = omega (arith, c .none .ensures .0); pins = c .none .ensures .1 }, c .before .before .before .before .put-frame .ensures ∙ ap (λ (os : List Operation). over (frameOf os) (now (c .before .before .before .before .before .before .before .before .before .before .args .out))) (c .before .before .before .before .before .before .before .before .rewritten .ensures .1))
 
 pub rewrite-into-spec : {M : Type 1} → statement M
 rewrite-into-spec =

@@ -1,4 +1,4 @@
--- Laws of replay: one text after another, a whole append, a proper first part of one. Assumes nothing.
+-- Reading lines: lines after others, a whole frame, a proper first part of one. Assumes nothing.
 use mathlib.Core.Path.{_≡_, refl, sym, ap, _∙_}
 use mathlib.Core.Bool.{Bool, true, false, cond, not, _&&_}
 use mathlib.Core.List.{List, [], _∷_, _++_, map, append-nil, append-assoc}
@@ -12,7 +12,8 @@ use Rattle.manifest.specs.Operations.{Operation, Line, begin, end, operation, b
 use Rattle.manifest.specs.Lines.{lineOf}
 use Rattle.version_state.specs.State.{State}
 use Rattle.operations.specs.Effect.{applied}
+use Rattle.recovery.specs.Holds.{appliedAll}
 use Rattle.replay.specs.Replay.{Result, refused, given, andThen, Frame, none, opened, Carried, carried, reopened, conflicts, framed, settled, overLimit, limited, lineRead, linesRead, finished}
 
 -- what lines say, one after another
 abbrev pub saidRead : List Line → Carried → Result Carried
@@ -44,11 +45,7 @@ read-append (l ∷ a) b c =
     then-same (lineRead (lineOf l) c) (linesRead (a ++ b)) (λ d. andThen (linesRead a d) (linesRead b)) (read-append a b)
     ∙ sym (then-then (lineRead (lineOf l) c) (linesRead a) (linesRead b))
 
--- operations in order, none of which conflicts
-abbrev pub appliedAll : List Operation → State → State
-appliedAll [] s = s
-appliedAll (o ∷ os) s = appliedAll os (applied reopened o s)
-
+-- no operation conflicts
 abbrev pub conflictFree : List Operation → State → Bool
 conflictFree [] s = true
 conflictFree (o ∷ os) s = cond (conflicts o s) false (conflictFree os (applied reopened o s))
@@ -69,10 +66,10 @@ ops-noted (o ∷ os) done s m n h =
     let k : n + 1 + length os ≡ n + length (o ∷ os) = omega arith in
     rw (lt-leb 600 (length done) few) (ops-noted os (done ++ (o ∷ [])) s m (n + 1) more ∙ rw (append-assoc, k))
 
--- (2) a whole append after a state with no open frame
-pub whole-append : (os : List Operation) (s : State) (n : ℕ) → length os ≤ 600 → conflictFree os s ≡ true → overLimit (settled (appliedAll os s)) ≡ false
-    → saidRead (begin ∷ (map operation os ++ (end ∷ []))) (carried s none n) ≡ given (carried (settled (appliedAll os s)) none (n + 1 + length os + 1))
-whole-append os s n h c o =
+-- (2) a whole append; its `B` drops what an open frame held
+pub whole-append : (os : List Operation) (s : State) (f : Frame) (n : ℕ) → length os ≤ 600 → conflictFree os s ≡ true → overLimit (settled (appliedAll os s)) ≡ false
+    → saidRead (begin ∷ (map operation os ++ (end ∷ []))) (carried s f n) ≡ given (carried (settled (appliedAll os s)) none (n + 1 + length os + 1))
+whole-append os s f n h c o =
     said-append (map operation os) (end ∷ []) (carried s (opened (n + 1) []) (n + 1))
     ∙ ap (λ (x : Result Carried). andThen x (saidRead (end ∷ []))) (ops-noted os [] s (n + 1) (n + 1) (omega arith))
     ∙ rw (framed-all (n + 1) os s c, o)
@@ -83,10 +80,10 @@ take-ops (suc k) [] l h = absurd (not-suc-le-zero h)
 take-ops (suc k) (o ∷ os) l h = ap (λ (t : List Line). operation o ∷ t) (take-ops k os l (le-of-suc-le-suc h))
 
 -- (3) a proper first part of it changes nothing at the end
-pub torn-append : (os : List Operation) (k : ℕ) (s : State) (n : ℕ) → length os ≤ 600 → k ≤ length os + 1
-    → andThen (saidRead (take k (begin ∷ (map operation os ++ (end ∷ [])))) (carried s none n)) (λ c. finished (c .state)) ≡ finished s
-torn-append os zero s n h q = refl
-torn-append os (suc k) s n h q =
+pub torn-append : (os : List Operation) (k : ℕ) (s : State) (f : Frame) (n : ℕ) → length os ≤ 600 → k ≤ length os + 1
+    → andThen (saidRead (take k (begin ∷ (map operation os ++ (end ∷ [])))) (carried s f n)) (λ c. finished (c .state)) ≡ finished s
+torn-append os zero s f n h q = refl
+torn-append os (suc k) s f n h q =
     let short : k ≤ length os = omega arith in
     let few : length (take k os) ≤ 600 = let e = length-take k os in omega arith in
     rw (take-ops k os (end ∷ []) short, ops-noted (take k os) [] s (n + 1) (n + 1) (omega arith))
