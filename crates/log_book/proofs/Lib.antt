@@ -1,3 +1,4 @@
 pub mod Rows
 pub mod Vacuums
+pub mod Manifests
 pub mod Book

@@ -1,6 +1,6 @@
 -- The rewritten manifest of what a replay gives holds the same state. Assumes nothing.
 use mathlib.Core.Path.{_≡_, refl, sym, ap, ap₂, subst, _∙_}
-use mathlib.Core.Bool.{Bool, true, false, _&&_}
+use mathlib.Core.Bool.{true, false}
 use mathlib.Core.List.{List, [], _∷_, _++_, map, append-assoc}
 use Prim.Native.Nat.{ℕ, _+_, _≤_}
 use native.Mathlib.Omega.{arith}
@@ -8,45 +8,21 @@ use lib.ListN.{length, length-append, length-map}
 use borrow.Author.Tests.{le-ltb}
 use Rattle.lists.specs.Keyed.{allOf}
 use Rattle.lists.proofs.Keyed.{keep-all}
-use Rattle.manifest.specs.Operations.{Operation, Line, begin, end, operation, wellFormed, wellLine}
-use Rattle.manifest.specs.Lines.{lineOf, textOf, lineText}
-use Rattle.manifest.specs.Split.{restOn, lines, joined}
-use Rattle.manifest.proofs.Lines.{read-back}
-use Rattle.manifest.proofs.Split.{rest-newline}
+use Rattle.manifest.specs.Operations.{Operation, Line, wellFormed}
+use Rattle.manifest.specs.Split.{lines}
+use Rattle.manifest.proofs.Split.{rest-none}
 use Rattle.frames.specs.Frames.{mostOperations, frameOf}
-use Rattle.frames.proofs.Texts.{textsOf, frame-is}
 use Rattle.snapshot.specs.Entries.{Entry}
 use Rattle.version_state.specs.Limits.{mostTables, mostHeld}
 use Rattle.version_state.specs.State.{State, start, withPairs, withVectors, withEpoch}
 use Rattle.rewrite.specs.Rewritten.{createOf, addOf, addVectorOf, rewriteOf, rewrittenOf}
 use Rattle.replay.specs.Replay.{given, none, carried, reopened, atStart, stands, settled, overLimit, linesRead, replayOf}
 use Rattle.recovery.specs.Holds.{Holds, appliedAll}
+use Rattle.recovery.proofs.Framed.{frame-lines, rest-frame}
 use Rattle.recovery.proofs.Reading.{saidRead, said-read, whole-append}
 use Rattle.recovery.proofs.SoundReading.{Rests, Whole, whole-replayed}
 use Rattle.recovery.proofs.Sound.{plain, rewrite-plain, well-rewrite}
 use Rattle.recovery.proofs.AgainBuilt.{Leads, plain-leads}
-
--- A frame's text, and its lines.
-frame-texts : (os : List Operation) → map lineText (map operation os ++ (end ∷ [])) ≡ map textOf os ++ (lineText end ∷ [])
-frame-texts [] = refl
-frame-texts (o ∷ os) = ap (λ (l : List (List ℕ)). textOf o ∷ l) (frame-texts os)
-
-frame-well : (os : List Operation) → allOf wellFormed os ≡ true → allOf wellLine (map operation os ++ (end ∷ [])) ≡ true
-frame-well os w = same os ∙ w
-  where
-    same : (os : List Operation) → allOf wellLine (map operation os ++ (end ∷ [])) ≡ allOf wellFormed os
-    same [] = refl
-    same (o ∷ os) = ap (λ (b : Bool). wellFormed o && b) (same os)
-
-frame-back : (os : List Operation) → allOf wellFormed os ≡ true → map lineOf (lines (frameOf os)) ≡ begin ∷ (map operation os ++ (end ∷ []))
-frame-back os w =
-    ap (λ (l : List (List ℕ)). map lineOf (lines (joined (lineText begin ∷ l)))) (sym (frame-texts os))
-    ∙ read-back (begin ∷ (map operation os ++ (end ∷ []))) (frame-well os w)
-
-frame-whole : (os : List Operation) → restOn [] (frameOf os) ≡ []
-frame-whole os =
-    ap (restOn []) (frame-is os ∙ sym (append-assoc (66 ∷ 10 ∷ textsOf os) (69 ∷ []) (10 ∷ [])))
-    ∙ rest-newline [] ((66 ∷ 10 ∷ textsOf os) ++ (69 ∷ []))
 
 -- a frame that leads to a state which rests
 frame-read : (os : List Operation) (s : State) → allOf wellFormed os ≡ true → length os ≤ mostOperations → Leads os (withEpoch start reopened 0) s → settled s ≡ s → overLimit s ≡ false
@@ -55,7 +31,7 @@ frame-read os s w few h q o =
     let fresh = withEpoch start reopened 0 in
     let e : settled (appliedAll os fresh) ≡ s = ap settled (h .1) ∙ q in
     said-read (lines (frameOf os)) atStart
-    ∙ ap (λ (ls : List Line). saidRead ls atStart) (frame-back os w)
+    ∙ ap (λ (ls : List Line). saidRead ls atStart) (frame-lines os w)
     ∙ whole-append os fresh none 1 few (h .0) (ap overLimit e ∙ o)
     ∙ ap (λ (u : State). given (carried u none (1 + 1 + length os + 1))) e
 
@@ -88,7 +64,7 @@ whole-again s w =
     let os = rewriteOf s in
     let e = sym (rewrite-plain s w) in
     record {
-      whole = frame-whole os;
+      whole = rest-frame [] os rest-none;
       frame = none;
       line = 1 + 1 + length os + 1;
       read = frame-read os s (well-rewrite s w) (subst (λ (l : List Operation). length l ≤ mostOperations) e (plain-few s r)) (subst (λ (l : List Operation). Leads l (withEpoch start reopened 0) s) e (plain-leads s r)) (rests-same s r) (rests-within s r);
