@@ -1,8 +1,7 @@
 -- The entries on pins. Assumes nothing.
-use mathlib.Core.Path.{_≡_, sym, ap, subst}
+use mathlib.Core.Path.{_≡_, refl, sym, ap, subst}
 use mathlib.Core.Bool.{true}
-use mathlib.Core.List.{List, []}
-use Prim.Native.Nat.{ℕ}
+use mathlib.Core.List.{List}
 use borrow.Author.Tests.{eq-eqb}
 use Rattle.lists.specs.Keyed.{allOf, ascending}
 use Rattle.version_state.specs.State.{State}
@@ -16,16 +15,15 @@ use Rattle.log_book.specs.Pins.{PinCases}
 pub pin-cases : PinCases
 pin-cases =
     record {
-      fresh = λ m b k s.
-          let q = sym (s .pins) in
+      fresh = λ r f.
+          let q = sym (f .book .pins) in
           sym
-          (pin-10 m b
-          (draw-laws .fresh (record { manager = m; book = b }) (record { manager = k; book = s .pins }))
-          (book-good (current m) b
+          (pin-10 (r .manager) (r .book) (draw-laws .fresh r f)
+          (book-good (current (r .manager)) (r .book)
           (record {
-            fits = s .fits;
-            valid = subst (λ (l : List PinEntry). allOf (validPin (current m)) l ≡ true) q mathlib.Core.Path.refl;
-            ordered = subst (λ (l : List PinEntry). ascending byEpoch l ≡ true) q mathlib.Core.Path.refl;
+            fits = f .book .fits;
+            valid = subst (λ (l : List PinEntry). allOf (validPin (current (r .manager))) l ≡ true) q refl;
+            ordered = subst (λ (l : List PinEntry). ascending byEpoch l ≡ true) q refl;
           }))
-          (eq-eqb (current m) 0 (ap (λ (t : State). t .epoch) (k .state))));
+          (eq-eqb (current (r .manager)) 0 (ap (λ (t : State). t .epoch) (f .manager .state))));
     }

@@ -1,4 +1,5 @@
 pub mod Rows
 pub mod Vacuums
+pub mod Manifests
 pub mod Pins
 pub mod LogBook

@@ -1,14 +1,11 @@
 -- Entries on pins. Assumes nothing.
 use mathlib.Core.Path.{_≡_}
-use mathlib.Core.List.{[]}
 use Rattle.ids.specs.declared.refusal.Refusal.the-variants.{PinAtEpochZero}
 use Rattle.ids.specs.declared.refusal.Verdict.the-variants.{Refused}
-use Rattle.version_state.specs.State.{start}
-use Rattle.pins.specs.declared.PinBook.{PinBook}
-use Rattle.version_manager.specs.declared.VersionManager.{VersionManager}
-use Rattle.version_manager.specs.Managers.{Manages}
-use Rattle.pinning.specs.Says.{Keeps, pinVerdict}
+use Rattle.version_manager.specs.declared.Opened.{Opened}
+use Rattle.version_manager.specs.Managers.{FreshSays}
+use Rattle.pinning.specs.Says.{pinVerdict}
 
 pub record PinCases : Type 0 where
   -- "Pin when fresh: 10."
-  pub fresh : (m : VersionManager) (b : PinBook) → Manages m start → Keeps b [] → pinVerdict m b ≡ Refused PinAtEpochZero
+  pub fresh : (r : Opened) → FreshSays r → pinVerdict (r .manager) (r .book) ≡ Refused PinAtEpochZero

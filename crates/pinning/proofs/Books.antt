@@ -10,10 +10,9 @@ use Rattle.lists.specs.Keyed.{allOf, isAt, put, without, ascending}
 use Rattle.lists.proofs.Tests.{by-cases, both}
 use Rattle.lists.proofs.Keyed.{allOf-all, all-allOf, all-map, all-keep, all-put, ascend-to, ascend-from, ascending-keep, ascending-put}
 use Rattle.pins.specs.declared.PinBook.{PinBook}
-use Rattle.pins.specs.Book.{PinEntry, pinsOf, byEpoch, validPin, badBook, GoodBook}
+use Rattle.pins.specs.Book.{PinEntry, pinsOf, byEpoch, validPin, badBook, GoodBook, Keeps}
 use Rattle.pins.proofs.Facts.{good-book, book-good}
 use Rattle.pinning.specs.Counts.{pinsOn, recounted}
-use Rattle.pinning.specs.Says.{Keeps}
 
 -- a list that rises does so after a count was changed
 pub recounted-rises : (d n : ℕ) (l : List PinEntry) → ascending byEpoch l ≡ true → ascending byEpoch (recounted d n l) ≡ true

@@ -7,11 +7,11 @@ use native.Mathlib.Omega.{arith}
 use Rattle.ids.specs.declared.refusal.Verdict.{Verdict}
 use Rattle.ids.specs.declared.refusal.Verdict.the-variants.{Accepted, Refused}
 use Rattle.pins.specs.declared.PinBook.{PinBook}
-use Rattle.pins.specs.Book.{PinEntry, pinsOf, badBook, GoodBook}
+use Rattle.pins.specs.Book.{PinEntry, pinsOf, badBook, GoodBook, Keeps}
 use Rattle.pins.proofs.Facts.{book-good}
 use Rattle.version_manager.specs.declared.VersionManager.{VersionManager}
 use Rattle.pinning.specs.Counts.{pinsAt, leftOn, withPin, withoutPin}
-use Rattle.pinning.specs.Says.{current, Keeps, BookAfter, pinVerdict, unpinVerdict}
+use Rattle.pinning.specs.Says.{current, BookAfter, pinVerdict, unpinVerdict}
 use Rattle.pinning.specs.Laws.{PinLaws}
 use Rattle.pinning.proofs.Counting.{pins-recounted}
 use Rattle.pinning.proofs.Books.{good-recounted, book-later}

@@ -17,14 +17,14 @@ use Rattle.version_state.specs.State.{Fit}
 use Rattle.version_state.specs.Sound.{badManager}
 use Rattle.version_state.proofs.Facts.{sound-of}
 use Rattle.pins.specs.declared.PinBook.{PinBook}
-use Rattle.pins.specs.Book.{pinsOf, badBook, GoodBook, pinned}
+use Rattle.pins.specs.Book.{pinsOf, badBook, GoodBook, Keeps, pinned}
 use Rattle.pins.proofs.Facts.{good-book}
 use Rattle.vacuum.specs.Says.{listOf}
 use Rattle.version_manager.specs.declared.VersionManager.{VersionManager}
 use Rattle.pinning.specs.declared.PinAnswer.the-variants as pin
 use Rattle.pinning.specs.declared.UnpinAnswer.the-variants as unpin
 use Rattle.pinning.specs.Counts.{mostPins, pinsAt, pinsFull, epochsFull, withPin, withoutPin}
-use Rattle.pinning.specs.Says.{current, Keeps, pinRules, pinVerdict, PinSays, unpinRules, unpinVerdict, isDue, UnpinSays}
+use Rattle.pinning.specs.Says.{current, pinRules, pinVerdict, PinSays, unpinRules, unpinVerdict, isDue, UnpinSays}
 use Rattle.pinning.proofs.Counting.{Counted, counted, place-had}
 
 module _ (v w x y z : Bool) where

@@ -12,7 +12,7 @@ use Rattle.ids.specs.Verdicts.{Rule, _⇒_, judged}
 use Rattle.ids.specs.Answers.{Told, told}
 use Rattle.version_state.specs.Sound.{badManager}
 use Rattle.pins.specs.declared.PinBook.{PinBook}
-use Rattle.pins.specs.Book.{PinEntry, pinsOf, mostPinned, badBook, pinned}
+use Rattle.pins.specs.Book.{PinEntry, pinsOf, Keeps, badBook, pinned}
 use Rattle.vacuum.specs.Says.{listOf}
 use Rattle.version_manager.specs.declared.VersionManager.{VersionManager}
 use Rattle.pinning.specs.declared.PinAnswer.{PinAnswer}
@@ -24,11 +24,6 @@ use Rattle.pinning.specs.Counts.{pinsFull, epochsFull, withPin, leftOn, 
 -- the current epoch
 abbrev pub current : VersionManager → ℕ
 current m = m .inner .epoch
-
--- the book stands for the pins l
-pub record Keeps (b : PinBook) (l : List PinEntry) : Type 0 where
-  pub fits : b .count ≤ mostPinned
-  pub pins : pinsOf b ≡ l
 
 -- the lent book afterwards: on a refusal the very same b, and else one that stands for l
 abbrev pub BookAfter : Verdict → PinBook → List PinEntry → PinBook → Type 0

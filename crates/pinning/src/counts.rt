@@ -9,9 +9,8 @@ ghost use lib.Dec.{ltb};
 ghost use lib.ListN.{length, getD, set};
 ghost use Rattle.lists.specs.Keyed.{isAt, put, without, ascending, rank};
 ghost use Rattle.lists.specs.Places.{insertAt};
-ghost use Rattle.pins.specs.Book.{pinEntry, pinsOf, byEpoch};
+ghost use Rattle.pins.specs.Book.{pinEntry, pinsOf, byEpoch, Keeps};
 ghost use Rattle.pinning.specs.Counts.{pinsOn, pinsAt, recounted, epochsFull};
-ghost use Rattle.pinning.specs.Says.{Keeps};
 
 pub fn pins_at(book: PinBook, epoch: u32) -> u16
     requires { ⌜ book .count ≤ 64 ⌝ }

@@ -39,6 +39,11 @@ pub record GoodBook (e : ℕ) (b : PinBook) : Type 0 where
   pub valid : allOf (validPin e) (pinsOf b) ≡ true
   pub ordered : ascending byEpoch (pinsOf b) ≡ true
 
+-- the book stands for the pins l
+pub record Keeps (b : PinBook) (l : List PinEntry) : Type 0 where
+  pub fits : b .count ≤ mostPinned
+  pub pins : pinsOf b ≡ l
+
 -- the epoch is pinned
 abbrev pub pinned : ℕ → List PinEntry → Bool
 pinned e l = has byEpoch (e ∷ []) l

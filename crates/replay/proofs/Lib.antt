@@ -3,4 +3,3 @@ pub mod Working
 pub mod Light
 pub mod Frames
 pub mod Handing
-pub mod Laws

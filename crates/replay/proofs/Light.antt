@@ -27,7 +27,7 @@ module _ {A : Type 0} (key : A → List ℕ) where
       let t : less (key x) (key y) ≡ true = by-cases (less (key x) (key y)) (λ t. t) (λ t. clash (same-eq (key y) (key x) (less-total (key y) (key x) e t)) f) in
       (t, all-map l (λ z. less-trans (key x) (key y) (key z) t) (s .0))
 
-  keep-put : (q : A → Bool) (x : A) (l : List A) → q x ≡ true → Ascending key l → keep q (put key x l) ≡ put key x (keep q l)
+  pub keep-put : (q : A → Bool) (x : A) (l : List A) → q x ≡ true → Ascending key l → keep q (put key x l) ≡ put key x (keep q l)
   keep-put q x [] qx s = rw qx
   keep-put q x (y ∷ l) qx s =
       by-cases (less (key y) (key x))
@@ -41,7 +41,7 @@ module _ {A : Type 0} (key : A → List ℕ) where
       (λ f. rw (e, f, qx) (sym (put-ahead x (keep q (y ∷ l)) (all-keep (λ z. less (key x) (key z) ≡ true) q (y ∷ l) (after-of x y l e f s))))))
 
   -- what is marked goes
-  keep-changed : (q : A → Bool) (k : List ℕ) (f : A → A) → ((x : A) → q (f x) ≡ false) → (l : List A) → keep q (changed key k f l) ≡ without key k (keep q l)
+  pub keep-changed : (q : A → Bool) (k : List ℕ) (f : A → A) → ((x : A) → q (f x) ≡ false) → (l : List A) → keep q (changed key k f l) ≡ without key k (keep q l)
   keep-changed q k f gone [] = refl
   keep-changed q k f gone (y ∷ l) =
       by-cases (isAt key k y)

@@ -25,8 +25,8 @@ ghost use Rattle.ids.specs.Names.{nameOf};
 ghost use Rattle.manifest.specs.Operations.{Operation, createTable, dropTable, addRowset, deleteRowset, addVector, deleteVector, nextIds, end, operation, operationBy, operationOf, lineSaid};
 ghost use Rattle.manifest.specs.Split.{lines};
 ghost use Rattle.snapshot.specs.Tables.{byTable, nameTaken};
-ghost use Rattle.replay.specs.Replay.{atStart, carried, linesRead, lineRead, limited, andThen, Frame, replayOf};
-ghost use Rattle.replay.specs.Working.{leading, saidFrom, HereOf, HereSays, OperationSays, framedLightly, FrameIs, Small, EndIs, BegunOk, BegunIs, TurnIs, Ready, RunIs, ReplayIs, lineHere, shapeSaid, nameSaid, slices, tablesIn, stateIn, wide32, TablesGood, PairsGood, VectorsGood, Good, oneOf, AppliedIs};
+ghost use Rattle.replay.specs.Replay.{atStart, carried, linesRead, lineRead, limited, andThen, Frame, replayOf, ReplayIs};
+ghost use Rattle.replay.specs.Working.{leading, saidFrom, HereOf, HereSays, OperationSays, framedLightly, FrameIs, Small, EndIs, BegunOk, BegunIs, TurnIs, Ready, RunIs, lineHere, shapeSaid, nameSaid, slices, tablesIn, stateIn, wide32, TablesGood, PairsGood, VectorsGood, Good, oneOf, AppliedIs};
 
 pub mod finish;
 
@@ -128,7 +128,7 @@ fn accepted(sets: Sets) -> Applied
 fn line_here(src: &[u8], at: usize) -> Parsed
     ensures { λ r. ⌜ lineSaid r ≡ lineHere (now (src .entry)) at ⌝ }
 {
-    match manifest::reader::line_at(src, at) {
+    match manifest_lines::next_line(src, at) {
         LineAt::Line {
             start,
             end,
@@ -460,7 +460,7 @@ fn operation_of(p: Parsed, next: usize) -> Here
 fn operation_at(src: &[u8], at: usize) -> Here
     ensures { λ r. ⌜ HereSays (now (src .entry)) at r ⌝ }
 {
-    match manifest::reader::line_at(src, at) {
+    match manifest_lines::next_line(src, at) {
         LineAt::Line { start, end, next } => {
             let p = manifest::parser::parse(&src[start..end]);
             operation_of(p, next)
@@ -748,7 +748,7 @@ fn run(
     let mut at: usize = 0;
     let mut n: usize = 1;
     loop {
-        match manifest::reader::line_at(src, at) {
+        match manifest_lines::next_line(src, at) {
             LineAt::Line { start, end, next } => {
                 let p = manifest::parser::parse(&src[start..end]);
                 let turn = read_line(

@@ -1,8 +1,7 @@
 -- Managers that are handed back: one place for what a manager holds beside its state. Assumes nothing.
-use mathlib.Core.Path.{_≡_}
 use mathlib.Core.List.{[]}
 use Rattle.version_state.specs.State.{State, start, Hands}
-use Rattle.pins.specs.Book.{pinsOf}
+use Rattle.pins.specs.Book.{Keeps}
 use Rattle.commit.specs.declared.Committed as committed
 use Rattle.vacuum.specs.declared.Vacuumed as vacuumed
 use Rattle.version_manager.specs.declared.VersionManager.{VersionManager}
@@ -17,7 +16,7 @@ Manages m s = Hands (m .inner) s
 -- fresh: a manager at the start, and an empty book
 pub record FreshSays (r : Opened) : Type 0 where
   pub manager : Manages (r .manager) start
-  pub book : pinsOf (r .book) ≡ []
+  pub book : Keeps (r .book) []
 
 -- what the work below a method returned, of what the method hands back
 abbrev pub committedOf : Committed → committed.Committed

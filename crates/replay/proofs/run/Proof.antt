@@ -29,26 +29,26 @@ loop-holds c =
     let s = c .before .no-sets .ensures in
     reading-start _ _ _ _ (good-start _ _ (g .0) (g .1) (g .2) (g .3) (g .4) (g .5) (s .3) (s .4) (s .5)) (s .0) (s .1) (s .2) (s .3) (s .4) (s .5) (c .no-frame .ensures .0) (c .no-frame .ensures .1 _) (g .6)
 
-line-at-requires : tie.Need-line-at-requires Inv-loop μ-loop
-line-at-requires c κs = search known
+next-line-requires : tie.Need-next-line-requires Inv-loop μ-loop
+next-line-requires c κs = search known
 
 enum-known-start : tie.Need-enum-known-start Inv-loop μ-loop
 enum-known-start c = search known
 
 sub-parse : tie.Need-sub-parse Inv-loop μ-loop
-sub-parse c = let p = line-placed _ _ _ _ _ (sym (c .before .before .before .line-at .ensures) ∙ c .before .start .given .1) in let inv = c .before .before .before .before .loop .inv in let il = inv .line in let ii = inv .inside in let is = inv .ready .short in omega arith
+sub-parse c = let p = line-placed _ _ _ _ _ (sym (c .before .before .before .next-line .ensures) ∙ c .before .start .given .1) in let inv = c .before .before .before .before .loop .inv in let il = inv .line in let ii = inv .inside in let is = inv .ready .short in omega arith
 
 part-parse-start : tie.Need-part-parse-start Inv-loop μ-loop
-part-parse-start c = let p = line-placed _ _ _ _ _ (sym (c .before .before .before .line-at .ensures) ∙ c .before .start .given .1) in let inv = c .before .before .before .before .loop .inv in let il = inv .line in let ii = inv .inside in let is = inv .ready .short in omega arith
+part-parse-start c = let p = line-placed _ _ _ _ _ (sym (c .before .before .before .next-line .ensures) ∙ c .before .start .given .1) in let inv = c .before .before .before .before .loop .inv in let il = inv .line in let ii = inv .inside in let is = inv .ready .short in omega arith
 
 part-parse-end : tie.Need-part-parse-end Inv-loop μ-loop
-part-parse-end c = let p = line-placed _ _ _ _ _ (sym (c .before .before .before .line-at .ensures) ∙ c .before .start .given .1) in let inv = c .before .before .before .before .loop .inv in let il = inv .line in let ii = inv .inside in let is = inv .ready .short in omega arith
+part-parse-end c = let p = line-placed _ _ _ _ _ (sym (c .before .before .before .next-line .ensures) ∙ c .before .start .given .1) in let inv = c .before .before .before .before .loop .inv in let il = inv .line in let ii = inv .inside in let is = inv .ready .short in omega arith
 
 parse-requires : tie.Need-parse-requires Inv-loop μ-loop
 parse-requires c κs = search known
 
 read-line-requires : tie.Need-read-line-requires Inv-loop μ-loop
-read-line-requires c κs = let p = line-placed _ _ _ _ _ (sym (c .before .before .before .before .before .before .before .before .before .before .before .line-at .ensures) ∙ c .before .before .before .before .before .before .before .before .before .start .given .1) in let inv = c .before .before .before .before .before .before .before .before .before .before .before .before .loop .inv in let il = inv .line in let ii = inv .inside in let is = inv .ready .short in (inv .ready, omega arith, p .inside)
+read-line-requires c κs = let p = line-placed _ _ _ _ _ (sym (c .before .before .before .before .before .before .before .before .before .before .before .next-line .ensures) ∙ c .before .before .before .before .before .before .before .before .before .start .given .1) in let inv = c .before .before .before .before .before .before .before .before .before .before .before .before .loop .inv in let il = inv .line in let ii = inv .inside in let is = inv .ready .short in (inv .ready, omega arith, p .inside)
 
 accepted-requires : tie.Need-accepted-requires Inv-loop μ-loop
 accepted-requires c κs = search known
@@ -74,21 +74,21 @@ same-length-6 c = let a = c .before .before .before .before .before .before .bef
 returns : tie.Need-returns Inv-loop μ-loop
 returns c =
     let inv = c .before .before .before .before .before .before .before .before .before .before .before .before .before .before .before .before .before .before .before .before .before .before .before .before .before .before .before .before .loop .inv in
-    let h = (sym (c .before .before .before .before .before .before .before .before .before .before .before .before .before .before .before .before .before .before .before .before .before .before .before .before .before .before .before .line-at .ensures) ∙ c .before .before .before .before .before .before .before .before .before .before .before .before .before .before .before .before .before .before .before .before .before .before .before .before .before .start .given .1) in
+    let h = (sym (c .before .before .before .before .before .before .before .before .before .before .before .before .before .before .before .before .before .before .before .before .before .before .before .before .before .before .before .next-line .ensures) ∙ c .before .before .before .before .before .before .before .before .before .before .before .before .before .before .before .before .before .before .before .before .before .before .before .before .before .start .given .1) in
     let s = said-as _ _ _ _ (said-line _ _ _ _ _ h) (c .before .before .before .before .before .before .before .before .before .before .before .before .before .before .before .before .before .before .before .before .before .before .parse .ensures) in
     let t = turn-as _ _ _ _ _ _ _ (c .before .before .before .before .before .before .before .before .before .before .before .before .before .before .before .before .before .before .before .before .before .before .parse .ensures) (c .before .before .before .before .before .before .before .before .before .before .before .before .before .before .before .read-line .ensures (c .before .before .before .before .before .before .before .before .before .before .before .before .before .before .before .before .before .before .before .before .before .before .before .before .before .before .before .before .loop .at) (inv .frame) s (inv .begun)) in
     reading-stop _ _ _ _ _ _ inv _ _ _ _ h _ t _ (sym (c .before .accepted .ensures) ∙ not-true _ (c .if1 .taken)) refl
 
 add-n : tie.Need-add-n Inv-loop μ-loop
-add-n c = let p = line-placed _ _ _ _ _ (sym (c .before .before .before .before .before .before .before .before .before .before .before .before .before .before .before .before .before .before .before .before .before .before .before .before .before .before .before .before .line-at .ensures) ∙ c .before .before .before .before .before .before .before .before .before .before .before .before .before .before .before .before .before .before .before .before .before .before .before .before .before .before .start .given .1) in let inv = c .before .before .before .before .before .before .before .before .before .before .before .before .before .before .before .before .before .before .before .before .before .before .before .before .before .before .before .before .before .loop .inv in let il = inv .line in let ii = inv .inside in let is = inv .ready .short in omega arith
+add-n c = let p = line-placed _ _ _ _ _ (sym (c .before .before .before .before .before .before .before .before .before .before .before .before .before .before .before .before .before .before .before .before .before .before .before .before .before .before .before .before .next-line .ensures) ∙ c .before .before .before .before .before .before .before .before .before .before .before .before .before .before .before .before .before .before .before .before .before .before .before .before .before .before .start .given .1) in let inv = c .before .before .before .before .before .before .before .before .before .before .before .before .before .before .before .before .before .before .before .before .before .before .before .before .before .before .before .before .before .loop .inv in let il = inv .line in let ii = inv .inside in let is = inv .ready .short in omega arith
 
 loop-less : tie.Need-loop-less Inv-loop μ-loop
-loop-less c = let p = line-placed _ _ _ _ _ (sym (c .before .before .before .before .before .before .before .before .before .before .before .before .before .before .before .before .before .before .before .before .before .before .before .before .before .before .before .before .line-at .ensures) ∙ c .before .before .before .before .before .before .before .before .before .before .before .before .before .before .before .before .before .before .before .before .before .before .before .before .before .before .start .given .1) in let inv = c .before .before .before .before .before .before .before .before .before .before .before .before .before .before .before .before .before .before .before .before .before .before .before .before .before .before .before .before .before .loop .inv in let il = inv .line in let ii = inv .inside in let is = inv .ready .short in omega arith
+loop-less c = let p = line-placed _ _ _ _ _ (sym (c .before .before .before .before .before .before .before .before .before .before .before .before .before .before .before .before .before .before .before .before .before .before .before .before .before .before .before .before .next-line .ensures) ∙ c .before .before .before .before .before .before .before .before .before .before .before .before .before .before .before .before .before .before .before .before .before .before .before .before .before .before .start .given .1) in let inv = c .before .before .before .before .before .before .before .before .before .before .before .before .before .before .before .before .before .before .before .before .before .before .before .before .before .before .before .before .before .loop .inv in let il = inv .line in let ii = inv .inside in let is = inv .ready .short in omega arith
 
 loop-again : tie.Need-loop-again Inv-loop μ-loop
 loop-again c =
     let inv = c .before .before .before .before .before .before .before .before .before .before .before .before .before .before .before .before .before .before .before .before .before .before .before .before .before .before .before .before .before .loop .inv in
-    let h = (sym (c .before .before .before .before .before .before .before .before .before .before .before .before .before .before .before .before .before .before .before .before .before .before .before .before .before .before .before .before .line-at .ensures) ∙ c .before .before .before .before .before .before .before .before .before .before .before .before .before .before .before .before .before .before .before .before .before .before .before .before .before .before .start .given .1) in
+    let h = (sym (c .before .before .before .before .before .before .before .before .before .before .before .before .before .before .before .before .before .before .before .before .before .before .before .before .before .before .before .before .next-line .ensures) ∙ c .before .before .before .before .before .before .before .before .before .before .before .before .before .before .before .before .before .before .before .before .before .before .before .before .before .before .start .given .1) in
     let s = said-as _ _ _ _ (said-line _ _ _ _ _ h) (c .before .before .before .before .before .before .before .before .before .before .before .before .before .before .before .before .before .before .before .before .before .before .before .parse .ensures) in
     let t = turn-as _ _ _ _ _ _ _ (c .before .before .before .before .before .before .before .before .before .before .before .before .before .before .before .before .before .before .before .before .before .before .before .parse .ensures) (c .before .before .before .before .before .before .before .before .before .before .before .before .before .before .before .before .read-line .ensures (c .before .before .before .before .before .before .before .before .before .before .before .before .before .before .before .before .before .before .before .before .before .before .before .before .before .before .before .before .before .loop .at) (inv .frame) s (inv .begun)) in
     reading-on _ _ _ _ _ _ inv _ _ _ _ h _ t (sym (c .before .before .accepted .ensures) ∙ not-false _ (c .before .if1 .left))
@@ -118,7 +118,7 @@ same-length-12 : tie.Need-same-length-12 Inv-loop μ-loop
 same-length-12 c = let a = c .before .before .before .before .loop .inv .ready .good .vectors .second in let b = c .before .before .before .before .before .before .before .before .before .before .before .before .before .before .pre .5 in omega arith
 
 returns-2 : tie.Need-returns-2 Inv-loop μ-loop
-returns-2 c = reading-end _ _ _ _ _ _ (c .before .before .before .before .loop .inv) _ (sym (c .before .before .before .line-at .ensures) ∙ c .before .enum-told .given .1) (c .accepted2 .ensures .0) (c .accepted2 .ensures .1)
+returns-2 c = reading-end _ _ _ _ _ _ (c .before .before .before .before .loop .inv) _ (sym (c .before .before .before .next-line .ensures) ∙ c .before .enum-told .given .1) (c .accepted2 .ensures .0) (c .accepted2 .ensures .1)
 
 pub run-spec : {M : Type 1} → statement M
 run-spec =
@@ -129,7 +129,7 @@ run-spec =
     no-sets-requires
     no-frame-requires
     loop-holds
-    line-at-requires
+    next-line-requires
     enum-known-start
     sub-parse
     part-parse-start

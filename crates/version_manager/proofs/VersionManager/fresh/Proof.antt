@@ -1,4 +1,5 @@
 -- `version_manager::VersionManager::fresh` meets its contract. Assumes nothing.
+use native.Mathlib.Omega.{arith}
 use Rattle.lists.proofs.Places.{known}
 use borrow.Author.Needs.{needs}
 use Rattle.version_manager.proofs.VersionManager.fresh.Statement.{statement}
@@ -14,7 +15,7 @@ none-requires : tie.Need-none-requires
 none-requires c κs = search known
 
 returns : tie.Need-returns
-returns c = record { manager = rw (c .before .handed .ensures) (c .before .before .fresh .ensures); book = c .none .ensures .1 }
+returns c = record { manager = rw (c .before .handed .ensures) (c .before .before .fresh .ensures); book = record { fits = omega (arith, c .none .ensures .0); pins = c .none .ensures .1 } }
 
 pub fresh-spec : {M : Type 1} → statement M
 fresh-spec = tie.close (tie.spec fresh-requires handed-requires none-requires returns)

@@ -1,0 +1,128 @@
+-- What a manifest that holds a state is read to, by itself and with a frame after it, whole or torn. Assumes nothing.
+use mathlib.Core.Path.{_≡_, refl, sym, ap, _∙_}
+use mathlib.Core.Bool.{true}
+use mathlib.Core.List.{List, [], _++_, map}
+use Prim.Native.Nat.{ℕ, _+_, _≤_, _<_}
+use native.Mathlib.Omega.{arith}
+use lib.ListN.{length, take, length-map, length-take}
+use borrow.Author.Tests.{le-ltb}
+use Rattle.lists.specs.Keyed.{allOf}
+use Rattle.manifest.specs.declared.operation.Batch.{Batch}
+use Rattle.manifest.specs.Operations.{Operation, Line, wellFormed, operationOf, batchOf}
+use Rattle.manifest.specs.Lines.{lineOf}
+use Rattle.manifest.specs.Split.{restOn, lines, linesOn}
+use Rattle.manifest.proofs.Split.{lines-append}
+use Rattle.frames.specs.Frames.{mostOperations, frameOf}
+use Rattle.version_state.specs.declared.VersionManagerInner.{VersionManagerInner}
+use Rattle.version_state.specs.Limits.{longestManifest}
+use Rattle.version_state.specs.State.{State, start, withEpoch, stateOf}
+use Rattle.version_state.proofs.Facts.{sound-of}
+use Rattle.operations.specs.Steps.{left}
+use Rattle.commit.specs.Commit.{commitOf}
+use Rattle.commit.proofs.Sounds.{Accepts, accepts}
+use Rattle.replay.specs.Replay.{Result, given, andThen, none, Carried, carried, reopened, atStart, linesRead, finished, linesReplayed, replayOf}
+use Rattle.recovery.specs.Sets.{setsOf}
+use Rattle.recovery.specs.Holds.{Holds, appliedAll, followed, Appended, first, committed, other}
+use Rattle.recovery.proofs.Reading.{saidRead, said-read, read-append, whole-append, torn-append}
+use Rattle.recovery.proofs.Framed.{frame-lines, rest-frame, torn-lines}
+use Rattle.recovery.proofs.Replays.{holds-read, sets-settled}
+use Rattle.recovery.proofs.Besides.{Went, beside-start, beside-steps}
+use Rattle.recovery.proofs.Owned.{none-tableless, none-orphaned, none-over}
+
+pub empty-holds : Holds [] (withEpoch start reopened 0)
+unfolding restOn lines linesOn
+empty-holds = record { whole = refl; frame = none; line = 1; read = refl; tables = refl; rowsets = refl }
+
+short-replayed : (src : List ℕ) → length src ≤ longestManifest → replayOf src ≡ linesReplayed (lines src)
+short-replayed src h = rw (le-ltb longestManifest (length src) h)
+
+holds-finished : (src : List ℕ) (s : State) → Holds src s → finished s ≡ given s
+holds-finished src s h = rw (h .tables) (ap given (h .rowsets))
+
+pub holds-replayed : (src : List ℕ) (s : State) → Holds src s → length src ≤ longestManifest → replayOf src ≡ given s
+holds-replayed src s h q =
+    short-replayed src q
+    ∙ ap (λ (x : Result Carried). andThen x (λ c. finished (c .state))) (h .read)
+    ∙ holds-finished src s h
+
+-- lines after those that are read to s
+module _ (src more : List ℕ) (s : State) (h : Holds src s) where
+  pub read-on : linesRead (lines (src ++ more)) atStart ≡ saidRead (map lineOf (lines more)) (carried s (h .frame) (h .line))
+  read-on =
+      ap (λ (ls : List (List ℕ)). linesRead ls atStart) (lines-append src more (h .whole))
+      ∙ read-append (lines src) (lines more) atStart
+      ∙ ap (λ (x : Result Carried). andThen x (linesRead (lines more))) (h .read)
+      ∙ said-read (lines more) (carried s (h .frame) (h .line))
+
+pub torn-replayed : (src : List ℕ) (s : State) (os : List Operation) (k : ℕ)
+    → Holds src s → allOf wellFormed os ≡ true → length os ≤ mostOperations → k < length (frameOf os)
+    → length (src ++ take k (frameOf os)) ≤ longestManifest
+    → replayOf (src ++ take k (frameOf os)) ≡ given s
+torn-replayed src s os k h w few q short =
+    let r = torn-lines os k w q in
+    let c = carried s (h .frame) (h .line) in
+    short-replayed (src ++ take k (frameOf os)) short
+    ∙ ap (λ (x : Result Carried). andThen x (λ d. finished (d .state))) (read-on src (take k (frameOf os)) s h ∙ ap (λ (ls : List Line). saidRead ls c) (r .2))
+    ∙ torn-append os (r .0) s (h .frame) (h .line) few (r .1)
+    ∙ holds-finished src s h
+
+batch-length : (b : Batch) → b .count ≤ 600 → length (batchOf b) ≤ 600
+batch-length b h = omega (arith, length-map (take (b .count) (b .changes)) operationOf, length-take (b .count) (b .changes), h)
+
+-- an accepted commit of a manager with the same sets
+module _ (src : List ℕ) (s : State) (m : VersionManagerInner) (b : Batch) (room : ℕ) (u : State) (h : Holds src s) (k : setsOf (stateOf m) ≡ setsOf s) (c : commitOf m b room ≡ left u) where
+  a : Accepts m b room u
+  a = accepts m b room u c
+
+  went : Went (m .epoch + 1) (batchOf b) (a .done) s
+  went =
+      let start = beside-start m s (sound-of m (a .bad)) (holds-read src s h) k in
+      beside-steps (m .epoch + 1) 0 (batchOf b) (stateOf m) (a .done) s (omega arith) start (a .steps)
+
+  whole-holds : Holds (src ++ frameOf (batchOf b)) (followed (batchOf b) s)
+  whole-holds =
+      let os = batchOf b in
+      let e = m .epoch + 1 in
+      let v = appliedAll os s in
+      record {
+        whole = rest-frame src os (h .whole);
+        frame = none;
+        line = h .line + 1 + length os + 1;
+        read =
+            read-on src (frameOf os) s h
+            ∙ ap (λ (ls : List Line). saidRead ls (carried s (h .frame) (h .line))) (frame-lines os (went .well))
+            ∙ whole-append os s (h .frame) (h .line) (batch-length b (a .short)) (went .free) (none-over e (a .done) v (went .beside));
+        tables = none-tableless e (a .done) v (went .beside) (a .whole);
+        rowsets = none-orphaned e (a .done) v (went .beside) (a .whole);
+      }
+
+  whole-sets : setsOf (followed (batchOf b) s) ≡ setsOf u
+  whole-sets =
+      sets-settled (appliedAll (batchOf b) s) (went .beside .read)
+      ∙ sym (went .beside .same)
+      ∙ ap setsOf (a .state)
+
+  pub whole-appended : Holds (src ++ frameOf (batchOf b)) (followed (batchOf b) s) × (setsOf (followed (batchOf b) s) ≡ setsOf u)
+  whole-appended = (whole-holds, whole-sets)
+
+-- a state that the manifest holds, with the manager's sets
+pub record Held (src : List ℕ) (m : VersionManagerInner) : Type 0 where
+  pub state : State
+  pub holds : Holds src state
+  pub same : setsOf (stateOf m) ≡ setsOf state
+
+held : (src : List ℕ) (m : VersionManagerInner) → Appended src m → Held src m
+held _ _ (first m h) = record { state = withEpoch start reopened 0; holds = empty-holds; same = ap setsOf (h .state) }
+held _ _ (committed src m n b room u p c h) =
+    let i = held src m p in
+    let w = whole-appended src (i .state) m b room u (i .holds) (i .same) c in
+    record { state = followed (batchOf b) (i .state); holds = w .0; same = ap setsOf (h .state) ∙ sym (w .1) }
+held _ _ (other src m n p q) =
+    let i = held src m p in
+    record { state = i .state; holds = i .holds; same = q ∙ i .same }
+
+pub made-replayed : (src : List ℕ) (m : VersionManagerInner) → Appended src m → length src ≤ longestManifest
+    → (s : State) × (Holds src s × (setsOf (stateOf m) ≡ setsOf s) × (replayOf src ≡ given s))
+made-replayed src m p q =
+    let i = held src m p in
+    (i .state, (i .holds, i .same, holds-replayed src (i .state) (i .holds) q))

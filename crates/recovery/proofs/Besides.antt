@@ -1,0 +1,177 @@
+-- A commit at an epoch beside a replay of its operations: the same sets after each of them, and no conflict. Assumes nothing.
+use mathlib.Core.Path.{_≡_, refl, sym, ap, subst, _∙_}
+use mathlib.Core.Bool.{true, false, cond, not}
+use mathlib.Core.List.{List, [], _∷_, map}
+use Prim.Native.Nat.{ℕ, _+_, _≤_}
+use native.Mathlib.Omega.{arith}
+use lib.Dec.{leb}
+use lib.ListN.{length, length-map, length-take, take}
+use borrow.Author.Tests.{le-leb, leb-false, ltb-true, eqb-true, ne-eqb, not-false}
+use Rattle.lists.specs.Order.{same}
+use Rattle.lists.specs.Keyed.{allOf, has, isAt, put, without, changed}
+use Rattle.lists.proofs.Tests.{join}
+use Rattle.lists.proofs.Keyed.{All, all-map, allOf-all, none-anyOf, anyOf-map, keep-same, length-keep, length-put}
+use Rattle.ids.specs.declared.refusal.Verdict.the-variants.{Accepted}
+use Rattle.ids.specs.Verdicts.{judged}
+use Rattle.ids.proofs.Verdicts.{none-judged}
+use Rattle.manifest.specs.Operations.{Operation, createTable, dropTable, addRowset, deleteRowset, addVector, deleteVector, nextIds, wellFormed}
+use Rattle.snapshot.specs.Entries.{Entry, addedAt, deletedAt, goneAt, shownAt, shownBy, shown, byIds}
+use Rattle.snapshot.specs.Tables.{TableEntry, created, byTable, nameTaken}
+use Rattle.version_state.specs.declared.VersionManagerInner.{VersionManagerInner}
+use Rattle.version_state.specs.State.{State, stateOf, pairsAt, vectorsAt}
+use Rattle.version_state.proofs.Within.{Within, within-of}
+use Rattle.version_state.proofs.Facts.{Ordered, Sound}
+use Rattle.operations.specs.Effect.{applied}
+use Rattle.operations.specs.Judge.{isLive, opRules}
+use Rattle.operations.specs.Steps.{Outcome, left, stopped, andThen, stepOf, stepsOf}
+use Rattle.commit.proofs.Stepwise.{Below, below-applied, ordered-applied, halt, step-left}
+use Rattle.replay.specs.Replay.{reopened, conflicts}
+use Rattle.recovery.specs.Sets.{Sets, sets, unlocked, setsOf}
+use Rattle.recovery.specs.Holds.{appliedAll}
+use Rattle.recovery.proofs.Reading.{conflictFree}
+use Rattle.recovery.proofs.Effects.{setsAt, onSets, on-sets}
+use Rattle.recovery.proofs.Replays.{Read, read-applied}
+
+-- within document 01's limits
+pub record Few (s : State) : Type 0 where
+  pub tables : length (s .tables) ≤ 16
+  pub pairs : length (s .pairs) ≤ 256
+  pub vectors : length (s .vectors) ≤ 256
+
+few-deleted : (e : ℕ) (k : List ℕ) (l : List Entry) → length l ≤ 256 → length (changed byIds k (deletedAt e) l) ≤ 256
+few-deleted e k l h = let q = length-map l (λ x. cond (isAt byIds k x) (deletedAt e x) x) in omega arith
+
+few-put : (e : ℕ) (k : List ℕ) (l : List Entry) → leb 256 (length l) ≡ false → length (put byIds (addedAt e k) l) ≤ 256
+few-put e k l h = omega (arith, length-put byIds (addedAt e k) l, leb-false 256 (length l) h)
+
+few-applied : (i e : ℕ) (o : Operation) (s : State) → judged (opRules i e o s) ≡ Accepted → Few s → Few (applied e o s)
+few-applied i e (createTable t h n) s a f =
+    let p = none-judged (opRules i e (createTable t h n) s) a in
+    record { tables = omega (arith, length-put byTable (created t h n) (s .tables), leb-false 16 (length (s .tables)) (p .1 .1 .1 .0)); pairs = f .pairs; vectors = f .vectors }
+few-applied i e (dropTable t) s a f =
+    record { tables = omega (arith, length-keep (λ y. not (isAt byTable (t ∷ []) y)) (s .tables), f .tables); pairs = f .pairs; vectors = f .vectors }
+few-applied i e (addRowset t r) s a f =
+    let p = none-judged (opRules i e (addRowset t r) s) a in
+    record { tables = f .tables; pairs = few-put e (t ∷ r ∷ []) (s .pairs) (p .1 .1 .1 .1 .0); vectors = f .vectors }
+few-applied i e (deleteRowset t r) s a f = record { tables = f .tables; pairs = few-deleted e (t ∷ r ∷ []) (s .pairs) (f .pairs); vectors = f .vectors }
+few-applied i e (addVector t r v) s a f =
+    let p = none-judged (opRules i e (addVector t r v) s) a in
+    record { tables = f .tables; pairs = f .pairs; vectors = few-put e (t ∷ r ∷ v ∷ []) (s .vectors) (p .1 .1 .1 .1 .0) }
+few-applied i e (deleteVector t r v) s a f = record { tables = f .tables; pairs = f .pairs; vectors = few-deleted e (t ∷ r ∷ v ∷ []) (s .vectors) (f .vectors) }
+few-applied i e (nextIds t r v) s a f = record { tables = f .tables; pairs = f .pairs; vectors = f .vectors }
+
+-- t is the committing state, v the replayed one
+pub record Beside (e : ℕ) (t v : State) : Type 0 where
+  pub ordered : Ordered t
+  pub below : Below (t .nextTable) (t .tables)
+  pub few : Few t
+  pub read : Read v
+  pub same : setsAt e t ≡ setsAt reopened v
+
+module _ (e : ℕ) (t v : State) (b : Beside e t v) where
+  tables-same : map unlocked (t .tables) ≡ map unlocked (v .tables)
+  tables-same = ap (λ (z : Sets). z .tables) (b .same)
+
+  live-same : (x : ℕ) → isLive x v ≡ isLive x t
+  live-same x =
+      sym (anyOf-map unlocked (isAt byTable (x ∷ [])) (v .tables))
+      ∙ ap (has byTable (x ∷ [])) (sym tables-same)
+      ∙ anyOf-map unlocked (isAt byTable (x ∷ [])) (t .tables)
+
+  name-same : (n : List ℕ) → nameTaken n (v .tables) ≡ nameTaken n (t .tables)
+  name-same n =
+      sym (anyOf-map unlocked (λ (x : TableEntry). same (x .name) n) (v .tables))
+      ∙ ap (nameTaken n) (sym tables-same)
+      ∙ anyOf-map unlocked (λ (x : TableEntry). same (x .name) n) (t .tables)
+
+next-absent : (n : ℕ) (l : List TableEntry) → Below n l → has byTable (n ∷ []) l ≡ false
+next-absent n l b = none-anyOf (isAt byTable (n ∷ [])) l (all-map l (λ x h. rw (ne-eqb (x .table) n (omega (arith, ltb-true (x .table) n h)))) b)
+
+no-conflict : (i e : ℕ) (o : Operation) (t v : State) → Beside e t v → judged (opRules i e o t) ≡ Accepted → conflicts o v ≡ false
+no-conflict i e (createTable x h n) t v b a =
+    let p = none-judged (opRules i e (createTable x h n) t) a in
+    let q : x ≡ t .nextTable = eqb-true x (t .nextTable) (not-false _ (p .1 .0)) in
+    let dead : isLive x t ≡ false = rw q (next-absent (t .nextTable) (t .tables) (b .below)) in
+    rw (live-same e t v b x, dead, name-same e t v b n) (p .1 .1 .0)
+no-conflict i e (dropTable x) t v b a =
+    let p = none-judged (opRules i e (dropTable x) t) a in
+    rw (live-same e t v b x) (p .1 .0)
+no-conflict i e (addRowset x r) t v b a = refl
+no-conflict i e (deleteRowset x r) t v b a = refl
+no-conflict i e (addVector x r w) t v b a = refl
+no-conflict i e (deleteVector x r w) t v b a = refl
+no-conflict i e (nextIds x r w) t v b a = refl
+
+well-formed : (i e : ℕ) (o : Operation) (t : State) → judged (opRules i e o t) ≡ Accepted → wellFormed o ≡ true
+well-formed i e o t a = not-false _ (none-judged (opRules i e o t) a .0)
+
+beside-applied : (i e : ℕ) (o : Operation) (t v : State) → 1 ≤ e → judged (opRules i e o t) ≡ Accepted → Beside e t v → Beside e (applied e o t) (applied reopened o v)
+beside-applied i e o t v h a b =
+    record {
+      ordered = ordered-applied e o t (b .ordered);
+      below = below-applied e o t (b .below);
+      few = few-applied i e o t a (b .few);
+      read = read-applied o v (b .read);
+      same = on-sets e o t h (b .ordered) ∙ ap (onSets o) (b .same) ∙ sym (on-sets reopened o v (omega arith) (b .read .ordered));
+    }
+
+-- operations that a commit accepts: well formed, without conflict, and both are side by side after them
+pub record Went (e : ℕ) (os : List Operation) (w v : State) : Type 0 where
+  pub well : allOf wellFormed os ≡ true
+  pub free : conflictFree os v ≡ true
+  pub beside : Beside e w (appliedAll os v)
+
+went-on : (e : ℕ) (o : Operation) (os : List Operation) (w v : State) → wellFormed o ≡ true → conflicts o v ≡ false → Went e os w (applied reopened o v) → Went e (o ∷ os) w v
+went-on e o os w v f c g = record { well = join f (g .well); free = rw c (g .free); beside = g .beside }
+
+pub beside-steps : (e i : ℕ) (os : List Operation) (t w v : State) → 1 ≤ e → Beside e t v → stepsOf i e os t ≡ left w → Went e os w v
+beside-steps e i [] t w v p b h =
+    let q : t ≡ w = cc in
+    record { well = refl; free = refl; beside = subst (λ (u : State). Beside e u v) q b }
+beside-steps e i (o ∷ os) t w v p b h = go (stepOf i e o t) refl h (λ u c. beside-steps e (i + 1) os u w (applied reopened o v) p c)
+  where
+    go : (x : Outcome) → stepOf i e o t ≡ x → andThen x (λ u. stepsOf (i + 1) e os u) ≡ left w
+        → ((u : State) → Beside e u (applied reopened o v) → stepsOf (i + 1) e os u ≡ left w → Went e os w (applied reopened o v)) → Went e (o ∷ os) w v
+    go (left u) a h ih =
+        let d = step-left i e o t u a in
+        let c : Beside e u (applied reopened o v) = subst (λ (y : State). Beside e y (applied reopened o v)) (d .1) (beside-applied i e o t v p (d .0) b) in
+        went-on e o os w v (well-formed i e o t (d .0)) (no-conflict i e o t v b (d .0)) (ih u c h)
+    go (stopped r) a h ih = absurd (halt h)
+
+-- Before the first of them: an epoch that nothing reaches shows what the one before it shows.
+next-shown : (e : ℕ) (ns : List ℕ) (x : Entry) → Within e ns x → shownBy (e + 1) x ≡ shownBy e x
+unfolding shownAt goneAt
+next-shown e ns x w =
+    rw (le-leb (x .added) (e + 1) (omega (arith, w .added)), le-leb (x .added) e (w .added), le-leb (x .deleted) (e + 1) (omega (arith, w .deleted)), le-leb (x .deleted) e (w .deleted))
+
+next-shows : (e : ℕ) (ns : List ℕ) (l : List Entry) → All (Within e ns) l → shown (e + 1) l ≡ shown e l
+next-shows e ns l a = ap (map byIds) (keep-same (shownBy (e + 1)) (shownBy e) l (all-map l (next-shown e ns) a))
+
+next-sets : (m : VersionManagerInner) → Sound m → setsAt (m .epoch + 1) (stateOf m) ≡ setsOf (stateOf m)
+next-sets m s =
+    let t = stateOf m in
+    let p = all-map (t .pairs) (within-of (m .epoch) _) (allOf-all _ (t .pairs) (s .pairs)) in
+    let v = all-map (t .vectors) (within-of (m .epoch) _) (allOf-all _ (t .vectors) (s .vectors)) in
+    ap (λ (l : List (List ℕ)). sets (map unlocked (t .tables)) l (vectorsAt (m .epoch + 1) t)) (next-shows (m .epoch) _ (t .pairs) p)
+    ∙ ap (λ (l : List (List ℕ)). sets (map unlocked (t .tables)) (pairsAt (m .epoch) t) l) (next-shows (m .epoch) _ (t .vectors) v)
+
+few-view : {A B : Type 0} (f : A → B) (n k : ℕ) (l : List A) → n ≤ k → length (map f (take n l)) ≤ k
+few-view f n k l h = omega (arith, length-map (take n l) f, length-take n l)
+
+few-start : (m : VersionManagerInner) → Sound m → Few (stateOf m)
+few-start m s =
+    record {
+      tables = few-view _ (m .tables .count) 16 (m .tables .items) (s .fits .tables);
+      pairs = few-view _ (m .rowsets .count) 256 (m .rowsets .items) (s .fits .rowsets);
+      vectors = few-view _ (m .vectors .count) 256 (m .vectors .items) (s .fits .vectors);
+    }
+
+pub beside-start : (m : VersionManagerInner) (s : State) → Sound m → Read s → setsOf (stateOf m) ≡ setsOf s → Beside (m .epoch + 1) (stateOf m) s
+beside-start m s g r h =
+    record {
+      ordered = g .ordered;
+      below = allOf-all _ (stateOf m .tables) (g .below);
+      few = few-start m g;
+      read = r;
+      same = next-sets m g ∙ h ∙ ap (λ (e : ℕ). setsAt e s) (r .epoch);
+    }

@@ -1,0 +1,12 @@
+pub mod Reading
+pub mod Framed
+pub mod Effects
+pub mod Replays
+pub mod Besides
+pub mod Owned
+pub mod Appending
+pub mod SoundState
+pub mod SoundReading
+pub mod Sound
+pub mod AgainBuilt
+pub mod Again

@@ -1,0 +1,43 @@
+-- The manifest that goes with a state. Assumes nothing.
+use mathlib.Core.Path.{_≡_}
+use mathlib.Core.Bool.{false}
+use mathlib.Core.List.{List, [], _∷_, _++_}
+use Prim.Native.Nat.{ℕ, _≤_}
+use lib.ListN.{length}
+use Rattle.manifest.specs.declared.operation.Batch.{Batch}
+use Rattle.manifest.specs.Operations.{Operation, batchOf}
+use Rattle.manifest.specs.Split.{restOn, lines}
+use Rattle.frames.specs.Frames.{frameOf}
+use Rattle.version_state.specs.declared.VersionManagerInner.{VersionManagerInner}
+use Rattle.version_state.specs.Limits.{longestManifest}
+use Rattle.version_state.specs.State.{State, start, stateOf, Hands}
+use Rattle.operations.specs.Effect.{applied}
+use Rattle.operations.specs.Steps.{left}
+use Rattle.commit.specs.Commit.{commitOf}
+use Rattle.replay.specs.Replay.{given, Frame, carried, reopened, atStart, settled, linesRead, tableless, withoutOrphans}
+use Rattle.recovery.specs.Sets.{setsOf}
+
+-- src is empty or ends in a newline, its lines are read to the state s, and s has no rowset without its table and no vector without its rowset
+pub record Holds (src : List ℕ) (s : State) : Type 0 where
+  pub whole : restOn [] src ≡ []
+  pub frame : Frame
+  pub line : ℕ
+  pub read : linesRead (lines src) atStart ≡ given (carried s frame line)
+  pub tables : tableless s ≡ false
+  pub rowsets : withoutOrphans s ≡ s
+
+-- operations in order, as a replay applies them
+abbrev pub appliedAll : List Operation → State → State
+appliedAll [] s = s
+appliedAll (o ∷ os) s = appliedAll os (applied reopened o s)
+
+-- a replayed state, followed by the operations of a frame
+abbrev pub followed : List Operation → State → State
+followed os s = settled (appliedAll os s)
+
+-- the bytes that accepted commits hand out for appending, one after another; between commits a call may hand out any manager that shows the same
+pub data Appended : List ℕ → VersionManagerInner → Type 0 where
+  first : (m : VersionManagerInner) → Hands m start → Appended [] m
+  committed : (src : List ℕ) (m n : VersionManagerInner) (b : Batch) (room : ℕ) (u : State)
+      → Appended src m → commitOf m b room ≡ left u → Hands n u → Appended (src ++ frameOf (batchOf b)) n
+  other : (src : List ℕ) (m n : VersionManagerInner) → Appended src m → setsOf (stateOf n) ≡ setsOf (stateOf m) → Appended src n

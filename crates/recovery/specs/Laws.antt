@@ -1,0 +1,45 @@
+-- What recovery keeps: a manifest and what is appended to it, whole or torn, and the rewritten one. Assumes nothing.
+use mathlib.Core.Path.{_≡_}
+use mathlib.Core.Bool.{true, false}
+use mathlib.Core.List.{List, [], _++_}
+use Prim.Native.Nat.{ℕ, _≤_, _<_}
+use lib.ListN.{length, take}
+use Rattle.lists.specs.Keyed.{allOf}
+use Rattle.manifest.specs.declared.operation.Batch.{Batch}
+use Rattle.manifest.specs.Operations.{Operation, wellFormed, batchOf}
+use Rattle.frames.specs.Frames.{mostOperations, frameOf}
+use Rattle.version_state.specs.declared.VersionManagerInner.{VersionManagerInner}
+use Rattle.version_state.specs.Limits.{longestManifest}
+use Rattle.version_state.specs.State.{State, start, withEpoch, stateOf, Hands}
+use Rattle.version_state.specs.Sound.{badManager}
+use Rattle.operations.specs.Steps.{left}
+use Rattle.commit.specs.Commit.{commitOf}
+use Rattle.rewrite.specs.Rewritten.{rewrittenOf, longestRewritten}
+use Rattle.replay.specs.Replay.{given, reopened, replayOf}
+use Rattle.recovery.specs.Sets.{setsOf}
+use Rattle.recovery.specs.Holds.{Holds, followed, Appended}
+
+-- Of a manifest that holds a state.
+pub record AppendLaws : Type 0 where
+  pub empty : Holds [] (withEpoch start reopened 0)
+  pub replayed : (src : List ℕ) (s : State) → Holds src s → length src ≤ longestManifest → replayOf src ≡ given s
+  -- followed by a whole append of operations that commit accepts on its sets: the state followed by these operations
+  pub whole : (src : List ℕ) (s : State) (m : VersionManagerInner) (b : Batch) (room : ℕ) (u : State)
+      → Holds src s → setsOf (stateOf m) ≡ setsOf s → commitOf m b room ≡ left u
+      → Holds (src ++ frameOf (batchOf b)) (followed (batchOf b) s) × (setsOf (followed (batchOf b) s) ≡ setsOf u)
+  -- followed by a proper first part of an append, cut at any byte: the state
+  pub torn : (src : List ℕ) (s : State) (os : List Operation) (k : ℕ)
+      → Holds src s → allOf wellFormed os ≡ true → length os ≤ mostOperations → k < length (frameOf os)
+      → length (src ++ take k (frameOf os)) ≤ longestManifest
+      → replayOf (src ++ take k (frameOf os)) ≡ given s
+  -- what accepted commits have written is never refused, and holds no vector whose rowset is gone
+  pub made : (src : List ℕ) (m : VersionManagerInner) → Appended src m → length src ≤ longestManifest
+      → (s : State) × (Holds src s × (setsOf (stateOf m) ≡ setsOf s) × (replayOf src ≡ given s))
+
+-- Of any manifest that replay accepts.
+pub record ReopenLaws : Type 0 where
+  -- what is handed out passes 29
+  pub sound : (src : List ℕ) (s : State) (m : VersionManagerInner) (n : ℕ) → replayOf src ≡ given s → n ≤ longestManifest → Hands m (withEpoch s (s .epoch) n) → badManager m ≡ false
+  -- the rewritten manifest has its room, and holds the same state
+  pub room : (src : List ℕ) (s : State) → replayOf src ≡ given s → length (rewrittenOf s) ≤ longestRewritten
+  pub again : (src : List ℕ) (s : State) → replayOf src ≡ given s → Holds (rewrittenOf s) s
