@@ -1,0 +1,283 @@
+-- Which vacuum lists a deletion: while it waits, the first that meets no pin before its epoch, and afterwards none. Assumes nothing.
+use mathlib.Core.Path.{_≡_, refl, sym, ap, _∙_}
+use mathlib.Core.Bool.{Bool, true, false, cond, not, _&&_, _||_}
+use mathlib.Core.List.{List, [], _∷_, map}
+use Prim.Native.Nat.{ℕ, _+_, _<_}
+use native.Mathlib.Omega.{arith}
+use lib.Dec.{eqb}
+use borrow.Author.Tests.{eq-eqb, ne-eqb, not-true}
+use Rattle.lists.specs.Keyed.{keep, anyOf, placed}
+use Rattle.lists.proofs.Tests.{by-cases, clash, neither}
+use Rattle.lists.proofs.Keyed.{All, all-map, all-placed, all-keep, anyOf-placed, none-anyOf}
+use Rattle.manifest.specs.Operations.{Operation, createTable, dropTable, addRowset, deleteRowset, addVector, deleteVector, nextIds}
+use Rattle.pins.specs.Book.{pinsOf}
+use Rattle.plain_record.specs.Calls.{Call, drawRowset, drawVector, commit, pin, unpin, vacuum, reopen}
+use Rattle.plain_record.specs.Plain.{Waiting, byEpochAndPair, epochOf, deletions, await, counted, blocked, Record, atStart, turn}
+use Rattle.plain_record.specs.Run.{Event, isAccepted}
+use Rattle.plain_record.specs.Claim.{pinsIn, nextRecord, isVacuum, isReopen, vacuums, frees, isIt, lists, NeverListed, ListedFirst, deletionsBy, EachListed, Deletions}
+
+-- every waiting entry comes from a commit before the next call
+pub record Below (r : Record) : Type 0 where
+  pub whole : All (λ (x : Waiting). x .commit < r .place) (r .whole .waiting)
+  pub torn : All (λ (x : Waiting). x .commit < r .place) (r .torn .waiting)
+
+-- before each call the book's pins are the record's
+abbrev pub BooksAgree : Record → List Event → Type 0
+BooksAgree r [] = Unit {0}
+BooksAgree r (e ∷ es) = (map pinsIn (pinsOf (e .before .book)) ≡ r .whole .pinned) × BooksAgree (nextRecord r e) es
+
+all-await : (P : Waiting → Type 0) (ws l : List Waiting) → All P ws → All P l → All P (await ws l)
+all-await P [] l p q = q
+all-await P (w ∷ ws) l p q = all-await P ws (placed byEpochAndPair w l) (p .1) (all-placed byEpochAndPair P w l (p .0) q)
+
+or-move : (a b c : Bool) → b || (a || c) ≡ (a || b) || c
+or-move true true c = refl
+or-move true false c = refl
+or-move false b c = refl
+
+anyOf-await : (p : Waiting → Bool) (ws l : List Waiting) → anyOf p (await ws l) ≡ anyOf p ws || anyOf p l
+anyOf-await p [] l = refl
+anyOf-await p (w ∷ ws) l =
+    anyOf-await p ws (placed byEpochAndPair w l)
+    ∙ ap (λ (b : Bool). anyOf p ws || b) (anyOf-placed byEpochAndPair p w l)
+    ∙ or-move (p w) (anyOf p ws) (anyOf p l)
+
+-- the deletions of a commit have its place and the epoch that it makes
+abbrev Of : ℕ → ℕ → Waiting → Type 0
+Of c e x = (x .commit ≡ c) × (x .epoch ≡ e)
+
+all-of : (c e i : ℕ) (os : List Operation) → All (Of c e) (deletions c e i os)
+all-of c e i [] = tt
+all-of c e i (createTable t h n ∷ os) = all-of c e (i + 1) os
+all-of c e i (dropTable t ∷ os) = all-of c e (i + 1) os
+all-of c e i (addRowset t r ∷ os) = all-of c e (i + 1) os
+all-of c e i (deleteRowset t r ∷ os) = ((refl, refl), all-of c e (i + 1) os)
+all-of c e i (addVector t r v ∷ os) = all-of c e (i + 1) os
+all-of c e i (deleteVector t r v ∷ os) = all-of c e (i + 1) os
+all-of c e i (nextIds t r v ∷ os) = all-of c e (i + 1) os
+
+new-below : (n e : ℕ) (os : List Operation) → All (λ (x : Waiting). x .commit < n + 1) (deletions n e 0 os)
+new-below n e os = all-map (deletions n e 0 os) (λ x o. let h = o .0 in omega arith) (all-of n e 0 os)
+
+later : (n : ℕ) (l : List Waiting) → All (λ (x : Waiting). x .commit < n) l → All (λ (x : Waiting). x .commit < n + 1) l
+later n l a = all-map l (λ x h. omega arith) a
+
+counted-below : (os : List Operation) (r : Record) → Below r → All (λ (x : Waiting). x .commit < r .place + 1) (counted (r .place) os (r .whole) .waiting)
+counted-below os r b =
+    all-await (λ (x : Waiting). x .commit < r .place + 1) (deletions (r .place) (epochOf (r .whole) + 1) 0 os) (r .whole .waiting)
+    (new-below (r .place) (epochOf (r .whole) + 1) os) (later (r .place) (r .whole .waiting) (b .whole))
+
+below-turn : (c : Call) (a : Bool) (r : Record) → Below r → Below (turn c a r)
+below-turn drawRowset true r b = let h = later (r .place) (r .whole .waiting) (b .whole) in record { whole = h; torn = h }
+below-turn drawVector true r b = let h = later (r .place) (r .whole .waiting) (b .whole) in record { whole = h; torn = h }
+below-turn (commit os out missing) true r b =
+    let h = counted-below os r b in
+    record { whole = h; torn = by-cases (eqb missing 0) (λ t. rw t h) (λ t. rw t (later (r .place) (r .whole .waiting) (b .whole))) }
+below-turn pin true r b = let h = later (r .place) (r .whole .waiting) (b .whole) in record { whole = h; torn = h }
+below-turn (unpin e) true r b = let h = later (r .place) (r .whole .waiting) (b .whole) in record { whole = h; torn = h }
+below-turn (vacuum ts rs) true r b =
+    let h = all-keep (λ (x : Waiting). x .commit < r .place + 1) (λ w. blocked (r .whole .pinned) (w .epoch)) (r .whole .waiting) (later (r .place) (r .whole .waiting) (b .whole)) in
+    record { whole = h; torn = h }
+below-turn (reopen out stale) true r b = record { whole = tt; torn = tt }
+below-turn c false r b = record { whole = later (r .place) (r .whole .waiting) (b .whole); torn = later (r .place) (r .torn .waiting) (b .torn) }
+
+pub below-start : Below atStart
+below-start = record { whole = tt; torn = tt }
+
+-- Of one deletion d: it is from an earlier commit, and what waits under its tag has its epoch.
+record Tagged (d : Waiting) (r : Record) : Type 0 where
+  pub earlier : d .commit < r .place
+  pub alike : All (λ (x : Waiting). isIt d x ≡ true → x .epoch ≡ d .epoch) (r .whole .waiting)
+
+-- an accepted reopen
+abbrev reopens : Event → Bool
+reopens e = isReopen (e .call) && isAccepted (e .told)
+
+-- it waits
+abbrev waitsIn : Waiting → Record → Bool
+waitsIn d r = anyOf (isIt d) (r .whole .waiting)
+
+other-commit : (d x : Waiting) → (x .commit ≡ d .commit → ⊥) → isIt d x ≡ false
+other-commit d x n = rw (ne-eqb (x .commit) (d .commit) n)
+
+module _ (d : Waiting) where
+  -- of what has its tag, a test of the epoch keeps all or nothing
+  kept-tag : (q : ℕ → Bool) (l : List Waiting) → All (λ (x : Waiting). isIt d x ≡ true → x .epoch ≡ d .epoch) l
+      → anyOf (isIt d) (keep (λ w. q (w .epoch)) l) ≡ q (d .epoch) && anyOf (isIt d) l
+  kept-tag q [] a = by-cases (q (d .epoch)) (λ e. rw e) (λ e. rw e)
+  kept-tag q (x ∷ l) a =
+      let ih = kept-tag q l (a .1) in
+      by-cases (isIt d x)
+      (λ t. let s = a .0 t in by-cases (q (d .epoch)) (λ e. rw (s, e, t)) (λ e. rw (s, e) (ih ∙ rw e)))
+      (λ t. by-cases (q (x .epoch)) (λ e. rw (e, t) ih) (λ e. rw (e, t) ih))
+
+  new-other : (n e : ℕ) (os : List Operation) → d .commit < n → All (λ (x : Waiting). isIt d x ≡ false) (deletions n e 0 os)
+  new-other n e os h = all-map (deletions n e 0 os) (λ x o. other-commit d x (λ s. let u = o .0 in omega arith)) (all-of n e 0 os)
+
+  tagged-turn : (c : Call) (a : Bool) (r : Record) → Tagged d r → Tagged d (turn c a r)
+  tagged-turn drawRowset true r t = let h = t .earlier in record { earlier = omega arith; alike = t .alike }
+  tagged-turn drawVector true r t = let h = t .earlier in record { earlier = omega arith; alike = t .alike }
+  tagged-turn (commit os out missing) true r t =
+      let h = t .earlier in
+      let n = new-other (r .place) (epochOf (r .whole) + 1) os h in
+      record {
+        earlier = omega arith;
+        alike =
+            all-await (λ (x : Waiting). isIt d x ≡ true → x .epoch ≡ d .epoch) (deletions (r .place) (epochOf (r .whole) + 1) 0 os) (r .whole .waiting)
+            (all-map (deletions (r .place) (epochOf (r .whole) + 1) 0 os) (λ x f g. clash g f) n) (t .alike);
+      }
+  tagged-turn pin true r t = let h = t .earlier in record { earlier = omega arith; alike = t .alike }
+  tagged-turn (unpin e) true r t = let h = t .earlier in record { earlier = omega arith; alike = t .alike }
+  tagged-turn (vacuum ts rs) true r t =
+      let h = t .earlier in
+      record { earlier = omega arith; alike = all-keep (λ (x : Waiting). isIt d x ≡ true → x .epoch ≡ d .epoch) (λ w. blocked (r .whole .pinned) (w .epoch)) (r .whole .waiting) (t .alike) }
+  tagged-turn (reopen out stale) true r t = let h = t .earlier in record { earlier = omega arith; alike = tt }
+  tagged-turn c false r t = let h = t .earlier in record { earlier = omega arith; alike = t .alike }
+
+  -- whether it waits after a turn
+  waits-turn : (c : Call) (a : Bool) (r : Record) → Tagged d r
+      → waitsIn d (turn c a r) ≡ cond (isReopen c && a) false (cond (isVacuum c && a) (blocked (r .whole .pinned) (d .epoch) && waitsIn d r) (waitsIn d r))
+  waits-turn drawRowset true r t = refl
+  waits-turn drawVector true r t = refl
+  waits-turn (commit os out missing) true r t =
+      anyOf-await (isIt d) (deletions (r .place) (epochOf (r .whole) + 1) 0 os) (r .whole .waiting)
+      ∙ ap (λ (b : Bool). b || waitsIn d r) (none-anyOf (isIt d) (deletions (r .place) (epochOf (r .whole) + 1) 0 os) (new-other (r .place) (epochOf (r .whole) + 1) os (t .earlier)))
+  waits-turn pin true r t = refl
+  waits-turn (unpin e) true r t = refl
+  waits-turn (vacuum ts rs) true r t = kept-tag (blocked (r .whole .pinned)) (r .whole .waiting) (t .alike)
+  waits-turn (reopen out stale) true r t = refl
+  waits-turn drawRowset false r t = refl
+  waits-turn drawVector false r t = refl
+  waits-turn (commit os out missing) false r t = refl
+  waits-turn pin false r t = refl
+  waits-turn (unpin e) false r t = refl
+  waits-turn (vacuum ts rs) false r t = refl
+  waits-turn (reopen out stale) false r t = refl
+
+  -- an event lists it if it waits and the event frees it
+  lists-is : (r : Record) (e : Event) → Tagged d r → map pinsIn (pinsOf (e .before .book)) ≡ r .whole .pinned → lists d r e ≡ frees d e && waitsIn d r
+  lists-is r e t b =
+      ap (λ (x : Bool). vacuums e && x) (kept-tag (λ n. not (blocked (r .whole .pinned) n)) (r .whole .waiting) (t .alike))
+      ∙ and-move (vacuums e) (not (blocked (r .whole .pinned) (d .epoch))) (waitsIn d r)
+      ∙ ap (λ l. (vacuums e && not (blocked l (d .epoch))) && waitsIn d r) (sym b)
+    where
+      and-move : (x y z : Bool) → x && (y && z) ≡ (x && y) && z
+      and-move true y z = refl
+      and-move false y z = refl
+
+  -- after a turn it waits or not by what came of the call, x for a reopen and y for a vacuum, and by whether a pin keeps it
+  after-gone : (x y z u : Bool) → u ≡ false → cond x false (cond y (z && u) u) ≡ false
+  after-gone true y z u h = refl
+  after-gone false true true u h = h
+  after-gone false true false u h = refl
+  after-gone false false z u h = h
+
+  after-freed : (x y z u : Bool) → y && not z ≡ true → cond x false (cond y (z && u) u) ≡ false
+  after-freed true y z u f = refl
+  after-freed false true true u f = clash f refl
+  after-freed false true false u f = refl
+  after-freed false false z u f = clash f refl
+
+  after-stayed : (x y z u : Bool) → x ≡ false → y && not z ≡ false → u ≡ true → cond x false (cond y (z && u) u) ≡ true
+  after-stayed true y z u n f h = clash refl n
+  after-stayed false true true u n f h = h
+  after-stayed false true false u n f h = clash refl f
+  after-stayed false false z u n f h = h
+
+  module _ (r : Record) (e : Event) (t : Tagged d r) where
+    abbrev keeps : Bool
+    keeps = blocked (r .whole .pinned) (d .epoch)
+
+    turned : waitsIn d (nextRecord r e) ≡ cond (reopens e) false (cond (vacuums e) (keeps && waitsIn d r) (waitsIn d r))
+    turned = waits-turn (e .call) (isAccepted (e .told)) r t
+
+    tagged-next : Tagged d (nextRecord r e)
+    tagged-next = tagged-turn (e .call) (isAccepted (e .told)) r t
+
+    gone-next : waitsIn d r ≡ false → waitsIn d (nextRecord r e) ≡ false
+    gone-next h = turned ∙ after-gone (reopens e) (vacuums e) keeps (waitsIn d r) h
+
+    module _ (b : map pinsIn (pinsOf (e .before .book)) ≡ r .whole .pinned) where
+      frees-by : frees d e ≡ vacuums e && not keeps
+      frees-by = ap (λ l. vacuums e && not (blocked l (d .epoch))) b
+
+      freed-next : frees d e ≡ true → waitsIn d (nextRecord r e) ≡ false
+      freed-next f = turned ∙ after-freed (reopens e) (vacuums e) keeps (waitsIn d r) (sym frees-by ∙ f)
+
+      stayed-next : reopens e ≡ false → frees d e ≡ false → waitsIn d r ≡ true → waitsIn d (nextRecord r e) ≡ true
+      stayed-next n f h = turned ∙ after-stayed (reopens e) (vacuums e) keeps (waitsIn d r) n (sym frees-by ∙ f) h
+
+  never : (r : Record) (es : List Event) → Tagged d r → BooksAgree r es → waitsIn d r ≡ false → NeverListed d r es
+  never r [] t b h = tt
+  never r (e ∷ es) t b h =
+      (lists-is r e t (b .0) ∙ rw h (by-cases (frees d e) (λ f. rw f) (λ f. rw f)), never (nextRecord r e) es (tagged-next r e t) (b .1) (gone-next r e t h))
+
+  first : (r : Record) (es : List Event) → Tagged d r → BooksAgree r es → anyOf reopens es ≡ false → waitsIn d r ≡ true
+      → ListedFirst d r es
+  first r [] t b n h = tt
+  first r (e ∷ es) t b n h =
+      let m = neither (reopens e) (anyOf reopens es) n in
+      let l = lists-is r e t (b .0) in (
+        λ f. (l ∙ both-true f h, never (nextRecord r e) es (tagged-next r e t) (b .1) (freed-next r e t (b .0) f)),
+        λ f. (l ∙ ap (λ (x : Bool). x && waitsIn d r) f, first (nextRecord r e) es (tagged-next r e t) (b .1) (m .1) (stayed-next r e t (b .0) (m .0) f h)),
+      )
+    where
+      both-true : {x y : Bool} → x ≡ true → y ≡ true → x && y ≡ true
+      both-true p q = rw (p, q)
+
+-- a deletion that has just begun to wait
+abbrev Begun : Record → Waiting → Type 0
+Begun r d = Tagged d r × (waitsIn d r ≡ true)
+
+each : (ws : List Waiting) (r : Record) (es : List Event) → All (Begun r) ws → BooksAgree r es → anyOf reopens es ≡ false
+    → EachListed ws r es
+each [] r es a b n = tt
+each (w ∷ ws) r es a b n = (first w r es (a .0 .0) b n (a .0 .1), each ws r es (a .1) b n)
+
+is-itself : (d : Waiting) → isIt d d ≡ true
+is-itself d = rw (eq-eqb (d .commit) (d .commit) refl, eq-eqb (d .operation) (d .operation) refl)
+
+all-there : (ws : List Waiting) → All (λ d. anyOf (isIt d) ws ≡ true) ws
+all-there [] = tt
+all-there (w ∷ ws) = (rw (is-itself w), all-map ws (λ d h. rw h (or-true (isIt d w))) (all-there ws))
+  where
+    or-true : (b : Bool) → b || true ≡ true
+    or-true true = refl
+    or-true false = refl
+
+all-both : (P Q : Waiting → Type 0) (l : List Waiting) → All P l → All Q l → All (λ d. P d × Q d) l
+all-both P Q [] p q = tt
+all-both P Q (x ∷ l) p q = ((p .0, q .0), all-both P Q l (p .1) (q .1))
+
+module _ (os : List Operation) (r : Record) (b : Below r) (q : Record) (place : q .place ≡ r .place + 1) (waiting : q .whole .waiting ≡ counted (r .place) os (r .whole) .waiting) where
+  abbrev made : List Waiting
+  made = deletions (r .place) (epochOf (r .whole) + 1) 0 os
+
+  begins : (d : Waiting) → Of (r .place) (epochOf (r .whole) + 1) d → anyOf (isIt d) made ≡ true → Begun q d
+  begins d o h =
+      let c = o .0 in
+      let a : All (λ (x : Waiting). isIt d x ≡ true → x .epoch ≡ d .epoch) (await made (r .whole .waiting)) =
+      all-await (λ (x : Waiting). isIt d x ≡ true → x .epoch ≡ d .epoch) made (r .whole .waiting)
+      (all-map made (λ x p t. p .1 ∙ sym (o .1)) (all-of (r .place) (epochOf (r .whole) + 1) 0 os))
+      (all-map (r .whole .waiting) (λ x p t. clash t (other-commit d x (λ s. omega arith))) (b .whole)) in
+      (record { earlier = omega arith; alike = rw waiting a }, rw waiting (anyOf-await (isIt d) made (r .whole .waiting) ∙ rw h))
+
+  all-begun : All (Begun q) made
+  all-begun = all-map made (λ d p. begins d (p .0) (p .1)) (all-both (Of (r .place) (epochOf (r .whole) + 1)) (λ d. anyOf (isIt d) made ≡ true) made (all-of (r .place) (epochOf (r .whole) + 1) 0 os) (all-there made))
+
+opened : (c : Call) (a : Bool) (r : Record) (es : List Event) → a ≡ true → Below r → BooksAgree (turn c a r) es → anyOf reopens es ≡ false
+    → EachListed (deletionsBy r c) (turn c a r) es
+opened drawRowset a r es t b k n = tt
+opened drawVector a r es t b k n = tt
+opened (commit os out missing) true r es t b k n =
+    each (deletions (r .place) (epochOf (r .whole) + 1) 0 os) (turn (commit os out missing) true r) es (all-begun os r b (turn (commit os out missing) true r) refl refl) k n
+opened (commit os out missing) false r es t b k n = clash t refl
+opened pin a r es t b k n = tt
+opened (unpin e) a r es t b k n = tt
+opened (vacuum ts rs) a r es t b k n = tt
+opened (reopen out stale) a r es t b k n = tt
+
+pub deletions-hold : (r : Record) (es : List Event) → Below r → BooksAgree r es → Deletions r es
+deletions-hold r [] b k = tt
+deletions-hold r (e ∷ es) b k =
+    (λ t n. opened (e .call) (isAccepted (e .told)) r es t b (k .1) (not-true _ n), deletions-hold (nextRecord r e) es (below-turn (e .call) (isAccepted (e .told)) r b) (k .1))

@@ -1,0 +1,59 @@
+-- What holds between two calls of every run: the manager, the book and the files beside the record. Assumes nothing.
+use mathlib.Core.Path.{_≡_}
+use mathlib.Core.Bool.{Bool, true, false}
+use mathlib.Core.List.{List, [], _∷_, map}
+use Prim.Native.Nat.{ℕ, _≤_}
+use lib.ListN.{length}
+use Rattle.lists.specs.Keyed.{allOf}
+use Rattle.snapshot.specs.Tables.{TableEntry}
+use Rattle.version_state.specs.State.{State, stateOf, pairsAt, vectorsAt}
+use Rattle.version_state.specs.Sound.{badManager}
+use Rattle.pins.specs.Book.{pinsOf, badBook, bound}
+use Rattle.replay.specs.Replay.{given, replayOf}
+use Rattle.recovery.specs.Sets.{setsOf}
+use Rattle.recovery.specs.Holds as manifest
+use Rattle.plain_record.specs.Sets.{Table, table, Sets, sets}
+use Rattle.plain_record.specs.Plain.{Plain, epochOf, setsAt, Record}
+use Rattle.plain_record.specs.Run.{World, Event}
+use Rattle.plain_record.specs.Claim.{pinsIn, waitingIn, waitingOf, belowNext, AnswerBy, nextRecord}
+
+abbrev pub plainTable : TableEntry → Table
+plainTable t = table (t .table) (t .shape) (t .name)
+
+-- what a state shows now, as the record's sets
+abbrev pub plainSets : State → Sets
+plainSets s = sets (map plainTable (s .tables)) (pairsAt (s .epoch) s) (vectorsAt (s .epoch) s)
+
+-- the file if all landed holds what the manager's state s shows
+pub record Filed (f : List ℕ) (s : State) (p : Plain) : Type 0 where
+  pub state : State
+  pub holds : manifest.Holds f state
+  pub same : setsOf s ≡ setsOf state
+  pub long : length f ≡ s .manifest
+  pub next : allOf (belowNext state) (p .added) ≡ true
+
+-- the file as a reopen would find it is replayed to the record's last sets
+pub record Torn (f : List ℕ) (p : Plain) : Type 0 where
+  pub state : State
+  pub replayed : replayOf f ≡ given state
+  pub sets : plainSets state ≡ p .now
+  pub next : allOf (belowNext state) (p .added) ≡ true
+
+pub record Inv (w : World) (r : Record) : Type 0 where
+  pub sound : badManager (w .manager .inner) ≡ false
+  pub book : badBook (w .manager .inner .epoch) (w .book) ≡ false
+  pub epoch : w .manager .inner .epoch ≡ epochOf (r .whole)
+  pub tables : map plainTable (stateOf (w .manager .inner) .tables) ≡ r .whole .now .tables
+  -- every epoch from the vacuum's bound on, those to come too
+  pub pairs : (d : ℕ) → bound (w .manager .inner .epoch) (pinsOf (w .book)) ≤ d → pairsAt d (stateOf (w .manager .inner)) ≡ setsAt d (r .whole) .pairs
+  pub vectors : (d : ℕ) → bound (w .manager .inner .epoch) (pinsOf (w .book)) ≤ d → vectorsAt d (stateOf (w .manager .inner)) ≡ setsAt d (r .whole) .vectors
+  pub pins : map pinsIn (pinsOf (w .book)) ≡ r .whole .pinned
+  pub waiting : waitingIn (stateOf (w .manager .inner)) ≡ waitingOf (r .whole)
+  pub next : allOf (belowNext (stateOf (w .manager .inner))) (r .whole .added) ≡ true
+  pub file : Filed (w .file) (stateOf (w .manager .inner)) (r .whole)
+  pub torn : Torn (w .torn) (r .torn)
+
+-- a turn keeps it, and its answer is as claimed
+pub record Kept (r : Record) (e : Event) : Type 0 where
+  pub inv : Inv (e .after) (nextRecord r e)
+  pub answer : AnswerBy r e (e .call)

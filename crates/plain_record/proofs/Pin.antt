@@ -1,0 +1,75 @@
+-- Pin keeps the invariant, and answers the record's epoch. Assumes nothing.
+use mathlib.Core.Path.{_≡_, refl, sym, ap, ap₂, subst, _∙_}
+use mathlib.Core.Bool.{true, false, cond}
+use mathlib.Core.List.{List, [], _∷_, map}
+use Prim.Native.Nat.{ℕ, _+_, _≤_}
+use native.Mathlib.Omega.{arith}
+use Rattle.lists.proofs.Tests.{clash}
+use Rattle.ids.specs.declared.refusal.Verdict.{Verdict}
+use Rattle.ids.specs.Answers.{Told, told}
+use Rattle.version_state.specs.State.{State, stateOf}
+use Rattle.pins.specs.declared.PinBook.{PinBook}
+use Rattle.pins.specs.Book.{pinsOf, Keeps, badBook, bound}
+use Rattle.pins.proofs.Bound.{bound-le}
+use Rattle.pins.proofs.Facts.{good-book}
+use Rattle.pinning.specs.Counts.{pinsAt, withPin}
+use Rattle.pinning.specs.Says.{BookAfter, pinVerdict}
+use Rattle.pinning.specs.Laws.{PinLaws}
+use Rattle.recovery.specs.Laws.{AppendLaws}
+use Rattle.plain_record.specs.Calls.{pin}
+use Rattle.plain_record.specs.Plain.{Pins, Plain, epochOf, onePin, withPins, Record, turn}
+use Rattle.plain_record.specs.Run.{World, world, isAccepted, value, port, DidPin}
+use Rattle.plain_record.specs.Claim.{pinsIn}
+use Rattle.plain_record.proofs.Invariant.{Filed, Inv}
+use Rattle.plain_record.proofs.Stands.{Stands, stands-of, accepted-stands, refused-stands, by-verdict}
+use Rattle.plain_record.proofs.Counts.{with-pin, bound-recounted}
+
+filed-pins : (f : List ℕ) (s : State) (l : List Pins) (p : Plain) → Filed f s p → Filed f s (withPins l p)
+filed-pins f s l p k = record { state = k .state; holds = k .holds; same = k .same; long = k .long; next = k .next }
+
+-- a book with other pins, whose bound is not lower
+pub stands-pins : (s : State) (b b′ : PinBook) (f : List ℕ) (l : List Pins) (p : Plain) → Stands s b f p → badBook (s .epoch) b′ ≡ false → map pinsIn (pinsOf b′) ≡ l
+    → bound (s .epoch) (pinsOf b) ≤ bound (s .epoch) (pinsOf b′) → Stands s b′ f (withPins l p)
+stands-pins s b b′ f l p k g e h =
+    record {
+      book = g;
+      epoch = k .epoch;
+      tables = k .tables;
+      pairs = λ d q. k .pairs d (omega arith);
+      vectors = λ d q. k .vectors d (omega arith);
+      pins = e;
+      waiting = k .waiting;
+      next = k .next;
+      file = filed-pins f s l p (k .file);
+    }
+
+module _ (laws : AppendLaws) (books : PinLaws) (w : World) (r : Record) (t : Told) (l : List (List ℕ)) (v : World) (i : Inv w r) (d : DidPin port w t l v) where
+  abbrev epoch : ℕ
+  epoch = w .manager .inner .epoch
+
+  stands-pinned : Keeps (d .book) (withPin epoch (pinsOf (w .book)))
+      → Stands (stateOf (w .manager .inner)) (d .book) (w .file) (withPins (onePin (epochOf (r .whole)) (r .whole .pinned)) (r .whole))
+  stands-pinned k =
+      let g = good-book epoch (w .book) (i .book) in
+      let e : map pinsIn (pinsOf (d .book)) ≡ onePin (epochOf (r .whole)) (r .whole .pinned) =
+      ap (map pinsIn) (k .pins) ∙ with-pin epoch (pinsOf (w .book)) (g .valid) ∙ ap₂ onePin (i .epoch) (i .pins) in
+      let h : bound epoch (pinsOf (w .book)) ≤ bound epoch (pinsOf (d .book)) =
+      rw (k .pins) (bound-recounted epoch epoch (pinsAt epoch (pinsOf (w .book)) + 1) (pinsOf (w .book)) (bound-le epoch (pinsOf (w .book))) (bound-le epoch (pinsOf (w .book)))) in
+      stands-pins (stateOf (w .manager .inner)) (w .book) (d .book) (w .file) (onePin (epochOf (r .whole)) (r .whole .pinned)) (r .whole) (stands-of w r i)
+      (books .pin (w .manager) (w .book) (d .answer) (d .book) (d .says) (i .book)) e h
+
+  pub pin-kept : Inv v (turn pin (isAccepted t) r)
+  pin-kept =
+      subst (λ (u : World). Inv u (turn pin (isAccepted t) r)) (sym (d .after))
+      (by-verdict (λ a. Inv (world (w .manager) (d .book) (w .file) (cond a (w .file) (w .torn))) (turn pin a r))
+      (pinVerdict (w .manager) (w .book)) (epoch ∷ []) t (d .told ∙ d .says .answer)
+      (λ a. accepted-stands laws (w .manager) (d .book) (w .file) (stateOf (w .manager .inner)) (withPins (onePin (epochOf (r .whole)) (r .whole .pinned)) (r .whole)) (r .place + 1) (i .sound) refl
+      (stands-pinned (subst (λ (x : Verdict). BookAfter x (w .book) (withPin epoch (pinsOf (w .book))) (d .book)) a (d .says .book))))
+      (λ k a. refused-stands w r (w .manager) (d .book) refl (subst (λ (x : Verdict). BookAfter x (w .book) (withPin epoch (pinsOf (w .book))) (d .book)) a (d .says .book)) i))
+
+  pub pin-answers : isAccepted t ≡ true → value 0 t ≡ epochOf (r .whole)
+  pin-answers =
+      let e = d .told ∙ d .says .answer in
+      by-verdict (λ a. a ≡ true → value 0 t ≡ epochOf (r .whole)) (pinVerdict (w .manager) (w .book)) (epoch ∷ []) t e
+      (λ a h. ap (value 0) (e ∙ ap (λ (x : Verdict). told x (epoch ∷ [])) a) ∙ i .epoch)
+      (λ k a h. clash h refl)

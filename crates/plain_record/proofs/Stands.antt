@@ -1,0 +1,113 @@
+-- The invariant by the manager's state alone, and its two turns: a refused call, and an accepted one that leaves the file as it is. Assumes nothing.
+use mathlib.Core.Path.{_≡_, refl, sym, ap, subst, _∙_}
+use mathlib.Core.Bool.{Bool, true, false}
+use mathlib.Core.List.{List, map}
+use Prim.Native.Nat.{ℕ, _+_, _≤_}
+use native.Mathlib.Omega.{arith}
+use lib.Dec.{eqb}
+use lib.ListN.{List·getD-eq-default}
+use Rattle.lists.specs.Keyed.{allOf}
+use Rattle.ids.specs.declared.refusal.Refusal.{Refusal}
+use Rattle.ids.specs.declared.refusal.Refusal.the-variants.{ManifestTooLong, Malformed, TableConflict, OverLimit, RowsetWithoutTable, TooManyOperations, BadRecord, WrongCount, OutputTooShort, PinAtEpochZero, TableNotLive, PairNotShown, VectorNotShown, IdNotDrawn, NameTaken, StillHeld, LeftBehind, PinsFull, PinnedEpochsFull, EpochsFull, TablesFull, HeldFull, ManifestFull, EpochNotPinned, LockHeld, IdsUsedUp, LockNotHeld, BadPinBook, BadManager}
+use Rattle.ids.specs.declared.refusal.Verdict.{Verdict}
+use Rattle.ids.specs.declared.refusal.Verdict.the-variants.{Accepted, Refused}
+use Rattle.ids.specs.Refusals.{numberOf}
+use Rattle.ids.specs.Answers.{Told, told}
+use Rattle.version_state.specs.State.{State, stateOf, pairsAt, vectorsAt}
+use Rattle.version_state.specs.Sound.{badManager}
+use Rattle.version_state.proofs.Facts.{sound-of}
+use Rattle.pins.specs.declared.PinBook.{PinBook}
+use Rattle.pins.specs.Book.{pinsOf, badBook, bound}
+use Rattle.pins.proofs.Bound.{bound-le}
+use Rattle.version_manager.specs.declared.VersionManager.{VersionManager}
+use Rattle.recovery.specs.Laws.{AppendLaws}
+use Rattle.plain_record.specs.Sets.{Sets, sets}
+use Rattle.plain_record.specs.Plain.{Plain, epochOf, setsAt, Record, recorded}
+use Rattle.plain_record.specs.Run.{World, world, isAccepted}
+use Rattle.plain_record.specs.Claim.{pinsIn, waitingIn, waitingOf, belowNext}
+use Rattle.plain_record.proofs.Invariant.{plainTable, plainSets, Filed, Torn, Inv}
+use Rattle.plain_record.proofs.Landed.{landed}
+
+-- a manager in the state s, the book b and the file f, beside the record's p
+pub record Stands (s : State) (b : PinBook) (f : List ℕ) (p : Plain) : Type 0 where
+  pub book : badBook (s .epoch) b ≡ false
+  pub epoch : s .epoch ≡ epochOf p
+  pub tables : map plainTable (s .tables) ≡ p .now .tables
+  pub pairs : (d : ℕ) → bound (s .epoch) (pinsOf b) ≤ d → pairsAt d s ≡ setsAt d p .pairs
+  pub vectors : (d : ℕ) → bound (s .epoch) (pinsOf b) ≤ d → vectorsAt d s ≡ setsAt d p .vectors
+  pub pins : map pinsIn (pinsOf b) ≡ p .pinned
+  pub waiting : waitingIn s ≡ waitingOf p
+  pub next : allOf (belowNext s) (p .added) ≡ true
+  pub file : Filed f s p
+
+pub stands-of : (w : World) (r : Record) → Inv w r → Stands (stateOf (w .manager .inner)) (w .book) (w .file) (r .whole)
+stands-of w r i =
+    record { book = i .book; epoch = i .epoch; tables = i .tables; pairs = i .pairs; vectors = i .vectors; pins = i .pins; waiting = i .waiting; next = i .next; file = i .file }
+
+pub of-stands : (m : VersionManager) (b : PinBook) (f t : List ℕ) (p q : Plain) (n : ℕ) → badManager (m .inner) ≡ false → Stands (stateOf (m .inner)) b f p → Torn t q
+    → Inv (world m b f t) (recorded p q n)
+of-stands m b f t p q n good s k =
+    record { sound = good; book = s .book; epoch = s .epoch; tables = s .tables; pairs = s .pairs; vectors = s .vectors; pins = s .pins; waiting = s .waiting; next = s .next; file = s .file; torn = k }
+
+-- the current epoch is the record's last
+sets-now : (p : Plain) → setsAt (epochOf p) p ≡ p .now
+sets-now p = List·getD-eq-default (p .past) (p .now) (omega arith)
+
+pub shows-now : (s : State) (b : PinBook) (f : List ℕ) (p : Plain) → Stands s b f p → plainSets s ≡ p .now
+shows-now s b f p k =
+    let e : setsAt (s .epoch) p ≡ p .now = ap (λ (d : ℕ). setsAt d p) (k .epoch) ∙ sets-now p in
+    let x = k .pairs (s .epoch) (bound-le (s .epoch) (pinsOf b)) ∙ ap (λ (z : Sets). z .pairs) e in
+    let y = k .vectors (s .epoch) (bound-le (s .epoch) (pinsOf b)) ∙ ap (λ (z : Sets). z .vectors) e in
+    λ i. sets (k .tables i) (x i) (y i)
+
+-- an accepted call that hands on a manager in the state s
+pub accepted-stands : AppendLaws → (m : VersionManager) (b : PinBook) (f : List ℕ) (s : State) (p : Plain) (n : ℕ) → badManager (m .inner) ≡ false → stateOf (m .inner) ≡ s → Stands s b f p
+    → Inv (world m b f f) (recorded p p n)
+accepted-stands laws m b f s p n good e k =
+    let q = subst (λ (u : State). Stands u b f p) (sym e) k in
+    of-stands m b f f p p n good q (landed laws f (stateOf (m .inner)) p (sound-of (m .inner) good .manifest) (shows-now (stateOf (m .inner)) b f p q) (q .file))
+
+-- a refused one
+pub refused-stands : (w : World) (r : Record) (m : VersionManager) (b : PinBook) → m .inner ≡ w .manager .inner → b ≡ w .book → Inv w r
+    → Inv (world m b (w .file) (w .torn)) (recorded (r .whole) (r .torn) (r .place + 1))
+refused-stands w r m b e h i =
+    let back : Inv w (recorded (r .whole) (r .torn) (r .place + 1)) =
+    record { sound = i .sound; book = i .book; epoch = i .epoch; tables = i .tables; pairs = i .pairs; vectors = i .vectors; pins = i .pins; waiting = i .waiting; next = i .next; file = i .file; torn = i .torn } in
+    let same : m ≡ w .manager = λ j. record { inner = e j } in
+    subst (λ (x : World). Inv x (recorded (r .whole) (r .torn) (r .place + 1))) (λ j. world (sym same j) (sym h j) (w .file) (w .torn)) back
+
+refusal-number : (k : Refusal) → eqb (numberOf k) 0 ≡ false
+refusal-number ManifestTooLong = refl
+refusal-number (Malformed p) = refl
+refusal-number (TableConflict p) = refl
+refusal-number (OverLimit p) = refl
+refusal-number RowsetWithoutTable = refl
+refusal-number (TooManyOperations p) = refl
+refusal-number (BadRecord p) = refl
+refusal-number WrongCount = refl
+refusal-number OutputTooShort = refl
+refusal-number PinAtEpochZero = refl
+refusal-number (TableNotLive p) = refl
+refusal-number (PairNotShown p) = refl
+refusal-number (VectorNotShown p) = refl
+refusal-number (IdNotDrawn p) = refl
+refusal-number (NameTaken p) = refl
+refusal-number (StillHeld p) = refl
+refusal-number LeftBehind = refl
+refusal-number PinsFull = refl
+refusal-number PinnedEpochsFull = refl
+refusal-number EpochsFull = refl
+refusal-number (TablesFull p) = refl
+refusal-number (HeldFull p) = refl
+refusal-number ManifestFull = refl
+refusal-number EpochNotPinned = refl
+refusal-number LockHeld = refl
+refusal-number IdsUsedUp = refl
+refusal-number LockNotHeld = refl
+refusal-number BadPinBook = refl
+refusal-number BadManager = refl
+
+-- the two turns of a call, by its verdict v; t is what its answer tells
+pub by-verdict : (P : Bool → Type 0) (v : Verdict) (vs : List ℕ) (t : Told) → t ≡ told v vs → (v ≡ Accepted → P true) → ((k : Refusal) → v ≡ Refused k → P false) → P (isAccepted t)
+by-verdict P Accepted vs t e a r = subst (λ (u : Told). P (isAccepted u)) (sym e) (a refl)
+by-verdict P (Refused k) vs t e a r = subst (λ (u : Told). P (isAccepted u)) (sym e) (subst P (sym (refusal-number k)) (r k refl))

@@ -1,0 +1,219 @@
+-- A vacuum beside the record: what it lists, what still waits after it, and the files. Assumes nothing.
+use mathlib.Core.Path.{_≡_, refl, sym, ap, subst, _∙_}
+use mathlib.Core.Bool.{Bool, true, false, cond, not, _&&_}
+use mathlib.Core.List.{List, [], _∷_, map}
+use Prim.Native.Nat.{ℕ, _+_, _≤_}
+use native.Mathlib.Omega.{arith}
+use lib.Dec.{leb, ltb}
+use lib.ListN.{length, take, drop, getD, length-map}
+use lib.Seq.{take-at}
+use borrow.Author.Tests.{leb-true}
+use Rattle.lists.specs.Keyed.{keep, placed, arranged}
+use Rattle.lists.specs.Written.{over}
+use Rattle.lists.proofs.Tests.{by-cases, clash, both}
+use Rattle.lists.proofs.Keyed.{All, all-map, all-any, allOf-all, all-keep, all-mapped, all-placed, keep-same, keep-keep, keep-map, anyOf-map, sorted-arranged, keep-placed, keep-placed-out}
+use Rattle.ids.specs.declared.refusal.Verdict.{Verdict}
+use Rattle.ids.specs.declared.refusal.Verdict.the-variants.{Accepted, Refused}
+use Rattle.ids.specs.Answers.{Told, told, after}
+use Rattle.snapshot.specs.declared.rowsets.Rowset.{Rowset}
+use Rattle.snapshot.specs.Entries.{Entry, goneAt, goneBy, waits, byDeletion, belowNext, within, field}
+use Rattle.snapshot.specs.Views.{rowsetEntry}
+use Rattle.version_state.specs.declared.VersionManagerInner.{VersionManagerInner}
+use Rattle.version_state.specs.State.{State, stateOf, HandsBack}
+use Rattle.version_state.proofs.Facts.{sound-of}
+use Rattle.pins.specs.Book.{PinEntry, pinsOf, bound}
+use Rattle.pins.specs.Book as pins
+use Rattle.pins.proofs.Bound.{bound-le, free-is}
+use Rattle.vacuum.specs.LetGo.{vacuumList, staysBy, vacuumed}
+use Rattle.vacuum.specs.Says.{boundOf, listOf, vacuumVerdict}
+use Rattle.vacuum.proofs.Laws.{pairs-after, vectors-after, vacuum-sound}
+use Rattle.recovery.specs.Sets.{setsOf}
+use Rattle.recovery.specs.Laws.{AppendLaws}
+use Rattle.plain_record.specs.Calls.{vacuum}
+use Rattle.plain_record.specs.Plain.{Pins, Waiting, byEpochAndPair, Plain, blocked, listed, swept, Record, turn}
+use Rattle.plain_record.specs.Run.{port, World, world, isAccepted, paired, pairsIn, listedIf, DidVacuum}
+use Rattle.plain_record.specs.Claim.{pinsIn, waitingIn, waitingOf}
+use Rattle.plain_record.proofs.Invariant.{Inv}
+use Rattle.plain_record.proofs.Refused.{refused-number}
+use Rattle.plain_record.proofs.Stands.{Stands, accepted-stands, refused-stands, by-verdict}
+use Rattle.plain_record.proofs.Draw.{next-up}
+
+-- the entries that pass a test stay in order
+pub keep-arranged : {A : Type 0} (key : A → List ℕ) (q : A → Bool) (l : List A) → keep q (arranged key l) ≡ arranged key (keep q l)
+keep-arranged key q [] = refl
+keep-arranged key q (x ∷ l) =
+    by-cases (q x)
+    (λ e. rw e (keep-placed key q x (arranged key l) (sorted-arranged key l) e ∙ ap (placed key x) (keep-arranged key q l)))
+    (λ e. rw e (keep-placed-out key q x (arranged key l) e ∙ keep-arranged key q l))
+
+all-arranged : {A : Type 0} (key : A → List ℕ) (P : A → Type 0) (l : List A) → All P l → All P (arranged key l)
+all-arranged key P [] h = tt
+all-arranged key P (x ∷ l) h = all-placed key P x (arranged key l) (h .0) (all-arranged key P l (h .1))
+
+map-map : {A B C : Type 0} (f : A → B) (g : B → C) (l : List A) → map g (map f l) ≡ map (λ x. g (f x)) l
+map-map f g [] = refl
+map-map f g (x ∷ l) = ap (λ k. g (f x) ∷ k) (map-map f g l)
+
+-- the record's pins keep what the book's keep
+blocked-alike : (l : List PinEntry) (p : List Pins) (w : ℕ) → map pinsIn l ≡ p → blocked p w ≡ pins.blocked w l
+blocked-alike l p w e = rw (← e) (anyOf-map pinsIn (λ (x : Pins). ltb (x .epoch) w) l)
+
+-- whether no pin keeps a deletion, by its key; and whether one does
+abbrev free : List PinEntry → List ℕ → Bool
+free l k = not (pins.blocked (getD k 0 0) l)
+
+abbrev held : List PinEntry → List ℕ → Bool
+held l k = pins.blocked (getD k 0 0) l
+
+-- a key without its epoch
+abbrev rest : List ℕ → List ℕ
+rest [] = []
+rest (x ∷ k) = k
+
+module _ (e : ℕ) (l : List PinEntry) where
+  gone-free : (x : Entry) → x .deleted ≤ e → goneBy (bound e l) x ≡ waits x && free l (byDeletion x)
+  unfolding goneAt
+  gone-free x h = rw (free-is e (x .deleted) l h)
+
+  not-not : (b : Bool) → not (not b) ≡ b
+  not-not true = refl
+  not-not false = refl
+
+  stays-held : (x : Entry) → x .deleted ≤ e → staysBy (bound e l) x && waits x ≡ waits x && held l (byDeletion x)
+  stays-held x h =
+      rw (gone-free x h) (by-cases (waits x)
+      (λ f. by-cases (held l (byDeletion x)) (λ g. rw (f, g)) (λ g. rw (f, g)))
+      (λ f. rw f))
+
+  module _ (s : State) (below : All (λ (x : Entry). x .deleted ≤ e) (s .pairs)) where
+    list-kept : vacuumList (bound e l) s ≡ keep (λ (x : Entry). free l (byDeletion x)) (arranged byDeletion (keep waits (s .pairs)))
+    list-kept =
+        ap (arranged byDeletion)
+        (keep-same (goneBy (bound e l)) (λ (x : Entry). waits x && free l (byDeletion x)) (s .pairs) (all-map (s .pairs) gone-free below)
+        ∙ sym (keep-keep (λ (x : Entry). free l (byDeletion x)) waits (s .pairs)))
+        ∙ sym (keep-arranged byDeletion (λ (x : Entry). free l (byDeletion x)) (keep waits (s .pairs)))
+
+    left-kept : arranged byDeletion (keep waits (keep (staysBy (bound e l)) (s .pairs))) ≡ keep (λ (x : Entry). held l (byDeletion x)) (arranged byDeletion (keep waits (s .pairs)))
+    left-kept =
+        ap (arranged byDeletion)
+        (keep-keep waits (staysBy (bound e l)) (s .pairs)
+        ∙ keep-same (λ (x : Entry). staysBy (bound e l) x && waits x) (λ (x : Entry). waits x && held l (byDeletion x)) (s .pairs) (all-map (s .pairs) stays-held below)
+        ∙ sym (keep-keep (λ (x : Entry). held l (byDeletion x)) waits (s .pairs)))
+        ∙ sym (keep-arranged byDeletion (λ (x : Entry). held l (byDeletion x)) (keep waits (s .pairs)))
+
+    module _ (p : Plain) (book : map pinsIn l ≡ p .pinned) (waiting : waitingIn s ≡ waitingOf p) where
+      free-alike : (w : Waiting) → free l (byEpochAndPair w) ≡ not (blocked (p .pinned) (w .epoch))
+      free-alike w = ap not (sym (blocked-alike l (p .pinned) (w .epoch) book))
+
+      held-alike : (w : Waiting) → held l (byEpochAndPair w) ≡ blocked (p .pinned) (w .epoch)
+      held-alike w = sym (blocked-alike l (p .pinned) (w .epoch) book)
+
+      -- the list is the record's
+      pub list-keys : map byDeletion (vacuumList (bound e l) s) ≡ map byEpochAndPair (listed p)
+      list-keys =
+          ap (map byDeletion) list-kept
+          ∙ sym (keep-map byDeletion (free l) (arranged byDeletion (keep waits (s .pairs))))
+          ∙ ap (keep (free l)) waiting
+          ∙ keep-map byEpochAndPair (free l) (p .waiting)
+          ∙ ap (map byEpochAndPair) (keep-same (λ (w : Waiting). free l (byEpochAndPair w)) (λ (w : Waiting). not (blocked (p .pinned) (w .epoch))) (p .waiting) (all-any (p .waiting) free-alike))
+
+      pub list-pairs : map (λ (x : Entry). x .ids) (vacuumList (bound e l) s) ≡ map (λ (w : Waiting). w .pair) (listed p)
+      list-pairs =
+          sym (map-map byDeletion rest (vacuumList (bound e l) s)) ∙ ap (map rest) list-keys ∙ map-map byEpochAndPair rest (listed p)
+
+      -- what waits afterwards is what still waits in the record
+      pub still-waiting : waitingIn (vacuumed (bound e l) s) ≡ waitingOf (swept p)
+      still-waiting =
+          ap (map byDeletion) left-kept
+          ∙ sym (keep-map byDeletion (held l) (arranged byDeletion (keep waits (s .pairs))))
+          ∙ ap (keep (held l)) waiting
+          ∙ keep-map byEpochAndPair (held l) (p .waiting)
+          ∙ ap (map byEpochAndPair) (keep-same (λ (w : Waiting). held l (byEpochAndPair w)) (λ (w : Waiting). blocked (p .pinned) (w .epoch)) (p .waiting) (all-any (p .waiting) held-alike))
+
+-- an entry of two ids
+abbrev TwoIds : Entry → Type 0
+TwoIds x = getD (x .ids) 0 0 ∷ getD (x .ids) 1 0 ∷ [] ≡ x .ids
+
+paired-fields : (l : List Entry) → All TwoIds l → paired (field 0 l) (field 1 l) ≡ map (λ (x : Entry). x .ids) l
+paired-fields [] h = refl
+paired-fields (x ∷ l) h = rw (h .0, paired-fields l (h .1))
+
+-- the slices hold the list
+pub pairs-written : (l : List Entry) (ts rs : List ℕ) → All TwoIds l → pairsIn (length l) (over (field 0 l) ts) (over (field 1 l) rs) ≡ map (λ (x : Entry). x .ids) l
+pairs-written l ts rs h =
+    rw (take-at (field 0 l) (drop (length (field 0 l)) ts) (length l) (length-map l _), take-at (field 1 l) (drop (length (field 1 l)) rs) (length l) (length-map l _)) (paired-fields l h)
+
+pub two-ids : (m : VersionManagerInner) (b : ℕ) → All TwoIds (vacuumList b (stateOf m))
+two-ids m b =
+    let l = take (m .rowsets .count) (m .rowsets .items) in
+    all-arranged byDeletion TwoIds (keep (goneBy b) (map rowsetEntry l))
+    (all-keep TwoIds (goneBy b) (map rowsetEntry l) (all-mapped TwoIds rowsetEntry l (all-any l (λ (x : Rowset). refl))))
+
+module _ (laws : AppendLaws) (w : World) (r : Record) (t : Told) (l : List (List ℕ)) (v : World) (ts rs : List ℕ) (i : Inv w r) (d : DidVacuum port w t l v ts rs) where
+  abbrev inner : VersionManagerInner
+  inner = w .manager .inner
+
+  abbrev to : ℕ
+  to = boundOf inner (w .book)
+
+  abbrev swept-state : State
+  swept-state = vacuumed to (stateOf inner)
+
+  abbrev verdict : Verdict
+  verdict = vacuumVerdict inner (w .book) (length ts) (length rs)
+
+  abbrev Handed : Verdict → Type 0
+  Handed x = HandsBack x inner swept-state (d .result .manager .inner)
+
+  -- by 29
+  deletions-below : All (λ (x : Entry). x .deleted ≤ inner .epoch) (stateOf inner .pairs)
+  deletions-below =
+      let next = stateOf inner .nextTable ∷ stateOf inner .nextRowset ∷ [] in
+      all-map (stateOf inner .pairs)
+      (λ (x : Entry) h.
+      let a = both (leb (x .added) (inner .epoch)) (leb (x .deleted) (inner .epoch) && belowNext (x .ids) next) h in
+      leb-true (x .deleted) (inner .epoch) (both (leb (x .deleted) (inner .epoch)) (belowNext (x .ids) next) (a .1) .0))
+      (allOf-all (within (inner .epoch) next) (stateOf inner .pairs) (sound-of inner (i .sound) .pairs))
+
+  sets-stay : setsOf swept-state ≡ setsOf (stateOf inner)
+  sets-stay =
+      let k = bound-le (inner .epoch) (pinsOf (w .book)) in
+      rw (pairs-after to (inner .epoch) (stateOf inner) k, vectors-after to (inner .epoch) (stateOf inner) k)
+
+  stands-swept : Stands swept-state (w .book) (w .file) (swept (r .whole))
+  stands-swept =
+      record {
+        book = i .book;
+        epoch = i .epoch;
+        tables = i .tables;
+        pairs = λ e k. pairs-after to e (stateOf inner) k ∙ i .pairs e k;
+        vectors = λ e k. vectors-after to e (stateOf inner) k ∙ i .vectors e k;
+        pins = i .pins;
+        waiting = still-waiting (inner .epoch) (pinsOf (w .book)) (stateOf inner) deletions-below (r .whole) (i .pins) (i .waiting);
+        next = next-up (stateOf inner) swept-state (r .whole .added) (omega arith) (omega arith) (omega arith) (i .next);
+        file = record { state = i .file .state; holds = i .file .holds; same = sets-stay ∙ i .file .same; long = i .file .long; next = i .file .next };
+      }
+
+  tells : t ≡ told verdict (length (listOf inner (w .book)) ∷ [])
+  tells = d .told ∙ d .says .answer
+
+  pub vacuum-kept : Inv v (turn (vacuum ts rs) (isAccepted t) r)
+  vacuum-kept =
+      subst (λ (u : World). Inv u (turn (vacuum ts rs) (isAccepted t) r)) (sym (d .after))
+      (by-verdict (λ a. Inv (world (d .result .manager) (w .book) (w .file) (cond a (w .file) (w .torn))) (turn (vacuum ts rs) a r))
+      verdict (length (listOf inner (w .book)) ∷ []) t tells
+      (λ a. let h = subst Handed a (d .says .inner) in
+      accepted-stands laws (d .result .manager) (w .book) (w .file) swept-state (swept (r .whole)) (r .place + 1)
+      (vacuum-sound inner (d .result .manager .inner) to (bound-le (inner .epoch) (pinsOf (w .book))) (i .sound) h) (h .state) stands-swept)
+      (λ k a. refused-stands w r (d .result .manager) (w .book) (subst Handed a (d .says .inner)) refl i))
+
+  lists-by : (c : Verdict) (ts′ rs′ : List ℕ) → t ≡ told c (length (listOf inner (w .book)) ∷ []) → ts′ ≡ after c (over (field 0 (listOf inner (w .book))) ts) ts
+      → rs′ ≡ after c (over (field 1 (listOf inner (w .book))) rs) rs → isAccepted t ≡ true → listedIf t ts′ rs′ ≡ map (λ (x : Waiting). x .pair) (listed (r .whole))
+  lists-by Accepted ts′ rs′ e f g a =
+      rw (e, f, g) (pairs-written (listOf inner (w .book)) ts rs (two-ids inner to)
+      ∙ list-pairs (inner .epoch) (pinsOf (w .book)) (stateOf inner) deletions-below (r .whole) (i .pins) (i .waiting))
+  lists-by (Refused q) ts′ rs′ e f g a = clash a (rw e (refused-number q))
+
+  -- it lists what the record lists
+  pub vacuum-lists : isAccepted t ≡ true → l ≡ map (λ (x : Waiting). x .pair) (listed (r .whole))
+  vacuum-lists a = d .listed ∙ lists-by verdict (d .tables) (d .rowsets) tells (d .says .tables) (d .says .rowsets) a

@@ -1,0 +1,25 @@
+-- The worked examples, by computing. Assumes nothing.
+use mathlib.Core.Path.{refl}
+use Rattle.text.specs.Class.{isDigit, isLower, isCapital, classOf}
+use Rattle.text.specs.Decimal.{readOn, readIn, readAt}
+use Rattle.manifest.specs.Lines.{fieldAt, twoFields, lineBy, lineOf}
+use Rattle.manifest.specs.Split.{linesOn, lines}
+use Rattle.plain_record.specs.Examples.{Examples}
+
+pub worked : Examples
+unfolding isDigit isLower isCapital classOf readOn readIn readAt fieldAt twoFields lineBy lineOf linesOn lines
+worked =
+    record {
+      first = refl;
+      second = refl;
+      equal = refl;
+      between = refl;
+      once = refl;
+      out = refl;
+      inOrder = refl;
+      oneLine = refl;
+      added = refl;
+      zero = refl;
+      told = refl;
+      kept = refl;
+    }

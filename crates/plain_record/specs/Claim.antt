@@ -1,0 +1,195 @@
+-- Demand 3: what is claimed of every run, beside the plain record of its calls. Assumes nothing.
+use mathlib.Core.Path.{_≡_}
+use mathlib.Core.Bool.{Bool, true, false, cond, not, _&&_, _||_}
+use mathlib.Core.List.{List, [], _∷_, _++_, map}
+use Prim.Native.Nat.{ℕ, _+_, _*_, _≤_}
+use lib.Dec.{eqb, ltb}
+use lib.ListN.{length}
+use Rattle.lists.specs.Order.{same}
+use Rattle.lists.specs.Keyed.{keep, allOf, anyOf, arranged}
+use Rattle.lists.specs.Written.{over}
+use Rattle.ids.specs.declared.refusal.Refusal.the-variants.{OutputTooShort}
+use Rattle.ids.specs.declared.refusal.Verdict.{Verdict}
+use Rattle.ids.specs.Names.{longestName}
+use Rattle.ids.specs.Verdicts.{_⇒_, judged}
+use Rattle.ids.specs.Answers.{told, after}
+use Rattle.snapshot.specs.Entries.{Entry, byDeletion, waits}
+use Rattle.version_state.specs.State.{State, stateOf}
+use Rattle.pins.specs.Book.{PinEntry, pinsOf, mayShow}
+use Rattle.show.specs.declared.ShowAnswer.{ShowAnswer}
+use Rattle.show.specs.Names.{padded}
+use Rattle.show.specs.Says.{showTold, column, ShowTablesSays, ShowPairsSays, ShowVectorsSays}
+use Rattle.rewrite.specs.Rewritten.{longestRewritten}
+use Rattle.plain_record.specs.Sets.{Table, Sets}
+use Rattle.plain_record.specs.Calls.{Call, drawRowset, drawVector, commit, pin, unpin, vacuum, reopen}
+use Rattle.plain_record.specs.Plain.{Pins, pins, Waiting, Id, tableId, rowsetId, vectorId, Plain, epochOf, setsAt, deletions, blocked, listed, Record, atStart, turn}
+use Rattle.plain_record.specs.Run.{Steps, World, Event, isAccepted, value, Chain, lastOf, Starts}
+
+-- What show gives, whatever is lent: the rows, refused by 9 alone.
+
+abbrev pub nineAlone : Bool → Verdict
+nineAlone short = judged ((short ⇒ OutputTooShort) ∷ [])
+
+abbrev pub ShowsPairs : World → ℕ → List (List ℕ) → Type 0
+ShowsPairs w d l =
+    (ts rs : List ℕ) (a : ShowAnswer) (ts′ rs′ : List ℕ) → ShowPairsSays (w .manager .inner) (w .book) d ts rs a ts′ rs′
+    → let v = nineAlone (ltb (length ts) (length l) || ltb (length rs) (length l)) in
+      (showTold a ≡ told v (length l ∷ [])) × (ts′ ≡ after v (over (column 0 l) ts) ts) × (rs′ ≡ after v (over (column 1 l) rs) rs)
+
+abbrev pub ShowsVectors : World → ℕ → List (List ℕ) → Type 0
+ShowsVectors w d l =
+    (ts rs vs : List ℕ) (a : ShowAnswer) (ts′ rs′ vs′ : List ℕ) → ShowVectorsSays (w .manager .inner) (w .book) d ts rs vs a ts′ rs′ vs′
+    → let v = nineAlone (ltb (length ts) (length l) || (ltb (length rs) (length l) || ltb (length vs) (length l))) in
+      (showTold a ≡ told v (length l ∷ [])) × (ts′ ≡ after v (over (column 0 l) ts) ts) × (rs′ ≡ after v (over (column 1 l) rs) rs) × (vs′ ≡ after v (over (column 2 l) vs) vs)
+
+-- the names of tables, 32 bytes each
+abbrev pub namesOf : List Table → List ℕ
+namesOf [] = []
+namesOf (t ∷ l) = padded (t .name) ++ namesOf l
+
+abbrev pub ShowsTables : World → ℕ → List Table → Type 0
+ShowsTables w d l =
+    (is hs ls ns : List ℕ) (a : ShowAnswer) (is′ hs′ ls′ ns′ : List ℕ) → ShowTablesSays (w .manager .inner) (w .book) d is hs ls ns a is′ hs′ ls′ ns′
+    → let v = nineAlone (ltb (length is) (length l) || (ltb (length hs) (length l) || (ltb (length ls) (length l) || ltb (length ns) (longestName * length l)))) in
+      (showTold a ≡ told v (length l ∷ []))
+      × (is′ ≡ after v (over (map (λ (t : Table). t .id) l) is) is)
+      × (hs′ ≡ after v (over (map (λ (t : Table). t .shape) l) hs) hs)
+      × (ls′ ≡ after v (over (map (λ (t : Table). length (t .name)) l) ls) ls)
+      × (ns′ ≡ after v (over (namesOf l) ns) ns)
+
+-- What the manager and the book hold beside it, in the record's terms.
+
+abbrev pub pinsIn : PinEntry → Pins
+pinsIn p = pins (p .epoch) (p .count)
+
+-- the waiting deletions, by epoch, table, rowset: (epoch, table, rowset)
+abbrev pub waitingIn : State → List (List ℕ)
+waitingIn s = map byDeletion (arranged byDeletion (keep waits (s .pairs)))
+
+abbrev pub waitingOf : Plain → List (List ℕ)
+waitingOf p = map (λ (w : Waiting). w .epoch ∷ w .pair) (p .waiting)
+
+-- no two have one pair
+abbrev pub differ : List (List ℕ) → Bool
+differ [] = true
+differ (k ∷ l) = not (anyOf (same k) l) && differ l
+
+abbrev pub belowNext : State → Id → Bool
+belowNext s (tableId t) = ltb t (s .nextTable)
+belowNext s (rowsetId r) = ltb r (s .nextRowset)
+belowNext s (vectorId v) = ltb v (s .nextVector)
+
+-- equal after the list
+pub record Agrees (w : World) (p : Plain) : Type 0 where
+  pub epoch : stateOf (w .manager .inner) .epoch ≡ epochOf p
+  pub tables : ShowsTables w (epochOf p) (p .now .tables)
+  -- of the current epoch and of each pinned one
+  pub pairs : (d : ℕ) → mayShow (epochOf p) (pinsOf (w .book)) d ≡ true → ShowsPairs w d (setsAt d p .pairs)
+  pub vectors : (d : ℕ) → mayShow (epochOf p) (pinsOf (w .book)) d ≡ true → ShowsVectors w d (setsAt d p .vectors)
+  pub book : map pinsIn (pinsOf (w .book)) ≡ p .pinned
+  pub waiting : waitingIn (stateOf (w .manager .inner)) ≡ waitingOf p
+  pub apart : differ (map (λ (x : Waiting). x .pair) (p .waiting)) ≡ true
+  -- next ids exceed every id that a counted commit added
+  pub next : allOf (belowNext (stateOf (w .manager .inner))) (p .added) ≡ true
+
+-- each answer, where the record was r before the call
+abbrev pub AnswerBy : Record → Event → Call → Type 0
+AnswerBy r e drawRowset = Unit {0}
+AnswerBy r e drawVector = Unit {0}
+AnswerBy r e (commit os out missing) = Unit {0}
+-- an accepted pin answers the current epoch
+AnswerBy r e pin = isAccepted (e .told) ≡ true → value 0 (e .told) ≡ epochOf (r .whole)
+AnswerBy r e (unpin d) = Unit {0}
+-- an accepted vacuum lists what the record lists, in its order
+AnswerBy r e (vacuum ts rs) = isAccepted (e .told) ≡ true → e .listed ≡ map (λ (w : Waiting). w .pair) (listed (r .whole))
+-- a reopen that is lent enough is never refused
+AnswerBy r e (reopen out stale) = longestRewritten ≤ length out → isAccepted (e .told) ≡ true
+
+abbrev pub nextRecord : Record → Event → Record
+nextRecord r e = turn (e .call) (isAccepted (e .told)) r
+
+abbrev pub Answers : Record → List Event → Type 0
+Answers r [] = Unit {0}
+Answers r (e ∷ es) = AnswerBy r e (e .call) × Answers (nextRecord r e) es
+
+abbrev pub recordOf : Record → List Event → Record
+recordOf r [] = r
+recordOf r (e ∷ es) = recordOf (nextRecord r e) es
+
+-- Which vacuum lists a deletion.
+
+abbrev pub isVacuum : Call → Bool
+isVacuum drawRowset = false
+isVacuum drawVector = false
+isVacuum (commit os out missing) = false
+isVacuum pin = false
+isVacuum (unpin e) = false
+isVacuum (vacuum ts rs) = true
+isVacuum (reopen out stale) = false
+
+abbrev pub isReopen : Call → Bool
+isReopen drawRowset = false
+isReopen drawVector = false
+isReopen (commit os out missing) = false
+isReopen pin = false
+isReopen (unpin e) = false
+isReopen (vacuum ts rs) = false
+isReopen (reopen out stale) = true
+
+-- an accepted vacuum, and one that meets no pin on an epoch before w's
+abbrev pub vacuums : Event → Bool
+vacuums e = isVacuum (e .call) && isAccepted (e .told)
+
+abbrev pub frees : Waiting → Event → Bool
+frees w e = vacuums e && not (blocked (map pinsIn (pinsOf (e .before .book))) (w .epoch))
+
+-- the event lists w: w is told apart by its commit and its operation
+abbrev pub isIt : Waiting → Waiting → Bool
+isIt w x = eqb (x .commit) (w .commit) && eqb (x .operation) (w .operation)
+
+abbrev pub lists : Waiting → Record → Event → Bool
+lists w r e = vacuums e && anyOf (isIt w) (listed (r .whole))
+
+-- in the events from the record r on, the first that frees w lists it, and no other does
+abbrev pub NeverListed : Waiting → Record → List Event → Type 0
+NeverListed w r [] = Unit {0}
+NeverListed w r (e ∷ es) = (lists w r e ≡ false) × NeverListed w (nextRecord r e) es
+
+abbrev pub ListedFirst : Waiting → Record → List Event → Type 0
+ListedFirst w r [] = Unit {0}
+ListedFirst w r (e ∷ es) =
+    ((frees w e ≡ true) → (lists w r e ≡ true) × NeverListed w (nextRecord r e) es)
+    × ((frees w e ≡ false) → (lists w r e ≡ false) × ListedFirst w (nextRecord r e) es)
+
+-- no accepted reopen
+abbrev pub neverReopened : List Event → Bool
+neverReopened es = not (anyOf (λ (e : Event). isReopen (e .call) && isAccepted (e .told)) es)
+
+-- the deletions of an accepted commit
+abbrev pub deletionsBy : Record → Call → List Waiting
+deletionsBy r drawRowset = []
+deletionsBy r drawVector = []
+deletionsBy r (commit os out missing) = deletions (r .place) (epochOf (r .whole) + 1) 0 os
+deletionsBy r pin = []
+deletionsBy r (unpin e) = []
+deletionsBy r (vacuum ts rs) = []
+deletionsBy r (reopen out stale) = []
+
+abbrev pub EachListed : List Waiting → Record → List Event → Type 0
+EachListed [] r es = Unit {0}
+EachListed (w ∷ ws) r es = ListedFirst w r es × EachListed ws r es
+
+-- every deletion since the last accepted reopen
+abbrev pub Deletions : Record → List Event → Type 0
+Deletions r [] = Unit {0}
+Deletions r (e ∷ es) =
+    (isAccepted (e .told) ≡ true → neverReopened es ≡ true → EachListed (deletionsBy r (e .call)) (nextRecord r e) es) × Deletions (nextRecord r e) es
+
+-- after every list of calls
+pub record Holds (w : World) (es : List Event) : Type 0 where
+  pub agrees : Agrees (lastOf w es) (recordOf atStart es .whole)
+  pub answers : Answers atStart es
+  pub deletions : Deletions atStart es
+
+abbrev pub Claim : Steps → Type 0
+Claim S = (w : World) (es : List Event) → Starts S w → Chain S w es → Holds w es

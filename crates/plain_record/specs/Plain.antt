@@ -1,0 +1,152 @@
+-- Document 01's plain record. It is fed the calls' arguments, whether each was accepted, and how far an append landed. Assumes nothing.
+use mathlib.Core.Bool.{Bool, true, false, cond, not}
+use mathlib.Core.List.{List, [], _∷_, _++_}
+use Prim.Native.Nat.{ℕ, _+_, _-_}
+use lib.Dec.{eqb, ltb, leb}
+use lib.ListN.{length, getD}
+use Rattle.lists.specs.Keyed.{keep, anyOf, placed}
+use Rattle.manifest.specs.Operations.{Operation, createTable, dropTable, addRowset, deleteRowset, addVector, deleteVector, nextIds}
+use Rattle.plain_record.specs.Sets.{Sets, none, applyAll}
+use Rattle.plain_record.specs.Calls.{Call, drawRowset, drawVector, commit, pin, unpin, vacuum, reopen}
+
+-- the pins of an epoch
+pub record Pins : Type 0 where
+  pub epoch : ℕ
+  pub count : ℕ
+
+abbrev pub pins : ℕ → ℕ → Pins
+pins e n = record { epoch = e; count = n }
+
+-- a deletion that waits, told apart from every other by the place of its commit in the list and of its operation in the commit
+pub record Waiting : Type 0 where
+  pub epoch : ℕ
+  pub pair : List ℕ
+  pub commit : ℕ
+  pub operation : ℕ
+
+abbrev pub waitingAs : ℕ → List ℕ → ℕ → ℕ → Waiting
+waitingAs e k c i = record { epoch = e; pair = k; commit = c; operation = i }
+
+-- by epoch, table, rowset
+abbrev pub byEpochAndPair : Waiting → List ℕ
+byEpochAndPair w = w .epoch ∷ w .pair
+
+-- an id that a commit added
+pub data Id : Type 0 where
+  tableId : ℕ → Id
+  rowsetId : ℕ → Id
+  vectorId : ℕ → Id
+
+pub record Plain : Type 0 where
+  -- the sets of the epochs before the current one, from epoch 0 on, and of the current one
+  pub past : List Sets
+  pub now : Sets
+  -- pinned epochs, and the deletions that wait
+  pub pinned : List Pins
+  pub waiting : List Waiting
+  -- every id that a counted commit added
+  pub added : List Id
+
+abbrev pub plain : List Sets → Sets → List Pins → List Waiting → List Id → Plain
+plain p n b w a = record { past = p; now = n; pinned = b; waiting = w; added = a }
+
+-- epoch 0 shows nothing
+abbrev pub start : Plain
+start = plain [] none [] [] []
+
+-- the current epoch, and what an epoch shows
+abbrev pub epochOf : Plain → ℕ
+epochOf p = length (p .past)
+
+abbrev pub setsAt : ℕ → Plain → Sets
+setsAt d p = getD (p .past) d (p .now)
+
+-- each `D` is a deletion of its own: those of a commit at place c that makes epoch e, the first operation at place i
+abbrev pub deletions : ℕ → ℕ → ℕ → List Operation → List Waiting
+deletions c e i [] = []
+deletions c e i (createTable t h n ∷ os) = deletions c e (i + 1) os
+deletions c e i (dropTable t ∷ os) = deletions c e (i + 1) os
+deletions c e i (addRowset t r ∷ os) = deletions c e (i + 1) os
+deletions c e i (deleteRowset t r ∷ os) = waitingAs e (t ∷ r ∷ []) c i ∷ deletions c e (i + 1) os
+deletions c e i (addVector t r v ∷ os) = deletions c e (i + 1) os
+deletions c e i (deleteVector t r v ∷ os) = deletions c e (i + 1) os
+deletions c e i (nextIds t r v ∷ os) = deletions c e (i + 1) os
+
+-- they wait in order
+abbrev pub await : List Waiting → List Waiting → List Waiting
+await [] l = l
+await (w ∷ ws) l = await ws (placed byEpochAndPair w l)
+
+abbrev pub idsOf : List Operation → List Id
+idsOf [] = []
+idsOf (createTable t h n ∷ os) = tableId t ∷ idsOf os
+idsOf (dropTable t ∷ os) = idsOf os
+idsOf (addRowset t r ∷ os) = rowsetId r ∷ idsOf os
+idsOf (deleteRowset t r ∷ os) = idsOf os
+idsOf (addVector t r v ∷ os) = vectorId v ∷ idsOf os
+idsOf (deleteVector t r v ∷ os) = idsOf os
+idsOf (nextIds t r v ∷ os) = idsOf os
+
+-- a counted commit at place c of the list: the next epoch remembers the result
+abbrev pub counted : ℕ → List Operation → Plain → Plain
+counted c os p =
+    plain (p .past ++ (p .now ∷ [])) (applyAll os (p .now)) (p .pinned) (await (deletions c (epochOf p + 1) 0 os) (p .waiting)) (p .added ++ idsOf os)
+
+-- a pin adds one at the current epoch, an unpin takes one off the epoch it names
+abbrev pub onePin : ℕ → List Pins → List Pins
+onePin e [] = pins e 1 ∷ []
+onePin e (p ∷ l) = cond (eqb (p .epoch) e) (pins e (p .count + 1) ∷ l) (p ∷ onePin e l)
+
+abbrev pub oneLess : ℕ → List Pins → List Pins
+oneLess e [] = []
+oneLess e (p ∷ l) = cond (eqb (p .epoch) e) (cond (leb (p .count) 1) l (pins e (p .count - 1) ∷ l)) (p ∷ oneLess e l)
+
+abbrev pub withPins : List Pins → Plain → Plain
+withPins l p = plain (p .past) (p .now) l (p .waiting) (p .added)
+
+-- a guarded epoch below w keeps what was deleted at w
+abbrev pub blocked : List Pins → ℕ → Bool
+blocked l w = anyOf (λ p. ltb (p .epoch) w) l
+
+-- what a vacuum lists and removes, and what is left
+abbrev pub listed : Plain → List Waiting
+listed p = keep (λ w. not (blocked (p .pinned) (w .epoch))) (p .waiting)
+
+abbrev pub swept : Plain → Plain
+swept p = plain (p .past) (p .now) (p .pinned) (keep (λ w. blocked (p .pinned) (w .epoch)) (p .waiting)) (p .added)
+
+-- a reopen keeps the last sets as epoch 1 and forgets older epochs, pins and waiting deletions
+abbrev pub kept : Plain → Plain
+kept p = plain (none ∷ []) (p .now) [] [] (p .added)
+
+-- The record of a list: as it is if all has landed, and as it is if the next accepted call is a reopen; and the place of the next call.
+pub record Record : Type 0 where
+  pub whole : Plain
+  pub torn : Plain
+  pub place : ℕ
+
+abbrev pub recorded : Plain → Plain → ℕ → Record
+recorded w t n = record { whole = w; torn = t; place = n }
+
+abbrev pub atStart : Record
+atStart = recorded start start 0
+
+-- an accepted call after which nothing is missing
+abbrev pub landed : Plain → Record → Record
+landed p r = recorded p p (r .place + 1)
+
+-- a commit whose last bytes are missing does not count where the next accepted call is a reopen
+abbrev pub accepts : Call → Record → Record
+accepts drawRowset r = landed (r .whole) r
+accepts drawVector r = landed (r .whole) r
+accepts (commit os out missing) r =
+    recorded (counted (r .place) os (r .whole)) (cond (eqb missing 0) (counted (r .place) os (r .whole)) (r .whole)) (r .place + 1)
+accepts pin r = landed (withPins (onePin (epochOf (r .whole)) (r .whole .pinned)) (r .whole)) r
+accepts (unpin e) r = landed (withPins (oneLess e (r .whole .pinned)) (r .whole)) r
+accepts (vacuum ts rs) r = landed (swept (r .whole)) r
+accepts (reopen out stale) r = landed (kept (r .torn)) r
+
+-- a refused call changes nothing
+abbrev pub turn : Call → Bool → Record → Record
+turn c true r = accepts c r
+turn c false r = recorded (r .whole) (r .torn) (r .place + 1)

@@ -1,0 +1,190 @@
+-- Runs: chains of managers, books, answers, lent buffers and file bytes, each link an entry point's own proposition. Assumes nothing.
+use mathlib.Core.Path.{_≡_}
+use mathlib.Core.Bool.{Bool, true, false, cond}
+use mathlib.Core.List.{List, [], _∷_, _++_}
+use Prim.Native.Nat.{ℕ, _-_}
+use lib.Dec.{eqb}
+use lib.ListN.{getD, take}
+use Rattle.ids.specs.Answers.{Told}
+use Rattle.manifest.specs.declared.operation.Batch.{Batch}
+use Rattle.manifest.specs.Operations.{Operation, batchOf}
+use Rattle.pins.specs.declared.PinBook.{PinBook}
+use Rattle.commit.specs.Commit.{commitTold, CommitSays}
+use Rattle.vacuum.specs.Says.{vacuumTold, VacuumSays}
+use Rattle.version_manager.specs.declared.VersionManager.{VersionManager}
+use Rattle.version_manager.specs.declared.Opened.{Opened}
+use Rattle.version_manager.specs.declared.DrawnRowset.{DrawnRowset}
+use Rattle.version_manager.specs.declared.DrawnVector.{DrawnVector}
+use Rattle.version_manager.specs.declared.Committed.{Committed}
+use Rattle.version_manager.specs.declared.Vacuumed.{Vacuumed}
+use Rattle.version_manager.specs.Managers.{FreshSays, committedOf, vacuumedOf}
+use Rattle.version_manager.specs.Draw.{rowsetTold, vectorTold, DrawRowsetSays, DrawVectorSays}
+use Rattle.pinning.specs.declared.PinAnswer.{PinAnswer}
+use Rattle.pinning.specs.declared.UnpinAnswer.{UnpinAnswer}
+use Rattle.pinning.specs.Says.{pinTold, unpinTold, PinSays, UnpinSays}
+use Rattle.storage.specs.declared.Reopened.{Reopened}
+use Rattle.storage.specs.Reopen.{reopenTold, ReopenSays}
+use Rattle.plain_record.specs.Calls.{Call, drawRowset, drawVector, commit, pin, unpin, vacuum, reopen}
+
+-- what each entry point may return and leave
+pub record Steps : Type 1 where
+  pub fresh : Opened → Type 0
+  pub drawRowset : VersionManager → DrawnRowset → Type 0
+  pub drawVector : VersionManager → DrawnVector → Type 0
+  pub commit : VersionManager → Batch → List ℕ → Committed → List ℕ → Type 0
+  pub pin : VersionManager → PinBook → PinAnswer → PinBook → Type 0
+  pub unpin : VersionManager → ℕ → PinBook → UnpinAnswer → PinBook → Type 0
+  pub vacuum : VersionManager → PinBook → List ℕ → List ℕ → Vacuumed → List ℕ → List ℕ → Type 0
+  pub reopen : List ℕ → List ℕ → Reopened → List ℕ → Type 0
+
+-- the port's own
+abbrev pub port : Steps
+port =
+    record {
+      fresh = FreshSays;
+      drawRowset = DrawRowsetSays;
+      drawVector = DrawVectorSays;
+      commit = λ m b out r out′. CommitSays (m .inner) b out (committedOf r) out′;
+      pin = PinSays;
+      unpin = UnpinSays;
+      vacuum = λ m b ts rs r ts′ rs′. VacuumSays (m .inner) b ts rs (vacuumedOf r) ts′ rs′;
+      reopen = ReopenSays;
+    }
+
+-- what stands between two calls: the manager, the book, the manifest file if all landed, and the file if the next accepted call is a reopen
+pub record World : Type 0 where
+  pub manager : VersionManager
+  pub book : PinBook
+  pub file : List ℕ
+  pub torn : List ℕ
+
+abbrev pub world : VersionManager → PinBook → List ℕ → List ℕ → World
+world m b f t = record { manager = m; book = b; file = f; torn = t }
+
+-- a turn of a run: what stood before it, the call, what its answer tells, the pairs that it listed, and what stands after it
+pub record Event : Type 0 where
+  pub before : World
+  pub call : Call
+  pub told : Told
+  pub listed : List (List ℕ)
+  pub after : World
+
+abbrev pub isAccepted : Told → Bool
+isAccepted t = eqb (t .number) 0
+
+-- one of the values that an answer tells
+abbrev pub value : ℕ → Told → ℕ
+value n t = getD (t .values) n 0
+
+-- after a call that appends nothing: an accepted one has found everything landed
+abbrev pub onward : VersionManager → PinBook → Told → World → World
+onward m b t w = world m b (w .file) (cond (isAccepted t) (w .file) (w .torn))
+
+-- the append of a commit, of which the last bytes may be missing: how many bytes it has is the answer's second value
+abbrev pub afterCommit : VersionManager → Told → List ℕ → ℕ → World → World
+afterCommit m t out missing w =
+    world m (w .book) (cond (isAccepted t) (w .file ++ take (value 1 t) out) (w .file)) (cond (isAccepted t) (w .file ++ take (value 1 t - missing) out) (w .torn))
+
+-- the rewritten manifest replaces the old one whole, or the old one still stands; a refused reopen hands nothing on
+abbrev pub afterReopen : VersionManager → PinBook → Told → List ℕ → Bool → World → World
+afterReopen m b t out stale w =
+    cond (isAccepted t) (world m b (take (value 0 t) out) (cond stale (w .torn) (take (value 0 t) out))) w
+
+-- the pairs that two slices hold, and the first n of them
+abbrev pub paired : List ℕ → List ℕ → List (List ℕ)
+paired [] rs = []
+paired (t ∷ ts) [] = []
+paired (t ∷ ts) (r ∷ rs) = (t ∷ r ∷ []) ∷ paired ts rs
+
+abbrev pub pairsIn : ℕ → List ℕ → List ℕ → List (List ℕ)
+pairsIn n ts rs = paired (take n ts) (take n rs)
+
+abbrev pub listedIf : Told → List ℕ → List ℕ → List (List ℕ)
+listedIf t ts rs = cond (isAccepted t) (pairsIn (value 0 t) ts rs) []
+
+module _ (S : Steps) (w : World) (t : Told) (l : List (List ℕ)) (v : World) where
+  pub record DrewRowset : Type 0 where
+    pub result : DrawnRowset
+    pub says : S .drawRowset (w .manager) result
+    pub told : t ≡ rowsetTold (result .answer)
+    pub none : l ≡ []
+    pub after : v ≡ onward (result .manager) (w .book) t w
+
+  pub record DrewVector : Type 0 where
+    pub result : DrawnVector
+    pub says : S .drawVector (w .manager) result
+    pub told : t ≡ vectorTold (result .answer)
+    pub none : l ≡ []
+    pub after : v ≡ onward (result .manager) (w .book) t w
+
+  pub record DidCommit (os : List Operation) (out : List ℕ) (missing : ℕ) : Type 0 where
+    pub batch : Batch
+    pub operations : batchOf batch ≡ os
+    pub result : Committed
+    pub left : List ℕ
+    pub says : S .commit (w .manager) batch out result left
+    pub told : t ≡ commitTold (result .answer)
+    pub none : l ≡ []
+    pub after : v ≡ afterCommit (result .manager) t left missing w
+
+  pub record DidPin : Type 0 where
+    pub answer : PinAnswer
+    pub book : PinBook
+    pub says : S .pin (w .manager) (w .book) answer book
+    pub told : t ≡ pinTold answer
+    pub none : l ≡ []
+    pub after : v ≡ onward (w .manager) book t w
+
+  pub record DidUnpin (e : ℕ) : Type 0 where
+    pub answer : UnpinAnswer
+    pub book : PinBook
+    pub says : S .unpin (w .manager) e (w .book) answer book
+    pub told : t ≡ unpinTold answer
+    pub none : l ≡ []
+    pub after : v ≡ onward (w .manager) book t w
+
+  pub record DidVacuum (ts rs : List ℕ) : Type 0 where
+    pub result : Vacuumed
+    pub tables : List ℕ
+    pub rowsets : List ℕ
+    pub says : S .vacuum (w .manager) (w .book) ts rs result tables rowsets
+    pub told : t ≡ vacuumTold (result .answer)
+    pub listed : l ≡ listedIf t tables rowsets
+    pub after : v ≡ onward (result .manager) (w .book) t w
+
+  -- it reads what then stands
+  pub record DidReopen (out : List ℕ) (stale : Bool) : Type 0 where
+    pub result : Reopened
+    pub left : List ℕ
+    pub says : S .reopen (w .torn) out result left
+    pub told : t ≡ reopenTold (result .answer)
+    pub none : l ≡ []
+    pub after : v ≡ afterReopen (result .manager) (result .book) t left stale w
+
+  abbrev pub LinkBy : Call → Type 0
+  LinkBy drawRowset = DrewRowset
+  LinkBy drawVector = DrewVector
+  LinkBy (commit os out missing) = DidCommit os out missing
+  LinkBy pin = DidPin
+  LinkBy (unpin e) = DidUnpin e
+  LinkBy (vacuum ts rs) = DidVacuum ts rs
+  LinkBy (reopen out stale) = DidReopen out stale
+
+abbrev pub Link : Steps → Event → Type 0
+Link S e = LinkBy S (e .before) (e .told) (e .listed) (e .after) (e .call)
+
+-- each call gets what the last one returned or left
+abbrev pub Chain : Steps → World → List Event → Type 0
+Chain S w [] = Unit {0}
+Chain S w (e ∷ es) = (e .before ≡ w) × Link S e × Chain S (e .after) es
+
+-- what stands at the end
+abbrev pub lastOf : World → List Event → World
+lastOf w [] = w
+lastOf w (e ∷ es) = lastOf (e .after) es
+
+-- a list starts from a fresh manager, an empty book and an empty manifest
+pub record Starts (S : Steps) (w : World) : Type 0 where
+  pub opened : Opened
+  pub says : S .fresh opened
+  pub fresh : w ≡ world (opened .manager) (opened .book) [] []

@@ -1,0 +1,20 @@
+// The plain record, and demand 3: after every list of calls the manager agrees with it. No code is here; the functions pin
+// what is claimed to the check.
+ghost use Rattle.plain_record.specs.Run.{port};
+ghost use Rattle.plain_record.specs.Claim.{Claim};
+ghost use Rattle.plain_record.specs.Examples.{Examples};
+ghost use Rattle.plain_record.specs.Wrong.{WrongRefuted};
+
+pub fn agrees()
+    ensures { λ _. ⌜ Claim port ⌝ }
+{}
+
+// The claim is no empty one: it is false of managers that are wrong in one call.
+pub fn tells_apart()
+    ensures { λ _. ⌜ WrongRefuted ⌝ }
+{}
+
+// What the port and the record rest on alike, worked out by hand.
+pub fn examples()
+    ensures { λ _. ⌜ Examples ⌝ }
+{}
