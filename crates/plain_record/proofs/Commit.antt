@@ -35,25 +35,8 @@ use Rattle.plain_record.proofs.Refused.{refused-number}
 use Rattle.plain_record.proofs.CommitSets.{plainAt}
 use Rattle.plain_record.proofs.CommitShows.{book-later, later-pairs, later-vectors, shows-on, shows-now}
 use Rattle.plain_record.proofs.CommitState.{commit-epoch, commit-sets, commit-waits, commit-next}
+use Rattle.plain_record.proofs.Stands.{inv-stays}
 use Rattle.plain_record.proofs.CommitFile.{append-taken, filed-after, torn-after}
-
--- Refused: all stands as it stood, but the place.
-pub inv-stays : (w v : World) (r : Record) (n : ℕ) → v .manager .inner ≡ w .manager .inner → v .book ≡ w .book → v .file ≡ w .file → v .torn ≡ w .torn
-    → Inv w r → Inv v (recorded (r .whole) (r .torn) n)
-inv-stays w v r n m b f t i =
-    record {
-      sound = rw m (i .sound);
-      book = rw (m, b) (i .book);
-      epoch = rw m (i .epoch);
-      tables = rw m (i .tables);
-      pairs = rw (m, b) (i .pairs);
-      vectors = rw (m, b) (i .vectors);
-      pins = rw b (i .pins);
-      waiting = rw m (i .waiting);
-      next = rw m (i .next);
-      file = rw (m, f) (i .file);
-      torn = rw t (i .torn);
-    }
 
 -- what the manager shows from now on is the record's last sets
 now-at : (w : World) (r : Record) → Inv w r → (d : ℕ) → w .manager .inner .epoch ≤ d → plainAt d (stateOf (w .manager .inner)) ≡ r .whole .now

@@ -24,13 +24,9 @@ use Rattle.recovery.proofs.Appending.{holds-replayed, torn-replayed, whole-appe
 use Rattle.plain_record.specs.Sets.{applyAll}
 use Rattle.plain_record.specs.Plain.{Plain, counted}
 use Rattle.plain_record.proofs.Invariant.{plainSets, Filed, Torn}
-use Rattle.plain_record.proofs.CommitSets.{plainOf, plain-of}
+use Rattle.plain_record.proofs.Landed.{sets-plain}
 use Rattle.plain_record.proofs.CommitIds.{followed-next}
 use Rattle.plain_record.proofs.CommitState.{commit-manifest, commit-fits, commit-few, commit-well}
-
--- states with the same sets have the same plain ones
-pub same-plain : (s u : State) → shows.setsOf s ≡ shows.setsOf u → plainSets s ≡ plainSets u
-same-plain s u h = sym (plain-of (s .epoch) s) ∙ ap plainOf h ∙ plain-of (u .epoch) u
 
 -- what a commit lends back begins with the append
 pub append-taken : (f out : List ℕ) (n : ℕ) → n ≤ length f → take n (over f out) ≡ take n f
@@ -65,7 +61,7 @@ module _ (f : List ℕ) (p : Plain) (m n : VersionManagerInner) (b : Batch) (roo
       record {
         state = filed-after .state;
         replayed = holds-replayed (f ++ frameOf (batchOf b)) (filed-after .state) (filed-after .holds) short-after;
-        sets = sym (same-plain (stateOf n) (filed-after .state) (filed-after .same)) ∙ q;
+        sets = sym (sets-plain (stateOf n) (filed-after .state) (filed-after .same)) ∙ q;
         next = filed-after .next;
       }
 
@@ -78,7 +74,7 @@ module _ (f : List ℕ) (p : Plain) (m n : VersionManagerInner) (b : Batch) (roo
       record {
         state = i .state;
         replayed = torn-replayed f (i .state) (batchOf b) j (i .holds) (commit-well m b room s h f (i .state) (i .holds) (i .same)) (commit-few m b room s h) l (short-cut j);
-        sets = sym (same-plain (stateOf m) (i .state) (i .same)) ∙ q;
+        sets = sym (sets-plain (stateOf m) (i .state) (i .same)) ∙ q;
         next = i .next;
       }
 

@@ -13,22 +13,13 @@ use Rattle.version_state.specs.State.{State, stateOf, HandsBack}
 use Rattle.pins.specs.declared.PinBook.{PinBook}
 use Rattle.version_manager.specs.Draw.{rowsetVerdict, vectorVerdict, rowsetDrawn, vectorDrawn}
 use Rattle.version_manager.proofs.Laws.{draw-laws}
-use Rattle.recovery.specs.Laws.{AppendLaws}
 use Rattle.plain_record.specs.Calls.{drawRowset, drawVector}
 use Rattle.plain_record.specs.Plain.{Id, tableId, rowsetId, vectorId, Plain, Record, turn}
 use Rattle.plain_record.specs.Run.{World, world, isAccepted, port, DrewRowset, DrewVector}
 use Rattle.plain_record.specs.Claim.{belowNext}
 use Rattle.plain_record.proofs.Invariant.{Filed, Inv}
+use Rattle.plain_record.proofs.CommitIds.{Rise, next-rise}
 use Rattle.plain_record.proofs.Stands.{Stands, stands-of, accepted-stands, refused-stands, by-verdict}
-
--- what is below next ids is below those that are not lower
-below-up : (s u : State) → s .nextTable ≤ u .nextTable → s .nextRowset ≤ u .nextRowset → s .nextVector ≤ u .nextVector → (i : Id) → belowNext s i ≡ true → belowNext u i ≡ true
-below-up s u t r v (tableId i) h = lt-ltb i (u .nextTable) (omega (arith, ltb-true i (s .nextTable) h))
-below-up s u t r v (rowsetId i) h = lt-ltb i (u .nextRowset) (omega (arith, ltb-true i (s .nextRowset) h))
-below-up s u t r v (vectorId i) h = lt-ltb i (u .nextVector) (omega (arith, ltb-true i (s .nextVector) h))
-
-pub next-up : (s u : State) (l : List Id) → s .nextTable ≤ u .nextTable → s .nextRowset ≤ u .nextRowset → s .nextVector ≤ u .nextVector → allOf (belowNext s) l ≡ true → allOf (belowNext u) l ≡ true
-next-up s u l t r v h = all-allOf (belowNext u) l (all-map l (below-up s u t r v) (allOf-all (belowNext s) l h))
 
 filed-rowset : (f : List ℕ) (s : State) (p : Plain) → Filed f s p → Filed f (rowsetDrawn s) p
 filed-rowset f s p k = record { state = k .state; holds = k .holds; same = k .same; long = k .long; next = k .next }
@@ -43,7 +34,7 @@ stands-rowset s b f p k =
       vectors = k .vectors;
       pins = k .pins;
       waiting = k .waiting;
-      next = next-up s (rowsetDrawn s) (p .added) (omega arith) (omega arith) (omega arith) (k .next);
+      next = next-rise s (rowsetDrawn s) (p .added) (record { table = omega arith; rowset = omega arith; vector = omega arith }) (k .next);
       file = filed-rowset f s p (k .file);
     }
 
@@ -60,11 +51,11 @@ stands-vector s b f p k =
       vectors = k .vectors;
       pins = k .pins;
       waiting = k .waiting;
-      next = next-up s (vectorDrawn s) (p .added) (omega arith) (omega arith) (omega arith) (k .next);
+      next = next-rise s (vectorDrawn s) (p .added) (record { table = omega arith; rowset = omega arith; vector = omega arith }) (k .next);
       file = filed-vector f s p (k .file);
     }
 
-module _ (laws : AppendLaws) (w : World) (r : Record) (t : Told) (l : List (List ℕ)) (v : World) (i : Inv w r) where
+module _ (w : World) (r : Record) (t : Told) (l : List (List ℕ)) (v : World) (i : Inv w r) where
   pub draw-rowset-kept : DrewRowset port w t l v → Inv v (turn drawRowset (isAccepted t) r)
   draw-rowset-kept d =
       let m = w .manager in
@@ -73,7 +64,7 @@ module _ (laws : AppendLaws) (w : World) (r : Record) (t : Told) (l : List (List
       (by-verdict (λ a. Inv (world (d .result .manager) (w .book) (w .file) (cond a (w .file) (w .torn))) (turn drawRowset a r))
       (rowsetVerdict m) (s .nextRowset ∷ []) t (d .told ∙ d .says .answer)
       (λ a. let h = subst (λ (x : Verdict). HandsBack x (m .inner) (rowsetDrawn s) (d .result .manager .inner)) a (d .says .manager) in
-      accepted-stands laws (d .result .manager) (w .book) (w .file) (rowsetDrawn s) (r .whole) (r .place + 1) (draw-laws .rowset m (d .result) (d .says) a) (h .state) (stands-rowset s (w .book) (w .file) (r .whole) (stands-of w r i)))
+      accepted-stands (d .result .manager) (w .book) (w .file) (rowsetDrawn s) (r .whole) (r .place + 1) (draw-laws .rowset m (d .result) (d .says) a) (h .state) (stands-rowset s (w .book) (w .file) (r .whole) (stands-of w r i)))
       (λ k a. refused-stands w r (d .result .manager) (w .book) (subst (λ (x : Verdict). HandsBack x (m .inner) (rowsetDrawn s) (d .result .manager .inner)) a (d .says .manager)) refl i))
 
   pub draw-vector-kept : DrewVector port w t l v → Inv v (turn drawVector (isAccepted t) r)
@@ -84,5 +75,5 @@ module _ (laws : AppendLaws) (w : World) (r : Record) (t : Told) (l : List (List
       (by-verdict (λ a. Inv (world (d .result .manager) (w .book) (w .file) (cond a (w .file) (w .torn))) (turn drawVector a r))
       (vectorVerdict m) (s .nextVector ∷ []) t (d .told ∙ d .says .answer)
       (λ a. let h = subst (λ (x : Verdict). HandsBack x (m .inner) (vectorDrawn s) (d .result .manager .inner)) a (d .says .manager) in
-      accepted-stands laws (d .result .manager) (w .book) (w .file) (vectorDrawn s) (r .whole) (r .place + 1) (draw-laws .vector m (d .result) (d .says) a) (h .state) (stands-vector s (w .book) (w .file) (r .whole) (stands-of w r i)))
+      accepted-stands (d .result .manager) (w .book) (w .file) (vectorDrawn s) (r .whole) (r .place + 1) (draw-laws .vector m (d .result) (d .says) a) (h .state) (stands-vector s (w .book) (w .file) (r .whole) (stands-of w r i)))
       (λ k a. refused-stands w r (d .result .manager) (w .book) (subst (λ (x : Verdict). HandsBack x (m .inner) (vectorDrawn s) (d .result .manager .inner)) a (d .says .manager)) refl i))

@@ -14,8 +14,7 @@ use Rattle.pins.proofs.Bound.{bound-le}
 use Rattle.pins.proofs.Facts.{good-book}
 use Rattle.pinning.specs.Counts.{pinsAt, withPin}
 use Rattle.pinning.specs.Says.{BookAfter, pinVerdict}
-use Rattle.pinning.specs.Laws.{PinLaws}
-use Rattle.recovery.specs.Laws.{AppendLaws}
+use Rattle.pinning.proofs.Laws.{pin-laws}
 use Rattle.plain_record.specs.Calls.{pin}
 use Rattle.plain_record.specs.Plain.{Pins, Plain, epochOf, onePin, withPins, Record, turn}
 use Rattle.plain_record.specs.Run.{World, world, isAccepted, value, port, DidPin}
@@ -43,7 +42,7 @@ stands-pins s b b′ f l p k g e h =
       file = filed-pins f s l p (k .file);
     }
 
-module _ (laws : AppendLaws) (books : PinLaws) (w : World) (r : Record) (t : Told) (l : List (List ℕ)) (v : World) (i : Inv w r) (d : DidPin port w t l v) where
+module _ (w : World) (r : Record) (t : Told) (l : List (List ℕ)) (v : World) (i : Inv w r) (d : DidPin port w t l v) where
   abbrev epoch : ℕ
   epoch = w .manager .inner .epoch
 
@@ -56,14 +55,14 @@ module _ (laws : AppendLaws) (books : PinLaws) (w : World) (r : Record) (t : Tol
       let h : bound epoch (pinsOf (w .book)) ≤ bound epoch (pinsOf (d .book)) =
       rw (k .pins) (bound-recounted epoch epoch (pinsAt epoch (pinsOf (w .book)) + 1) (pinsOf (w .book)) (bound-le epoch (pinsOf (w .book))) (bound-le epoch (pinsOf (w .book)))) in
       stands-pins (stateOf (w .manager .inner)) (w .book) (d .book) (w .file) (onePin (epochOf (r .whole)) (r .whole .pinned)) (r .whole) (stands-of w r i)
-      (books .pin (w .manager) (w .book) (d .answer) (d .book) (d .says) (i .book)) e h
+      (pin-laws .pin (w .manager) (w .book) (d .answer) (d .book) (d .says) (i .book)) e h
 
   pub pin-kept : Inv v (turn pin (isAccepted t) r)
   pin-kept =
       subst (λ (u : World). Inv u (turn pin (isAccepted t) r)) (sym (d .after))
       (by-verdict (λ a. Inv (world (w .manager) (d .book) (w .file) (cond a (w .file) (w .torn))) (turn pin a r))
       (pinVerdict (w .manager) (w .book)) (epoch ∷ []) t (d .told ∙ d .says .answer)
-      (λ a. accepted-stands laws (w .manager) (d .book) (w .file) (stateOf (w .manager .inner)) (withPins (onePin (epochOf (r .whole)) (r .whole .pinned)) (r .whole)) (r .place + 1) (i .sound) refl
+      (λ a. accepted-stands (w .manager) (d .book) (w .file) (stateOf (w .manager .inner)) (withPins (onePin (epochOf (r .whole)) (r .whole .pinned)) (r .whole)) (r .place + 1) (i .sound) refl
       (stands-pinned (subst (λ (x : Verdict). BookAfter x (w .book) (withPin epoch (pinsOf (w .book))) (d .book)) a (d .says .book))))
       (λ k a. refused-stands w r (w .manager) (d .book) refl (subst (λ (x : Verdict). BookAfter x (w .book) (withPin epoch (pinsOf (w .book))) (d .book)) a (d .says .book)) i))
 

@@ -41,7 +41,7 @@ use Rattle.plain_record.specs.Claim.{pinsIn, waitingIn, waitingOf, below
 use Rattle.plain_record.proofs.Invariant.{plainTable, plainSets, Filed, Torn, Inv}
 use Rattle.plain_record.proofs.CommitIds.{Rise, next-rise}
 use Rattle.plain_record.proofs.CommitFile.{append-taken}
-use Rattle.plain_record.proofs.Commit.{inv-stays}
+use Rattle.plain_record.proofs.Stands.{inv-stays}
 use Rattle.plain_record.proofs.Refused.{refused-number}
 use Rattle.plain_record.proofs.Standing.{Standing, all-shown, none-waits, all-both}
 
@@ -162,10 +162,10 @@ module _ (w : World) (t : Told) (l : List (List ℕ)) (v : World) (out : List �
       by-cases (ltb (length out) (length (rewrittenOf found)))
       (λ e. short-stays (too-short e))
       (λ e.
-        let x = rw (i .torn .replayed, e) at (d .says) in
-        let q : t ≡ told Accepted (length (rewrittenOf found) ∷ []) = d .told ∙ x .0 in
-        let k : take (length (rewrittenOf found)) (d .left) ≡ rewrittenOf found = ap (take (length (rewrittenOf found))) (x .3) ∙ written-first (rewrittenOf found) out in
-        rw (d .after, q, k) (handed-on w r i (d .result .manager) (d .result .book) stale (r .place + 1) (x .1) (x .2)))
+      let x = rw (i .torn .replayed, e) at (d .says) in
+      let q : t ≡ told Accepted (length (rewrittenOf found) ∷ []) = d .told ∙ x .0 in
+      let k : take (length (rewrittenOf found)) (d .left) ≡ rewrittenOf found = ap (take (length (rewrittenOf found))) (x .3) ∙ written-first (rewrittenOf found) out in
+      rw (d .after, q, k) (handed-on w r i (d .result .manager) (d .result .book) stale (r .place + 1) (x .1) (x .2)))
 
   pub reopen-accepted : longestRewritten ≤ length out → isAccepted t ≡ true
   reopen-accepted h =

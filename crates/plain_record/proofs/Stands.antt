@@ -20,13 +20,13 @@ use Rattle.pins.specs.declared.PinBook.{PinBook}
 use Rattle.pins.specs.Book.{pinsOf, badBook, bound}
 use Rattle.pins.proofs.Bound.{bound-le}
 use Rattle.version_manager.specs.declared.VersionManager.{VersionManager}
-use Rattle.recovery.specs.Laws.{AppendLaws}
 use Rattle.plain_record.specs.Sets.{Sets, sets}
 use Rattle.plain_record.specs.Plain.{Plain, epochOf, setsAt, Record, recorded}
 use Rattle.plain_record.specs.Run.{World, world, isAccepted}
 use Rattle.plain_record.specs.Claim.{pinsIn, waitingIn, waitingOf, belowNext}
 use Rattle.plain_record.proofs.Invariant.{plainTable, plainSets, Filed, Torn, Inv}
 use Rattle.plain_record.proofs.Landed.{landed}
+use Rattle.plain_record.proofs.Refused.{refused-number}
 
 -- a manager in the state s, the book b and the file f, beside the record's p
 pub record Stands (s : State) (b : PinBook) (f : List ℕ) (p : Plain) : Type 0 where
@@ -61,53 +61,35 @@ shows-now s b f p k =
     λ i. sets (k .tables i) (x i) (y i)
 
 -- an accepted call that hands on a manager in the state s
-pub accepted-stands : AppendLaws → (m : VersionManager) (b : PinBook) (f : List ℕ) (s : State) (p : Plain) (n : ℕ) → badManager (m .inner) ≡ false → stateOf (m .inner) ≡ s → Stands s b f p
+pub accepted-stands : (m : VersionManager) (b : PinBook) (f : List ℕ) (s : State) (p : Plain) (n : ℕ) → badManager (m .inner) ≡ false → stateOf (m .inner) ≡ s → Stands s b f p
     → Inv (world m b f f) (recorded p p n)
-accepted-stands laws m b f s p n good e k =
+accepted-stands m b f s p n good e k =
     let q = subst (λ (u : State). Stands u b f p) (sym e) k in
-    of-stands m b f f p p n good q (landed laws f (stateOf (m .inner)) p (sound-of (m .inner) good .manifest) (shows-now (stateOf (m .inner)) b f p q) (q .file))
+    of-stands m b f f p p n good q (landed f (stateOf (m .inner)) p (sound-of (m .inner) good .manifest) (shows-now (stateOf (m .inner)) b f p q) (q .file))
 
--- a refused one
+-- after a refused call all stands as it stood, but the place
+pub inv-stays : (w v : World) (r : Record) (n : ℕ) → v .manager .inner ≡ w .manager .inner → v .book ≡ w .book → v .file ≡ w .file → v .torn ≡ w .torn
+    → Inv w r → Inv v (recorded (r .whole) (r .torn) n)
+inv-stays w v r n m b f t i =
+    record {
+      sound = rw m (i .sound);
+      book = rw (m, b) (i .book);
+      epoch = rw m (i .epoch);
+      tables = rw m (i .tables);
+      pairs = rw (m, b) (i .pairs);
+      vectors = rw (m, b) (i .vectors);
+      pins = rw b (i .pins);
+      waiting = rw m (i .waiting);
+      next = rw m (i .next);
+      file = rw (m, f) (i .file);
+      torn = rw t (i .torn);
+    }
+
 pub refused-stands : (w : World) (r : Record) (m : VersionManager) (b : PinBook) → m .inner ≡ w .manager .inner → b ≡ w .book → Inv w r
     → Inv (world m b (w .file) (w .torn)) (recorded (r .whole) (r .torn) (r .place + 1))
-refused-stands w r m b e h i =
-    let back : Inv w (recorded (r .whole) (r .torn) (r .place + 1)) =
-    record { sound = i .sound; book = i .book; epoch = i .epoch; tables = i .tables; pairs = i .pairs; vectors = i .vectors; pins = i .pins; waiting = i .waiting; next = i .next; file = i .file; torn = i .torn } in
-    let same : m ≡ w .manager = λ j. record { inner = e j } in
-    subst (λ (x : World). Inv x (recorded (r .whole) (r .torn) (r .place + 1))) (λ j. world (sym same j) (sym h j) (w .file) (w .torn)) back
-
-refusal-number : (k : Refusal) → eqb (numberOf k) 0 ≡ false
-refusal-number ManifestTooLong = refl
-refusal-number (Malformed p) = refl
-refusal-number (TableConflict p) = refl
-refusal-number (OverLimit p) = refl
-refusal-number RowsetWithoutTable = refl
-refusal-number (TooManyOperations p) = refl
-refusal-number (BadRecord p) = refl
-refusal-number WrongCount = refl
-refusal-number OutputTooShort = refl
-refusal-number PinAtEpochZero = refl
-refusal-number (TableNotLive p) = refl
-refusal-number (PairNotShown p) = refl
-refusal-number (VectorNotShown p) = refl
-refusal-number (IdNotDrawn p) = refl
-refusal-number (NameTaken p) = refl
-refusal-number (StillHeld p) = refl
-refusal-number LeftBehind = refl
-refusal-number PinsFull = refl
-refusal-number PinnedEpochsFull = refl
-refusal-number EpochsFull = refl
-refusal-number (TablesFull p) = refl
-refusal-number (HeldFull p) = refl
-refusal-number ManifestFull = refl
-refusal-number EpochNotPinned = refl
-refusal-number LockHeld = refl
-refusal-number IdsUsedUp = refl
-refusal-number LockNotHeld = refl
-refusal-number BadPinBook = refl
-refusal-number BadManager = refl
+refused-stands w r m b e h i = inv-stays w (world m b (w .file) (w .torn)) r (r .place + 1) e h refl refl i
 
 -- the two turns of a call, by its verdict v; t is what its answer tells
 pub by-verdict : (P : Bool → Type 0) (v : Verdict) (vs : List ℕ) (t : Told) → t ≡ told v vs → (v ≡ Accepted → P true) → ((k : Refusal) → v ≡ Refused k → P false) → P (isAccepted t)
 by-verdict P Accepted vs t e a r = subst (λ (u : Told). P (isAccepted u)) (sym e) (a refl)
-by-verdict P (Refused k) vs t e a r = subst (λ (u : Told). P (isAccepted u)) (sym e) (subst P (sym (refusal-number k)) (r k refl))
+by-verdict P (Refused k) vs t e a r = subst (λ (u : Told). P (isAccepted u)) (sym e) (subst P (sym (refused-number k)) (r k refl))

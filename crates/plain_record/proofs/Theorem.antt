@@ -8,11 +8,9 @@ use Rattle.version_state.specs.State.{State, start, stateOf, withEpoch, pairsAt
 use Rattle.version_manager.specs.declared.Opened.{Opened}
 use Rattle.version_manager.specs.Managers.{FreshSays}
 use Rattle.version_manager.proofs.Laws.{draw-laws}
-use Rattle.pinning.proofs.Laws.{pin-laws}
 use Rattle.replay.specs.Replay.{reopened}
 use Rattle.recovery.specs.Sets.{setsOf}
-use Rattle.recovery.specs.Laws.{AppendLaws}
-use Rattle.recovery.proofs.Appending.{empty-holds, holds-replayed, torn-replayed, whole-appended, made-replayed}
+use Rattle.recovery.proofs.Appending.{empty-holds, holds-replayed}
 use Rattle.plain_record.specs.Sets.{Sets, none}
 use Rattle.plain_record.specs.Calls.{Call, drawRowset, drawVector, commit, pin, unpin, vacuum, reopen}
 use Rattle.plain_record.specs.Plain.{Record, atStart, turn}
@@ -30,9 +28,6 @@ use Rattle.plain_record.proofs.Reopen.{empty-book, reopen-keeps, reopen
 use Rattle.plain_record.proofs.Through.{claimed}
 
 -- The start.
-
-append-laws : AppendLaws
-append-laws = record { empty = empty-holds; replayed = holds-replayed; whole = whole-appended; torn = torn-replayed; made = made-replayed }
 
 nothing-yet : Torn [] plain-start
 nothing-yet = record { state = withEpoch start reopened 0; replayed = holds-replayed [] (withEpoch start reopened 0) empty-holds (omega arith); sets = refl; next = refl }
@@ -67,21 +62,21 @@ starts w s = subst (λ (x : World). Inv x atStart) (sym (s .fresh)) (start-inv (
 -- One turn, by its kind of call.
 
 turn-inv : (c : Call) (w : World) (r : Record) (t : Told) (l : List (List ℕ)) (v : World) → Inv w r → LinkBy port w t l v c → Inv v (turn c (isAccepted t) r)
-turn-inv drawRowset w r t l v i d = draw-rowset-kept append-laws w r t l v i d
-turn-inv drawVector w r t l v i d = draw-vector-kept append-laws w r t l v i d
+turn-inv drawRowset w r t l v i d = draw-rowset-kept w r t l v i d
+turn-inv drawVector w r t l v i d = draw-vector-kept w r t l v i d
 turn-inv (commit os out missing) w r t l v i d = commit-keeps w t l v os out missing r i d
-turn-inv pin w r t l v i d = pin-kept append-laws pin-laws w r t l v i d
-turn-inv (unpin e) w r t l v i d = unpin-kept append-laws pin-laws w r t l v e i d
-turn-inv (vacuum ts rs) w r t l v i d = vacuum-kept append-laws w r t l v ts rs i d
+turn-inv pin w r t l v i d = pin-kept w r t l v i d
+turn-inv (unpin e) w r t l v i d = unpin-kept w r t l v e i d
+turn-inv (vacuum ts rs) w r t l v i d = vacuum-kept w r t l v ts rs i d
 turn-inv (reopen out stale) w r t l v i d = reopen-keeps w t l v out stale r i d
 
 turn-answer : (e : Event) (r : Record) (c : Call) → Inv (e .before) r → LinkBy port (e .before) (e .told) (e .listed) (e .after) c → AnswerBy r e c
 turn-answer e r drawRowset i d = tt
 turn-answer e r drawVector i d = tt
 turn-answer e r (commit os out missing) i d = tt
-turn-answer e r pin i d = pin-answers append-laws pin-laws (e .before) r (e .told) (e .listed) (e .after) i d
+turn-answer e r pin i d = pin-answers (e .before) r (e .told) (e .listed) (e .after) i d
 turn-answer e r (unpin d) i k = tt
-turn-answer e r (vacuum ts rs) i d = vacuum-lists append-laws (e .before) r (e .told) (e .listed) (e .after) ts rs i d
+turn-answer e r (vacuum ts rs) i d = vacuum-lists (e .before) r (e .told) (e .listed) (e .after) ts rs i d
 turn-answer e r (reopen out stale) i d = reopen-accepted (e .before) (e .told) (e .listed) (e .after) out stale r i d
 
 turns : (e : Event) (r : Record) → Inv (e .before) r → Link port e → Kept r e

@@ -14,8 +14,7 @@ use Rattle.pins.proofs.Bound.{bound-le, bound-pinned}
 use Rattle.pins.proofs.Facts.{good-book}
 use Rattle.pinning.specs.Counts.{leftOn, withoutPin}
 use Rattle.pinning.specs.Says.{BookAfter, unpinRules, unpinVerdict, isDue, flag, readyOf}
-use Rattle.pinning.specs.Laws.{PinLaws}
-use Rattle.recovery.specs.Laws.{AppendLaws}
+use Rattle.pinning.proofs.Laws.{pin-laws}
 use Rattle.plain_record.specs.Calls.{unpin}
 use Rattle.plain_record.specs.Plain.{oneLess, withPins, Record, turn}
 use Rattle.plain_record.specs.Run.{World, world, isAccepted, port, DidUnpin}
@@ -25,7 +24,7 @@ use Rattle.plain_record.proofs.Stands.{Stands, stands-of, accepted-stan
 use Rattle.plain_record.proofs.Counts.{without-pin, bound-recounted}
 use Rattle.plain_record.proofs.Pin.{stands-pins}
 
-module _ (laws : AppendLaws) (books : PinLaws) (w : World) (r : Record) (t : Told) (l : List (List ℕ)) (v : World) (e : ℕ) (i : Inv w r) (d : DidUnpin port w t l v e) where
+module _ (w : World) (r : Record) (t : Told) (l : List (List ℕ)) (v : World) (e : ℕ) (i : Inv w r) (d : DidUnpin port w t l v e) where
   abbrev epoch : ℕ
   epoch = w .manager .inner .epoch
 
@@ -41,7 +40,7 @@ module _ (laws : AppendLaws) (books : PinLaws) (w : World) (r : Record) (t : Tol
       let h : bound epoch pinsHeld ≤ bound epoch (pinsOf (d .book)) =
       rw (k .pins) (bound-recounted epoch e (leftOn e pinsHeld) pinsHeld (bound-le epoch pinsHeld) (bound-pinned epoch e pinsHeld on)) in
       stands-pins (stateOf (w .manager .inner)) (w .book) (d .book) (w .file) (oneLess e (r .whole .pinned)) (r .whole) (stands-of w r i)
-      (books .unpin (w .manager) e (w .book) (d .answer) (d .book) (d .says) (i .book)) q h
+      (pin-laws .unpin (w .manager) e (w .book) (d .answer) (d .book) (d .says) (i .book)) q h
 
   is-pinned : unpinVerdict (w .manager) e (w .book) ≡ Accepted → pinned e pinsHeld ≡ true
   is-pinned a = not-false (pinned e pinsHeld) (none-judged (unpinRules (w .manager) e (w .book)) a .1 .1 .0)
@@ -51,6 +50,6 @@ module _ (laws : AppendLaws) (books : PinLaws) (w : World) (r : Record) (t : Tol
       subst (λ (u : World). Inv u (turn (unpin e) (isAccepted t) r)) (sym (d .after))
       (by-verdict (λ a. Inv (world (w .manager) (d .book) (w .file) (cond a (w .file) (w .torn))) (turn (unpin e) a r))
       (unpinVerdict (w .manager) e (w .book)) (flag (isDue (w .manager) e (w .book)) ∷ readyOf (d .answer) ∷ []) t (d .told ∙ d .says .answer)
-      (λ a. accepted-stands laws (w .manager) (d .book) (w .file) (stateOf (w .manager .inner)) (withPins (oneLess e (r .whole .pinned)) (r .whole)) (r .place + 1) (i .sound) refl
+      (λ a. accepted-stands (w .manager) (d .book) (w .file) (stateOf (w .manager .inner)) (withPins (oneLess e (r .whole .pinned)) (r .whole)) (r .place + 1) (i .sound) refl
       (stands-unpinned (is-pinned a) (subst (λ (x : Verdict). BookAfter x (w .book) (withoutPin e pinsHeld) (d .book)) a (d .says .book))))
       (λ k a. refused-stands w r (w .manager) (d .book) refl (subst (λ (x : Verdict). BookAfter x (w .book) (withoutPin e pinsHeld) (d .book)) a (d .says .book)) i))

@@ -28,7 +28,6 @@ use Rattle.vacuum.specs.LetGo.{vacuumList, staysBy, vacuumed}
 use Rattle.vacuum.specs.Says.{boundOf, listOf, vacuumVerdict}
 use Rattle.vacuum.proofs.Laws.{pairs-after, vectors-after, vacuum-sound}
 use Rattle.recovery.specs.Sets.{setsOf}
-use Rattle.recovery.specs.Laws.{AppendLaws}
 use Rattle.plain_record.specs.Calls.{vacuum}
 use Rattle.plain_record.specs.Plain.{Pins, Waiting, byEpochAndPair, Plain, blocked, listed, swept, Record, turn}
 use Rattle.plain_record.specs.Run.{port, World, world, isAccepted, paired, pairsIn, listedIf, DidVacuum}
@@ -36,7 +35,7 @@ use Rattle.plain_record.specs.Claim.{pinsIn, waitingIn, waitingOf}
 use Rattle.plain_record.proofs.Invariant.{Inv}
 use Rattle.plain_record.proofs.Refused.{refused-number}
 use Rattle.plain_record.proofs.Stands.{Stands, accepted-stands, refused-stands, by-verdict}
-use Rattle.plain_record.proofs.Draw.{next-up}
+use Rattle.plain_record.proofs.CommitIds.{Rise, next-rise}
 
 -- the entries that pass a test stay in order
 pub keep-arranged : {A : Type 0} (key : A → List ℕ) (q : A → Bool) (l : List A) → keep q (arranged key l) ≡ arranged key (keep q l)
@@ -149,7 +148,7 @@ two-ids m b =
     all-arranged byDeletion TwoIds (keep (goneBy b) (map rowsetEntry l))
     (all-keep TwoIds (goneBy b) (map rowsetEntry l) (all-mapped TwoIds rowsetEntry l (all-any l (λ (x : Rowset). refl))))
 
-module _ (laws : AppendLaws) (w : World) (r : Record) (t : Told) (l : List (List ℕ)) (v : World) (ts rs : List ℕ) (i : Inv w r) (d : DidVacuum port w t l v ts rs) where
+module _ (w : World) (r : Record) (t : Told) (l : List (List ℕ)) (v : World) (ts rs : List ℕ) (i : Inv w r) (d : DidVacuum port w t l v ts rs) where
   abbrev inner : VersionManagerInner
   inner = w .manager .inner
 
@@ -190,7 +189,7 @@ module _ (laws : AppendLaws) (w : World) (r : Record) (t : Told) (l : List (List
         vectors = λ e k. vectors-after to e (stateOf inner) k ∙ i .vectors e k;
         pins = i .pins;
         waiting = still-waiting (inner .epoch) (pinsOf (w .book)) (stateOf inner) deletions-below (r .whole) (i .pins) (i .waiting);
-        next = next-up (stateOf inner) swept-state (r .whole .added) (omega arith) (omega arith) (omega arith) (i .next);
+        next = next-rise (stateOf inner) swept-state (r .whole .added) (record { table = omega arith; rowset = omega arith; vector = omega arith }) (i .next);
         file = record { state = i .file .state; holds = i .file .holds; same = sets-stay ∙ i .file .same; long = i .file .long; next = i .file .next };
       }
 
@@ -203,7 +202,7 @@ module _ (laws : AppendLaws) (w : World) (r : Record) (t : Told) (l : List (List
       (by-verdict (λ a. Inv (world (d .result .manager) (w .book) (w .file) (cond a (w .file) (w .torn))) (turn (vacuum ts rs) a r))
       verdict (length (listOf inner (w .book)) ∷ []) t tells
       (λ a. let h = subst Handed a (d .says .inner) in
-      accepted-stands laws (d .result .manager) (w .book) (w .file) swept-state (swept (r .whole)) (r .place + 1)
+      accepted-stands (d .result .manager) (w .book) (w .file) swept-state (swept (r .whole)) (r .place + 1)
       (vacuum-sound inner (d .result .manager .inner) to (bound-le (inner .epoch) (pinsOf (w .book))) (i .sound) h) (h .state) stands-swept)
       (λ k a. refused-stands w r (d .result .manager) (w .book) (subst Handed a (d .says .inner)) refl i))
 

@@ -34,13 +34,13 @@ abbrev pub ShowsPairs : World → ℕ → List (List ℕ) → Type 0
 ShowsPairs w d l =
     (ts rs : List ℕ) (a : ShowAnswer) (ts′ rs′ : List ℕ) → ShowPairsSays (w .manager .inner) (w .book) d ts rs a ts′ rs′
     → let v = nineAlone (ltb (length ts) (length l) || ltb (length rs) (length l)) in
-      (showTold a ≡ told v (length l ∷ [])) × (ts′ ≡ after v (over (column 0 l) ts) ts) × (rs′ ≡ after v (over (column 1 l) rs) rs)
+    (showTold a ≡ told v (length l ∷ [])) × (ts′ ≡ after v (over (column 0 l) ts) ts) × (rs′ ≡ after v (over (column 1 l) rs) rs)
 
 abbrev pub ShowsVectors : World → ℕ → List (List ℕ) → Type 0
 ShowsVectors w d l =
     (ts rs vs : List ℕ) (a : ShowAnswer) (ts′ rs′ vs′ : List ℕ) → ShowVectorsSays (w .manager .inner) (w .book) d ts rs vs a ts′ rs′ vs′
     → let v = nineAlone (ltb (length ts) (length l) || (ltb (length rs) (length l) || ltb (length vs) (length l))) in
-      (showTold a ≡ told v (length l ∷ [])) × (ts′ ≡ after v (over (column 0 l) ts) ts) × (rs′ ≡ after v (over (column 1 l) rs) rs) × (vs′ ≡ after v (over (column 2 l) vs) vs)
+    (showTold a ≡ told v (length l ∷ [])) × (ts′ ≡ after v (over (column 0 l) ts) ts) × (rs′ ≡ after v (over (column 1 l) rs) rs) × (vs′ ≡ after v (over (column 2 l) vs) vs)
 
 -- the names of tables, 32 bytes each
 abbrev pub namesOf : List Table → List ℕ
@@ -51,11 +51,11 @@ abbrev pub ShowsTables : World → ℕ → List Table → Type 0
 ShowsTables w d l =
     (is hs ls ns : List ℕ) (a : ShowAnswer) (is′ hs′ ls′ ns′ : List ℕ) → ShowTablesSays (w .manager .inner) (w .book) d is hs ls ns a is′ hs′ ls′ ns′
     → let v = nineAlone (ltb (length is) (length l) || (ltb (length hs) (length l) || (ltb (length ls) (length l) || ltb (length ns) (longestName * length l)))) in
-      (showTold a ≡ told v (length l ∷ []))
-      × (is′ ≡ after v (over (map (λ (t : Table). t .id) l) is) is)
-      × (hs′ ≡ after v (over (map (λ (t : Table). t .shape) l) hs) hs)
-      × (ls′ ≡ after v (over (map (λ (t : Table). length (t .name)) l) ls) ls)
-      × (ns′ ≡ after v (over (namesOf l) ns) ns)
+    (showTold a ≡ told v (length l ∷ []))
+    × (is′ ≡ after v (over (map (λ (t : Table). t .id) l) is) is)
+    × (hs′ ≡ after v (over (map (λ (t : Table). t .shape) l) hs) hs)
+    × (ls′ ≡ after v (over (map (λ (t : Table). length (t .name)) l) ls) ls)
+    × (ns′ ≡ after v (over (namesOf l) ns) ns)
 
 -- What the manager and the book hold beside it, in the record's terms.
 
