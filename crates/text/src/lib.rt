@@ -271,7 +271,7 @@ const CLASS: [u8; 256] = [
     0,
 ];
 
-// The classes that have several bytes.
+// The classes that are asked for.
 const DIGIT: u8 = 1;
 
 const LOWER: u8 = 2;

@@ -1,0 +1,78 @@
+-- `replay::ends_in` meets its contract. Assumes nothing.
+use mathlib.Core.Path.{_≡_}
+use mathlib.Core.Bool.{true≢false}
+use Prim.Native.Nat.{_+_, _-_, _≤_}
+use native.Mathlib.Omega.{arith}
+use lib.ListN.{length}
+use Rattle.lists.proofs.Places.{known}
+use Rattle.ids.specs.Names.{nameOf}
+use Rattle.ids.proofs.Names.{name-room}
+use Rattle.replay.proofs.Endings.{short-line, other-byte}
+use Rattle.replay.proofs.ends_in.Statement.{statement}
+use Rattle.replay.proofs.ends_in.Tie as tie
+
+abbrev Inv-loop : tie.InvT-loop
+Inv-loop line name k from i₀ i = (i ≤ k) × (k ≡ length (nameOf name)) × (from + k ≡ length line) × (k ≤ 32)
+
+abbrev μ-loop : tie.MeasureT-loop
+μ-loop line name k from i₀ i = i
+
+length-requires : tie.Need-length-requires Inv-loop μ-loop
+length-requires c κs = search known
+
+returns : tie.Need-returns Inv-loop μ-loop
+returns c = λ h. short-line _ (c .before .before .before .args .t2) (omega (arith, c .if1 .taken, c .before .length .ensures))
+
+sub-from : tie.Need-sub-from Inv-loop μ-loop
+sub-from c = search known
+
+loop-holds : tie.Need-loop-holds Inv-loop μ-loop
+loop-holds c =
+    let e = c .before .length .ensures in
+    let r = name-room (c .before .before .before .args .t2) in
+    (omega arith, e, omega (arith, c .if1 .left), omega (arith, e, r))
+
+sub-i : tie.Need-sub-i Inv-loop μ-loop
+sub-i c = search known
+
+add-a : tie.Need-add-a Inv-loop μ-loop
+add-a c = search known
+
+shared-slice-read-a : tie.Need-shared-slice-read-a Inv-loop μ-loop
+shared-slice-read-a c = search known
+
+element-copy-out-b : tie.Need-element-copy-out-b Inv-loop μ-loop
+element-copy-out-b c = search known
+
+returns-2 : tie.Need-returns-2 Inv-loop μ-loop
+returns-2 c =
+    let inv = c .before .before .before .before .loop .inv in
+    λ h. other-byte _ _ _ _ (omega (arith, inv .1, inv .2)) (omega (arith, inv .1)) (c .if2 .taken)
+
+loop-less : tie.Need-loop-less Inv-loop μ-loop
+loop-less c = search known
+
+loop-again : tie.Need-loop-again Inv-loop μ-loop
+loop-again c = let inv = c .before .before .before .before .loop .inv in (omega arith, inv .1, inv .2, inv .3)
+
+returns-3 : tie.Need-returns-3 Inv-loop μ-loop
+returns-3 c = λ h. absurd (true≢false h)
+
+pub ends-in-spec : {M : Type 1} → statement M
+ends-in-spec =
+    tie.close
+    (tie.spec
+    Inv-loop
+    μ-loop
+    length-requires
+    returns
+    sub-from
+    loop-holds
+    sub-i
+    add-a
+    shared-slice-read-a
+    element-copy-out-b
+    returns-2
+    loop-less
+    loop-again
+    returns-3)
