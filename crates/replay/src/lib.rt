@@ -187,15 +187,21 @@ fn said_here(src: &[u8], at: usize) -> Said
     said_line(p)
 }
 
-// Whether the line ends in the name, looked at from its end. Where it does not, it creates no table of that name.
+// Whether the line ends in a comma and the name, looked at from its end. Where it does not, it creates no table of that name.
 fn ends_in(line: &[u8], name: Name) -> bool
     ensures { λ r. ⌜ (r ≡ false → same (nameSaid (lineOf (now (line .entry)))) (nameOf name) ≡ false) ⌝ }
 {
     let k = name.length();
-    if line.len() < k {
+    if k == 0 {
+        return true;
+    }
+    if line.len() <= k {
         return false;
     }
     let from = line.len() - k;
+    if !text::is_comma(line[from - 1]) {
+        return false;
+    }
     let mut i = k;
     while 0 < i {
         i -= 1;
@@ -208,7 +214,7 @@ fn ends_in(line: &[u8], name: Name) -> bool
     true
 }
 
-// Only a line that ends in the name is parsed: a frame may hold many tables, and each `T` looks at every live one.
+// Only a line that ends so is parsed: a frame may hold many tables, and each `T` looks at every live one.
 fn names(line: &[u8], name: Name) -> bool
     ensures { λ r. ⌜ r ≡ same (nameSaid (lineOf (now (line .entry)))) (nameOf name) ⌝ }
 {
