@@ -23,6 +23,7 @@ ghost use Rattle.lists.specs.Order.{same};
 ghost use Rattle.lists.specs.Keyed.{anyOf, has};
 ghost use Rattle.ids.specs.Names.{nameOf};
 ghost use Rattle.manifest.specs.Operations.{Operation, createTable, dropTable, addRowset, deleteRowset, addVector, deleteVector, nextIds, end, operation, operationBy, operationOf, lineSaid};
+ghost use Rattle.manifest.specs.Lines.{lineOf};
 ghost use Rattle.manifest.specs.Split.{lines};
 ghost use Rattle.snapshot.specs.Tables.{byTable, nameTaken};
 ghost use Rattle.replay.specs.Replay.{atStart, carried, linesRead, lineRead, limited, andThen, Frame, replayOf, ReplayIs};
@@ -186,12 +187,56 @@ fn said_here(src: &[u8], at: usize) -> Said
     said_line(p)
 }
 
+// Whether the line ends in a comma and the name, looked at from its end. Where it does not, it creates no table of that name.
+fn ends_in(line: &[u8], name: Name) -> bool
+    ensures { λ r. ⌜ (r ≡ false → same (nameSaid (lineOf (now (line .entry)))) (nameOf name) ≡ false) ⌝ }
+{
+    let k = name.length();
+    if k == 0 {
+        return true;
+    }
+    if line.len() <= k {
+        return false;
+    }
+    let from = line.len() - k;
+    if !text::is_comma(line[from - 1]) {
+        return false;
+    }
+    let mut i = k;
+    while 0 < i {
+        i -= 1;
+        let a = line[from + i];
+        let b = name.bytes[i];
+        if a != b {
+            return false;
+        }
+    }
+    true
+}
+
+// Only a line that ends so is parsed: a frame may hold many tables, and each `T` looks at every live one.
+fn names(line: &[u8], name: Name) -> bool
+    ensures { λ r. ⌜ r ≡ same (nameSaid (lineOf (now (line .entry)))) (nameOf name) ⌝ }
+{
+    if !ends_in(line, name) {
+        return false;
+    }
+    let said = said_line(manifest::parser::parse(line));
+    let own = said.name;
+    own.same(name)
+}
+
 fn named(src: &[u8], at: usize, name: Name) -> bool
     ensures { λ r. ⌜ r ≡ same (nameSaid (lineHere (now (src .entry)) at)) (nameOf name) ⌝ }
 {
-    let said = said_here(src, at);
-    let own = said.name;
-    own.same(name)
+    match manifest_lines::next_line(src, at) {
+        LineAt::Line {
+            start,
+            end,
+            next: _,
+        } => names(&src[start..end], name),
+        LineAt::None => Name::none().same(name),
+    }
 }
 
 // Whether a live table has the name; each is known by the place of its line.

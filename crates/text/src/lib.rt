@@ -276,10 +276,6 @@ const DIGIT: u8 = 1;
 
 const LOWER: u8 = 2;
 
-const COMMA: u8 = 4;
-
-const NEWLINE: u8 = 5;
-
 const LONGEST_NAME: usize = 32;
 
 pub fn class_of(b: u8) -> u8
@@ -295,16 +291,17 @@ pub fn is_digit(b: u8) -> bool
     class_of(b) == DIGIT
 }
 
+// A class of one byte is told without the table, which the compiler copies wherever it is read.
 pub fn is_comma(b: u8) -> bool
     ensures { λ r. ⌜ r ≡ isComma b ⌝ }
 {
-    class_of(b) == COMMA
+    b == b','
 }
 
 pub fn is_newline(b: u8) -> bool
     ensures { λ r. ⌜ r ≡ isNewline b ⌝ }
 {
-    class_of(b) == NEWLINE
+    b == b'\n'
 }
 
 // a-z, 0-9 or `_`.
