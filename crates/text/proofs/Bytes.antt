@@ -42,43 +42,6 @@ pub class-digit : (b : ℕ) → eqb (classOf b) 1 ≡ isDigit b
 unfolding classOf
 class-digit b = first (isDigit b) (isLower b) (isCapital b) (isComma b) (isNewline b)
 
-fourth : (a b c d e : Bool) → (d ≡ true → a ≡ false) → (d ≡ true → b ≡ false) → (d ≡ true → c ≡ false)
-    → eqb (cond a 1 (cond b 2 (cond c 3 (cond d 4 (cond e 5 0))))) 4 ≡ d
-fourth true b c true e p q r = absurd (true≢false (p refl))
-fourth true b c false e p q r = refl
-fourth false true c true e p q r = absurd (true≢false (q refl))
-fourth false true c false e p q r = refl
-fourth false false true true e p q r = absurd (true≢false (r refl))
-fourth false false true false e p q r = refl
-fourth false false false true e p q r = refl
-fourth false false false false true p q r = refl
-fourth false false false false false p q r = refl
-
-fifth : (a b c d e : Bool) → (e ≡ true → a ≡ false) → (e ≡ true → b ≡ false) → (e ≡ true → c ≡ false) → (e ≡ true → d ≡ false)
-    → eqb (cond a 1 (cond b 2 (cond c 3 (cond d 4 (cond e 5 0))))) 5 ≡ e
-fifth true b c d true p q r u = absurd (true≢false (p refl))
-fifth true b c d false p q r u = refl
-fifth false true c d true p q r u = absurd (true≢false (q refl))
-fifth false true c d false p q r u = refl
-fifth false false true d true p q r u = absurd (true≢false (r refl))
-fifth false false true d false p q r u = refl
-fifth false false false true true p q r u = absurd (true≢false (u refl))
-fifth false false false true false p q r u = refl
-fifth false false false false true p q r u = refl
-fifth false false false false false p q r u = refl
-
-pub class-comma : (b : ℕ) → eqb (classOf b) 4 ≡ isComma b
-unfolding classOf isDigit isLower isCapital
-class-comma b =
-    fourth (isDigit b) (isLower b) (isCapital b) (isComma b) (isNewline b)
-    (λ h. rw (eqb-true b 44 h)) (λ h. rw (eqb-true b 44 h)) (λ h. rw (eqb-true b 44 h))
-
-pub class-newline : (b : ℕ) → eqb (classOf b) 5 ≡ isNewline b
-unfolding classOf isDigit isLower isCapital
-class-newline b =
-    fifth (isDigit b) (isLower b) (isCapital b) (isComma b) (isNewline b)
-    (λ h. rw (eqb-true b 10 h)) (λ h. rw (eqb-true b 10 h)) (λ h. rw (eqb-true b 10 h)) (λ h. rw (eqb-true b 10 h))
-
 pub name-digit : (b k : ℕ) → k ≡ classOf b → k ≡ 1 → true ≡ isNameByte b
 unfolding isNameByte
 name-digit b k e h = rw (← class-digit b, ← e, h)
