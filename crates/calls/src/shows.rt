@@ -98,7 +98,7 @@ fn tables(manager: VersionManager, book: PinBook, epoch: u32, room: usize) {
     let mut lengths = [0u32; 16];
     let mut names = [0u8; 512];
     let n = script::least(room, 16);
-    let bytes = 32 * n;
+    let bytes = script::least(32 * n, 512);
     tables_into(
         manager,
         book,

@@ -18,18 +18,22 @@ fn encode_into(rows: &[u32], out: &mut [u8]) {
     }
 }
 
+fn encode_rows(s: &[u8], rows: &mut [u32], out: &mut [u8]) {
+    match script::rows(s, rows) {
+        Count::Of(n) => {
+            let n = script::least(n, rows.len());
+            encode_into(&rows[..n], out);
+        }
+        Count::Nothing => say::no_call(),
+    }
+}
+
 // One more row than a vector may have, so that too many are seen.
 pub fn encode(s: &[u8], room: usize) {
     let mut rows = [0u32; 4097];
     let mut out = [0u8; 28672];
-    let room = script::least(room, 28672);
-    match script::rows(s, &mut rows) {
-        Count::Of(n) => {
-            let n = script::least(n, 4097);
-            encode_into(&rows[..n], &mut out[..room]);
-        }
-        Count::Nothing => say::no_call(),
-    }
+    let n = script::least(room, 28672);
+    encode_rows(s, &mut rows, &mut out[..n]);
 }
 
 fn decode_into(file: &[u8], rows: &mut [u32]) {
@@ -73,11 +77,10 @@ fn mask_into(rows: &[u32], bits: &mut [u8], offset: u32) {
     }
 }
 
-fn mask_rows(s: &[u8], bits: &mut [u8], offset: u32) {
-    let mut rows = [0u32; 4097];
-    match script::rows(s, &mut rows) {
+fn mask_rows(s: &[u8], rows: &mut [u32], bits: &mut [u8], offset: u32) {
+    match script::rows(s, rows) {
         Count::Of(n) => {
-            let n = script::least(n, 4097);
+            let n = script::least(n, rows.len());
             mask_into(&rows[..n], bits, offset);
         }
         Count::Nothing => say::no_call(),
@@ -91,10 +94,11 @@ fn mask_bits(s: &[u8], offset: u32, scratch: &mut [u8]) {
         return;
     }
     let end = script::word_end(s, 1);
+    let mut rows = [0u32; 4097];
     match script::bits(&s[1..end], scratch) {
         Count::Of(n) => {
             let n = script::least(n, scratch.len());
-            mask_rows(&s[end..], &mut scratch[..n], offset);
+            mask_rows(&s[end..], &mut rows, &mut scratch[..n], offset);
         }
         Count::Nothing => say::no_call(),
     }

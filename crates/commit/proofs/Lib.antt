@@ -1,4 +1,3 @@
 pub mod Stepwise
-pub mod Append
 pub mod Sounds
 pub mod Older

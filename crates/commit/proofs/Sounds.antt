@@ -31,7 +31,7 @@ use Rattle.version_state.proofs.Facts.{Ordered, Sound, sound-of, of-sound}
 use Rattle.operations.specs.Effect.{applied}
 use Rattle.operations.specs.Judge.{opRules, stateRules, isLive, isShown}
 use Rattle.operations.specs.Steps.{Outcome, left, stopped, onward, andThen, stepsOf}
-use Rattle.commit.specs.Append.{appendOf}
+use Rattle.frames.specs.Frames.{frameOf}
 use Rattle.commit.specs.Commit.{firstRules, lastRules, finishOf, commitOf}
 use Rattle.commit.proofs.Stepwise.{Below, below-applied, ordered-applied, halt, steps-keep, steps-manifest}
 
@@ -146,9 +146,9 @@ pub record Accepts (m : VersionManagerInner) (b : Batch) (room : ℕ) (s : State
   pub done : State
   pub steps : stepsOf 0 (m .epoch + 1) (batchOf b) (stateOf m) ≡ left done
   pub whole : leftBehind (m .epoch + 1) done ≡ false
-  pub fits : done .manifest + length (appendOf (batchOf b)) ≤ longestManifest
-  pub lent : length (appendOf (batchOf b)) ≤ room
-  pub state : withEpoch done (m .epoch + 1) (done .manifest + length (appendOf (batchOf b))) ≡ s
+  pub fits : done .manifest + length (frameOf (batchOf b)) ≤ longestManifest
+  pub lent : length (frameOf (batchOf b)) ≤ room
+  pub state : withEpoch done (m .epoch + 1) (done .manifest + length (frameOf (batchOf b))) ≡ s
 
 onward-left : (v : Verdict) (x : Outcome) (s : State) → onward v x ≡ left s → (v ≡ Accepted) × (x ≡ left s)
 onward-left Accepted x s h = (refl, h)
@@ -166,9 +166,9 @@ accepts m b room s h =
     let f = none-judged (firstRules m b) (x .0) in
     let y = then-left (stepsOf 0 e os (stateOf m)) (finishOf e os room) s (x .1) in
     let t = y .0 in
-    let z = onward-left (judged (lastRules e t (length (appendOf os)) room)) (left (withEpoch t e (t .manifest + length (appendOf os)))) s (y .2) in
-    let g = none-judged (lastRules e t (length (appendOf os)) room) (z .0) in
-    let q : withEpoch t e (t .manifest + length (appendOf os)) ≡ s = cc (z .1) in
+    let z = onward-left (judged (lastRules e t (length (frameOf os)) room)) (left (withEpoch t e (t .manifest + length (frameOf os)))) s (y .2) in
+    let g = none-judged (lastRules e t (length (frameOf os)) room) (z .0) in
+    let q : withEpoch t e (t .manifest + length (frameOf os)) ≡ s = cc (z .1) in
     record {
       bad = f .0;
       short = ltb-false 600 (b .count) (f .1 .0);
@@ -176,8 +176,8 @@ accepts m b room s h =
       done = t;
       steps = y .1;
       whole = g .0;
-      fits = ltb-false longestManifest (t .manifest + length (appendOf os)) (g .1 .0);
-      lent = ltb-false room (length (appendOf os)) (g .1 .1 .0);
+      fits = ltb-false longestManifest (t .manifest + length (frameOf os)) (g .1 .0);
+      lent = ltb-false room (length (frameOf os)) (g .1 .1 .0);
       state = q;
     }
 
@@ -187,8 +187,8 @@ commit-sound m n b room s h k =
     let t = a .done in
     let e = m .epoch + 1 in
     let p = steps-keep (Kept e) e (λ i o u q j. kept-applied e i o u q j) 0 (batchOf b) (stateOf m) t (kept-start m (sound-of m (a .bad))) (a .steps) in
-    let q : stateOf n ≡ withEpoch t e (t .manifest + length (appendOf (batchOf b))) = k .state ∙ sym (a .state) in
-    of-sound n (back n t e (t .manifest + length (appendOf (batchOf b))) k q p (a .whole) (a .fits))
+    let q : stateOf n ≡ withEpoch t e (t .manifest + length (frameOf (batchOf b))) = k .state ∙ sym (a .state) in
+    of-sound n (back n t e (t .manifest + length (frameOf (batchOf b))) k q p (a .whole) (a .fits))
   where
     back : (n : VersionManagerInner) (t : State) (e l : ℕ) → Hands n s → stateOf n ≡ withEpoch t e l → Kept e t → leftBehind e t ≡ false → l ≤ longestManifest → Sound n
     back n t e l k q p w f =

@@ -18,13 +18,10 @@ use Rattle.version_state.specs.Limits.{lastEpoch, longestManifest}
 use Rattle.version_state.specs.State.{State, stateOf, withEpoch, Hands}
 use Rattle.version_state.specs.Sound.{badManager, leftBehind}
 use Rattle.operations.specs.Steps.{Outcome, left, stopped, onward, andThen, stepsOf}
-use Rattle.commit.specs.Append.{appendOf}
+use Rattle.frames.specs.Frames.{mostOperations, frameOf}
 use Rattle.commit.specs.declared.Committed.{Committed}
 use Rattle.commit.specs.declared.CommitAnswer.{CommitAnswer}
 use Rattle.commit.specs.declared.CommitAnswer.the-variants as answer
-
-abbrev pub mostOperations : ℕ
-mostOperations = 600
 
 -- before the operations: 29, 6, 20
 abbrev pub firstRules : VersionManagerInner → Batch → List Rule
@@ -45,7 +42,7 @@ lastRules e s n room =
 -- what is left is at the epoch e, its manifest longer by the append
 abbrev pub finishOf : ℕ → List Operation → ℕ → State → Outcome
 finishOf e os room s =
-    onward (judged (lastRules e s (length (appendOf os)) room)) (left (withEpoch s e (s .manifest + length (appendOf os))))
+    onward (judged (lastRules e s (length (frameOf os)) room)) (left (withEpoch s e (s .manifest + length (frameOf os))))
 
 -- the operations apply in order at the next epoch
 abbrev pub commitOf : VersionManagerInner → Batch → ℕ → Outcome
@@ -58,9 +55,9 @@ commitTold (answer.Refused k) = told (Refused k) []
 
 abbrev pub CommitIs : Outcome → VersionManagerInner → Batch → List ℕ → Committed → List ℕ → Type 0
 CommitIs (left s) m b out r out′ =
-    (commitTold (r .answer) ≡ told Accepted (s .epoch ∷ length (appendOf (batchOf b)) ∷ []))
+    (commitTold (r .answer) ≡ told Accepted (s .epoch ∷ length (frameOf (batchOf b)) ∷ []))
     × Hands (r .inner) s
-    × (out′ ≡ over (appendOf (batchOf b)) out)
+    × (out′ ≡ over (frameOf (batchOf b)) out)
 CommitIs (stopped k) m b out r out′ = (commitTold (r .answer) ≡ told (Refused k) []) × (r .inner ≡ m) × (out′ ≡ out)
 
 -- what a commit of b by m into the lent buffer says

@@ -1,3 +1,2 @@
-pub mod Append
 pub mod Commit
 pub mod Laws

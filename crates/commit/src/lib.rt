@@ -2,7 +2,6 @@
 use ids::refusal::Refusal;
 use ids::refusal::Verdict;
 use manifest::operation::Batch;
-use manifest::operation::Change;
 use operations::Stepped;
 use version_state::VersionManagerInner;
 ghost use mathlib.Core.Path.{_≡_};
@@ -17,7 +16,7 @@ ghost use Rattle.manifest.specs.Lines.{textOf};
 ghost use Rattle.version_state.specs.State.{stateOf, Fit};
 ghost use Rattle.version_state.specs.Sound.{outOfOrder};
 ghost use Rattle.operations.specs.Steps.{Ready, StepIs, stepsOf};
-ghost use Rattle.commit.specs.Append.{appendOf};
+ghost use Rattle.frames.specs.Frames.{frameOf};
 ghost use Rattle.commit.specs.Laws.{CommitLaws};
 ghost use Rattle.commit.specs.Commit.{finishOf, commitTold, CommitIs, CommitSays};
 
@@ -70,53 +69,6 @@ pub fn steps(first: VersionManagerInner, epoch: u32, batch: Batch) -> Stepped
     }
 }
 
-// How many bytes `put_append` writes.
-pub fn append_length(batch: Batch) -> usize
-    requires { ⌜ batch .count ≤ 600 ⌝ }
-    ensures { λ r. ⌜ (r ≡ length (appendOf (batchOf batch))) × (r ≤ 34204) ⌝ }
-{
-    let count = batch.count;
-    let mut n: usize = 4;
-    let mut i = 0;
-    while i < count {
-        let change = batch.changes[i];
-        n += manifest::printer::text_length(change) + 1;
-        i += 1;
-    }
-    n
-}
-
-fn put_line(out: &mut [u8], at: usize, change: Change) -> usize
-    requires { ⌜ at + length (textOf (operationOf change) ++ (10 ∷ [])) ≤ length (now out) ⌝ }
-    ensures { λ r. ⌜ Wrote (now (out .entry)) at (textOf (operationOf change) ++ (10 ∷ [])) (now (out .exit)) r ⌝ }
-{
-    let i = manifest::printer::print(out, at, change);
-    text::put_byte(out, i, 10)
-}
-
-fn put_letter(out: &mut [u8], at: usize, letter: u8) -> usize
-    requires { ⌜ at + 2 ≤ length (now out) ⌝ }
-    ensures { λ r. ⌜ Wrote (now (out .entry)) at (letter ∷ 10 ∷ []) (now (out .exit)) r ⌝ }
-{
-    let i = text::put_byte(out, at, letter);
-    text::put_byte(out, i, 10)
-}
-
-pub fn put_append(out: &mut [u8], batch: Batch)
-    requires { ⌜ (batch .count ≤ 600) × (length (appendOf (batchOf batch)) ≤ length (now out)) ⌝ }
-    ensures { λ _. ⌜ now (out .exit) ≡ over (appendOf (batchOf batch)) (now (out .entry)) ⌝ }
-{
-    let count = batch.count;
-    let mut at = put_letter(out, 0, b'B');
-    let mut i = 0;
-    while i < count {
-        let change = batch.changes[i];
-        at = put_line(out, at, change);
-        i += 1;
-    }
-    put_letter(out, at, b'E');
-}
-
 // The steps are done and left `next`: what is judged after them, the append, and the manager at the new epoch.
 fn finish(
     first: VersionManagerInner,
@@ -131,14 +83,14 @@ fn finish(
     if next.left_behind(epoch) {
         return refused(first, Refusal::LeftBehind);
     }
-    let n = append_length(batch);
+    let n = frames::frame_length(batch);
     if 65536 - next.manifest < n {
         return refused(first, Refusal::ManifestFull);
     }
     if out.len() < n {
         return refused(first, Refusal::OutputTooShort);
     }
-    put_append(out, batch);
+    frames::put_frame(out, batch);
     let manifest = next.manifest + n;
     let mut inner = next;
     inner.epoch = epoch;

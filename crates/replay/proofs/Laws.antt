@@ -12,7 +12,7 @@ use Rattle.manifest.specs.Operations.{Operation, Line, begin, end, operation, b
 use Rattle.manifest.specs.Lines.{lineOf}
 use Rattle.version_state.specs.State.{State}
 use Rattle.operations.specs.Effect.{applied}
-use Rattle.replay.specs.Replay.{Result, refused, given, andThen, Frame, none, opened, Carried, carried, reopened, conflicts, framed, settled, overLimit, limited, lineRead, linesRead, finished, mostOperations}
+use Rattle.replay.specs.Replay.{Result, refused, given, andThen, Frame, none, opened, Carried, carried, reopened, conflicts, framed, settled, overLimit, limited, lineRead, linesRead, finished}
 
 -- what lines say, one after another
 abbrev pub saidRead : List Line → Carried → Result Carried

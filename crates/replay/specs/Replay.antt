@@ -1,4 +1,5 @@
 -- Replay: from the bytes of a manifest to the state at its end, line by line as document 01 reads them. Assumes nothing.
+use mathlib.Core.Path.{_≡_}
 use mathlib.Core.Bool.{Bool, true, false, cond, not, _||_}
 use mathlib.Core.List.{List, [], _∷_, _++_}
 use Prim.Native.Nat.{ℕ, _+_}
@@ -7,15 +8,18 @@ use lib.ListN.{length, take}
 use Rattle.lists.specs.Keyed.{keep, allOf, has}
 use Rattle.ids.specs.declared.refusal.Refusal.{Refusal}
 use Rattle.ids.specs.declared.refusal.Refusal.the-variants.{ManifestTooLong, Malformed, TableConflict, OverLimit, RowsetWithoutTable, TooManyOperations}
+use Rattle.ids.specs.declared.refusal.Verdict.the-variants.{Accepted, Refused}
 use Rattle.manifest.specs.Operations.{Operation, createTable, dropTable, addRowset, deleteRowset, addVector, deleteVector, nextIds, Line, begin, end, operation, bad}
 use Rattle.manifest.specs.Lines.{lineOf}
 use Rattle.manifest.specs.Split.{lines}
+use Rattle.frames.specs.Frames.{mostOperations}
 use Rattle.snapshot.specs.Entries.{Entry, byIds, waits}
 use Rattle.snapshot.specs.Tables.{byTable, nameTaken}
 use Rattle.version_state.specs.Limits.{mostTables, mostHeld, longestManifest}
-use Rattle.version_state.specs.State.{State, start, withPairs, withVectors, withEpoch}
+use Rattle.version_state.specs.State.{State, start, withPairs, withVectors, withEpoch, Hands}
 use Rattle.operations.specs.Effect.{applied}
 use Rattle.operations.specs.Judge.{isLive}
+use Rattle.replay.specs.declared.Replayed.{Replayed}
 
 -- a refusal, or what is given
 pub data Result (A : Type 0) : Type 0 where
@@ -26,10 +30,6 @@ module _ {A B : Type 0} where
   abbrev pub andThen : Result A → (A → Result B) → Result B
   andThen (refused k) f = refused k
   andThen (given a) f = f a
-
--- the operations of a frame
-abbrev pub mostOperations : ℕ
-mostOperations = 600
 
 -- no frame is open, or one is: the number of the line after its `B`, and the operations since then, a line each
 pub data Frame : Type 0 where
@@ -122,3 +122,8 @@ linesReplayed ls = andThen (linesRead ls atStart) (λ c. finished (c .state))
 
 abbrev pub replayOf : List ℕ → Result State
 replayOf s = cond (ltb longestManifest (length s)) (refused ManifestTooLong) (linesReplayed (lines s))
+
+-- refused, or what is handed out stands for the state
+unfoldable pub ReplayIs : Result State → Replayed → Type 0
+ReplayIs (refused k) r = r .verdict ≡ Refused k
+ReplayIs (given s) r = (r .verdict ≡ Accepted) × Hands (r .inner) s

@@ -14,7 +14,7 @@ use Rattle.manifest.specs.Lines.{lineOf}
 use Rattle.manifest.specs.Split.{linesFrom}
 use Rattle.snapshot.specs.Entries.{Entry, addedAt, byIds}
 use Rattle.snapshot.specs.Tables.{TableEntry, created}
-use Rattle.version_state.specs.State.{State, withPairs, withVectors, Hands}
+use Rattle.version_state.specs.State.{State, withPairs, withVectors}
 use Rattle.operations.specs.Effect.{applied}
 use Rattle.replay_lists.specs.Rows.{rows, byBoth, byFirst}
 use Rattle.replay.specs.declared.Sets.{Sets}
@@ -22,8 +22,8 @@ use Rattle.replay.specs.declared.Applied.{Applied}
 use Rattle.replay.specs.declared.Here.{Here}
 use Rattle.replay.specs.declared.Begun.{Begun}
 use Rattle.replay.specs.declared.Turn.{Turn}
-use Rattle.replay.specs.declared.Replayed.{Replayed}
-use Rattle.replay.specs.Replay.{Result, refused, given, andThen, reopened, conflicts, mostOperations, Frame, none, opened, Carried}
+use Rattle.frames.specs.Frames.{mostOperations}
+use Rattle.replay.specs.Replay.{Result, refused, given, andThen, reopened, conflicts, Frame, none, opened, Carried}
 
 -- the line that starts at a place
 abbrev pub firstLine : List (List ℕ) → List ℕ
@@ -261,8 +261,3 @@ pub record Ready (src : List ℕ) (l : Slices) (z : Sets) (o : Begun) : Type 0 w
 unfoldable pub RunIs : Result Carried → List ℕ → Slices → Applied → Type 0
 RunIs (refused k) src l r = r .verdict ≡ Refused k
 RunIs (given c) src l r = (r .verdict ≡ Accepted) × Held src l (r .sets) (c .state) × Small (r .sets)
-
--- refused, or what is handed out stands for the state
-unfoldable pub ReplayIs : Result State → Replayed → Type 0
-ReplayIs (refused k) r = r .verdict ≡ Refused k
-ReplayIs (given s) r = (r .verdict ≡ Accepted) × Hands (r .inner) s

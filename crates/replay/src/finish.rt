@@ -22,8 +22,8 @@ ghost use lib.ListN.{length, take};
 ghost use Rattle.lists.specs.Keyed.{keep, has};
 ghost use Rattle.snapshot.specs.Entries.{byIds};
 ghost use Rattle.snapshot.specs.Views.{tablesOf, rowsetsOf, vectorsOf, pairIds};
-ghost use Rattle.replay.specs.Replay.{finished};
-ghost use Rattle.replay.specs.Working.{slices, tablesIn, pairsIn, vectorsIn, stateIn, wide32, TablesGood, PairsGood, VectorsGood, Good, Small, ReplayIs};
+ghost use Rattle.replay.specs.Replay.{finished, ReplayIs};
+ghost use Rattle.replay.specs.Working.{slices, tablesIn, pairsIn, vectorsIn, stateIn, wide32, TablesGood, PairsGood, VectorsGood, Good, Small};
 
 // Internal, as is all here: everything is added at epoch 1.
 fn epochs() -> Epochs

@@ -25,8 +25,8 @@ ghost use Rattle.ids.specs.Names.{nameOf};
 ghost use Rattle.manifest.specs.Operations.{Operation, createTable, dropTable, addRowset, deleteRowset, addVector, deleteVector, nextIds, end, operation, operationBy, operationOf, lineSaid};
 ghost use Rattle.manifest.specs.Split.{lines};
 ghost use Rattle.snapshot.specs.Tables.{byTable, nameTaken};
-ghost use Rattle.replay.specs.Replay.{atStart, carried, linesRead, lineRead, limited, andThen, Frame, replayOf};
-ghost use Rattle.replay.specs.Working.{leading, saidFrom, HereOf, HereSays, OperationSays, framedLightly, FrameIs, Small, EndIs, BegunOk, BegunIs, TurnIs, Ready, RunIs, ReplayIs, lineHere, shapeSaid, nameSaid, slices, tablesIn, stateIn, wide32, TablesGood, PairsGood, VectorsGood, Good, oneOf, AppliedIs};
+ghost use Rattle.replay.specs.Replay.{atStart, carried, linesRead, lineRead, limited, andThen, Frame, replayOf, ReplayIs};
+ghost use Rattle.replay.specs.Working.{leading, saidFrom, HereOf, HereSays, OperationSays, framedLightly, FrameIs, Small, EndIs, BegunOk, BegunIs, TurnIs, Ready, RunIs, lineHere, shapeSaid, nameSaid, slices, tablesIn, stateIn, wide32, TablesGood, PairsGood, VectorsGood, Good, oneOf, AppliedIs};
 
 pub mod finish;
 

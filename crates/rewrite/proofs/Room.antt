@@ -17,7 +17,7 @@ use Rattle.manifest.proofs.Texts.{create-room, add-room, add-vector-room, next-
 use Rattle.snapshot.specs.Entries.{Entry, byIds, shownBy}
 use Rattle.snapshot.specs.Tables.{TableEntry}
 use Rattle.version_state.specs.State.{State}
-use Rattle.commit.proofs.Append.{textsOf, joined-append, append-long, texts-cons}
+use Rattle.frames.proofs.Texts.{textsOf, joined-append, frame-long, texts-cons}
 use Rattle.rewrite.specs.Rewritten.{createOf, addOf, addVectorOf, rewriteOf}
 use Rattle.rewrite.specs.Laws.{RewrittenFits}
 
@@ -83,4 +83,4 @@ rewritten-fits s ht hp hv w =
     let lv = length-map (keep (shownBy (s .epoch)) (s .vectors)) addVectorOf in
     let kp = length-keep (shownBy (s .epoch)) (s .pairs) in
     let kv = length-keep (shownBy (s .epoch)) (s .vectors) in
-    omega (arith, append-long (rewriteOf s), texts-cons n ((ts ++ ps) ++ vs), texts-both (ts ++ ps) vs, texts-both ts ps)
+    omega (arith, frame-long (rewriteOf s), texts-cons n ((ts ++ ps) ++ vs), texts-both (ts ++ ps) vs, texts-both ts ps)

@@ -7,7 +7,7 @@ use Rattle.manifest.specs.Operations.{Operation, createTable, addRowset, addVec
 use Rattle.snapshot.specs.Entries.{Entry, byIds, shownBy}
 use Rattle.snapshot.specs.Tables.{TableEntry}
 use Rattle.version_state.specs.State.{State}
-use Rattle.commit.specs.Append.{appendOf}
+use Rattle.frames.specs.Frames.{frameOf}
 
 abbrev pub createOf : TableEntry → Operation
 createOf t = createTable (t .table) (t .shape) (t .name)
@@ -25,7 +25,7 @@ rewriteOf s =
     ∷ ((map createOf (s .tables) ++ map addOf (keep (shownBy (s .epoch)) (s .pairs))) ++ map addVectorOf (keep (shownBy (s .epoch)) (s .vectors)))
 
 abbrev pub rewrittenOf : State → List ℕ
-rewrittenOf s = appendOf (rewriteOf s)
+rewrittenOf s = frameOf (rewriteOf s)
 
 -- bytes that always hold it
 abbrev pub longestRewritten : ℕ

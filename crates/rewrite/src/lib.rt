@@ -106,7 +106,7 @@ fn with_vectors(batch: Batch, vectors: Vectors) -> Batch
     s
 }
 
-// Internal: the lists fit. `commit::append_length` and `commit::put_append` measure and write it.
+// Internal: the lists fit. `frames` measures and writes it.
 pub fn rewritten(inner: VersionManagerInner) -> Batch
     requires { ⌜ Fit inner ⌝ }
     ensures { λ r. ⌜ (r .count ≤ 529) × (batchOf r ≡ rewriteOf (stateOf inner)) ⌝ }

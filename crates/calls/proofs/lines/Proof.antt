@@ -6,7 +6,8 @@ use Rattle.calls.proofs.lines.Statement.{statement}
 use Rattle.calls.proofs.lines.Tie as tie
 
 abbrev Inv-loop : tie.InvT-loop
-Inv-loop s file₀ old₀ scratch₀ world₀ at₀ file old scratch world at = at ≤ length s
+Inv-loop s file₀ old₀ scratch₀ world₀ at₀ file old scratch world at =
+    (at ≤ length s) × (length file ≡ length file₀) × (length old ≡ length old₀) × (length scratch ≡ length scratch₀)
 
 abbrev μ-loop : tie.MeasureT-loop
 μ-loop s file₀ old₀ scratch₀ world₀ at₀ file old scratch world at = length s - at

@@ -4,7 +4,7 @@ use Prim.Native.Nat.{_+_}
 use lib.ListN.{length}
 use Rattle.manifest.specs.Operations.{batchOf}
 use Rattle.version_state.specs.State.{State, stateOf}
-use Rattle.commit.specs.Append.{appendOf}
+use Rattle.frames.specs.Frames.{frameOf}
 use Rattle.commit.proofs.Stepwise.{steps-manifest}
 use Rattle.commit.proofs.Sounds.{accepts, commit-sound}
 use Rattle.commit.proofs.Older.{older-pairs, older-vectors}
@@ -18,7 +18,7 @@ returns c =
       epoch = λ m b room s h. sym (ap (λ (t : State). t .epoch) (accepts m b room s h .state));
       manifest = λ m b room s h.
           let a = accepts m b room s h in
-          sym (ap (λ (t : State). t .manifest) (a .state)) ∙ ap (λ n. n + length (appendOf (batchOf b))) (steps-manifest (m .epoch + 1) (batchOf b) (stateOf m) (a .done) (a .steps));
+          sym (ap (λ (t : State). t .manifest) (a .state)) ∙ ap (λ n. n + length (frameOf (batchOf b))) (steps-manifest (m .epoch + 1) (batchOf b) (stateOf m) (a .done) (a .steps));
       pairs = older-pairs;
       vectors = older-vectors;
     }

@@ -2,7 +2,7 @@
 use mathlib.Core.Path.{refl, sym, _∙_}
 use borrow.Author.Tests.{lt-ltb, le-ltb, not-true, not-false}
 use Rattle.lists.proofs.Places.{known}
-use Rattle.replay.specs.Working.{ReplayIs}
+use Rattle.replay.specs.Replay.{ReplayIs}
 use Rattle.replay.proofs.Frames.{run-stop, ran}
 use Rattle.replay.proofs.replay.Statement.{statement}
 use Rattle.replay.proofs.replay.Tie as tie

@@ -3,8 +3,8 @@ use mathlib.Core.Path.{refl}
 use native.Mathlib.Omega.{arith}
 use borrow.Author.Tests.{not-true, not-false}
 use Rattle.lists.proofs.Places.{known}
+use Rattle.replay.specs.Replay.{ReplayIs}
 use Rattle.replay.specs.Working.{stateIn, slices}
-use Rattle.replay.specs.Working.{ReplayIs}
 use Rattle.replay.proofs.Handing.{finish-no, finish-yes, handed}
 use borrow.Author.Needs.{needs}
 use Rattle.replay.proofs.finish.finish.Statement.{statement}

@@ -1,4 +1,4 @@
--- `commit::append_length` meets its contract. Assumes nothing.
+-- `frames::frame_length` meets its contract. Assumes nothing.
 use mathlib.Core.Path.{_≡_, ap}
 use mathlib.Core.List.{List, []}
 use Prim.Native.Nat.{_+_, _-_, _*_, _≤_}
@@ -7,13 +7,13 @@ use lib.ListN.{length, drop}
 use Rattle.lists.proofs.Places.{known}
 use Rattle.lists.proofs.Views.{seen-end}
 use Rattle.manifest.specs.Operations.{Operation, operationOf, batchOf}
-use Rattle.commit.specs.Append.{appendOf}
-use Rattle.commit.proofs.Append.{textsOf, append-long, length-turn}
-use Rattle.commit.proofs.append_length.Statement.{statement}
-use Rattle.commit.proofs.append_length.Tie as tie
+use Rattle.frames.specs.Frames.{frameOf}
+use Rattle.frames.proofs.Texts.{textsOf, frame-long, length-turn}
+use Rattle.frames.proofs.frame_length.Statement.{statement}
+use Rattle.frames.proofs.frame_length.Tie as tie
 
 abbrev Inv-loop : tie.InvT-loop
-Inv-loop batch count n₀ i₀ n i = (i ≤ count) × (count ≤ 600) × (length (batch .changes) ≡ 600) × (n ≤ 4 + 57 * i) × (length (appendOf (batchOf batch)) ≡ n + length (textsOf (drop i (batchOf batch))))
+Inv-loop batch count n₀ i₀ n i = (i ≤ count) × (count ≤ 600) × (length (batch .changes) ≡ 600) × (n ≤ 4 + 57 * i) × (length (frameOf (batchOf batch)) ≡ n + length (textsOf (drop i (batchOf batch))))
 
 abbrev μ-loop : tie.MeasureT-loop
 μ-loop batch count n₀ i₀ n i = count - i
@@ -21,7 +21,7 @@ abbrev μ-loop : tie.MeasureT-loop
 loop-holds : tie.Need-loop-holds Inv-loop μ-loop
 loop-holds c =
     let full : length ((c .args .t1) .changes) ≡ 600 = search known in
-    (omega arith, c .pre, full, omega arith, append-long (batchOf (c .args .t1)))
+    (omega arith, c .pre, full, omega arith, frame-long (batchOf (c .args .t1)))
 
 mul-change : tie.Need-mul-change Inv-loop μ-loop
 mul-change c = search known
@@ -56,8 +56,8 @@ returns c =
     let e : drop (c .before .loop .i) (batchOf (c .before .before .args .t1)) ≡ [] = seen-end operationOf ((c .before .before .args .t1) .changes) ((c .before .before .args .t1) .count) (c .before .loop .i) (c .loop-test .left) (omega (arith, inv .1, inv .2)) in
     (omega (arith, inv .4, ap (λ (l : List Operation). length (textsOf l)) e), omega (arith, inv .3, inv .0, inv .1))
 
-pub append-length-spec : {M : Type 1} → statement M
-append-length-spec =
+pub frame-length-spec : {M : Type 1} → statement M
+frame-length-spec =
     tie.close
     (tie.spec
     Inv-loop

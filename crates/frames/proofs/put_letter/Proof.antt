@@ -1,10 +1,10 @@
--- `commit::put_letter` meets its contract. Assumes nothing.
+-- `frames::put_letter` meets its contract. Assumes nothing.
 use native.Mathlib.Omega.{arith}
 use Rattle.lists.proofs.Places.{known}
 use Rattle.lists.proofs.Written.{wrote-on}
 use borrow.Author.Needs.{needs}
-use Rattle.commit.proofs.put_letter.Statement.{statement}
-use Rattle.commit.proofs.put_letter.Tie as tie
+use Rattle.frames.proofs.put_letter.Statement.{statement}
+use Rattle.frames.proofs.put_letter.Tie as tie
 
 put-byte-requires : tie.Need-put-byte-requires
 put-byte-requires c κs = omega (arith, c .before .before .pre)

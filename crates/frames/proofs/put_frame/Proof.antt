@@ -1,4 +1,4 @@
--- `commit::put_append` meets its contract. Assumes nothing.
+-- `frames::put_frame` meets its contract. Assumes nothing.
 use mathlib.Core.Path.{_≡_, sym, ap, _∙_}
 use mathlib.Core.List.{List}
 use Prim.Native.Nat.{ℕ, _+_, _-_, _≤_}
@@ -11,9 +11,9 @@ use Rattle.lists.proofs.Places.{known}
 use Rattle.lists.proofs.Views.{view-length}
 use Rattle.lists.proofs.Written.{wrote-on, wrote-none, wrote-over, wrote-length}
 use Rattle.manifest.specs.Operations.{operationOf, batchOf}
-use Rattle.commit.proofs.Append.{textsOf, append-is, append-long, texts-le, wrote-turn, place-turn}
-use Rattle.commit.proofs.put_append.Statement.{statement}
-use Rattle.commit.proofs.put_append.Tie as tie
+use Rattle.frames.proofs.Texts.{textsOf, frame-is, frame-long, texts-le, wrote-turn, place-turn}
+use Rattle.frames.proofs.put_frame.Statement.{statement}
+use Rattle.frames.proofs.put_frame.Tie as tie
 
 abbrev Inv-loop : tie.InvT-loop
 Inv-loop out₀ batch count at₀ i₀ out at i = (i ≤ count) × (count ≤ 600) × (length (batch .changes) ≡ 600) × (at₀ + length (textsOf (batchOf batch)) + 2 ≤ length out₀) × Wrote out₀ at₀ (textsOf (take i (batchOf batch))) out at
@@ -22,12 +22,12 @@ abbrev μ-loop : tie.MeasureT-loop
 μ-loop out₀ batch count at₀ i₀ out at i = count - i
 
 put-letter-requires : tie.Need-put-letter-requires Inv-loop μ-loop
-put-letter-requires c κs = omega (arith, c .before .before .pre .1, append-long (batchOf (c .before .before .args .t2)))
+put-letter-requires c κs = omega (arith, c .before .before .pre .1, frame-long (batchOf (c .before .before .args .t2)))
 
 loop-holds : tie.Need-loop-holds Inv-loop μ-loop
 loop-holds c =
     let full : length ((c .before .before .before .before .before .args .t2) .changes) ≡ 600 = search known in
-    (omega arith, c .before .before .before .before .before .pre .0, full, omega (arith, c .before .before .before .before .before .pre .1, append-long (batchOf (c .before .before .before .before .before .args .t2)), c .before .before .put-letter .kept .0, c .before .before .put-letter .ensures .next), wrote-none _ _)
+    (omega arith, c .before .before .before .before .before .pre .0, full, omega (arith, c .before .before .before .before .before .pre .1, frame-long (batchOf (c .before .before .before .before .before .args .t2)), c .before .before .put-letter .kept .0, c .before .before .put-letter .ensures .next), wrote-none _ _)
 
 mul-change : tie.Need-mul-change Inv-loop μ-loop
 mul-change c = search known
@@ -71,13 +71,13 @@ returns c =
     let w = rw z at (inv .4) in
     let k = c .before .before .before .before .before .before .before .before .put-letter .kept .0 in
     let n = c .before .before .before .before .before .before .before .before .put-letter .ensures .next in
-    let long = append-long (batchOf (c .before .before .before .before .before .before .before .before .before .before .before .args .t2)) in
+    let long = frame-long (batchOf (c .before .before .before .before .before .before .before .before .before .before .before .args .t2)) in
     let a = wrote-on _ _ _ _ _ _ _ _ (omega (arith, c .before .before .before .before .before .before .before .before .before .before .before .pre .1, long)) (c .before .before .before .before .before .before .before .before .put-letter .ensures) w in
     let b = wrote-on _ _ _ _ _ _ _ _ (omega (arith, c .before .before .before .before .before .before .before .before .before .before .before .pre .1, long)) a (c .before .before .put-letter2 .ensures) in
-    wrote-over _ _ _ _ b ∙ ap (λ (l : List ℕ). over l (now (c .before .before .before .before .before .before .before .before .before .before .before .args .out))) (sym (append-is (batchOf (c .before .before .before .before .before .before .before .before .before .before .before .args .t2))))
+    wrote-over _ _ _ _ b ∙ ap (λ (l : List ℕ). over l (now (c .before .before .before .before .before .before .before .before .before .before .before .args .out))) (sym (frame-is (batchOf (c .before .before .before .before .before .before .before .before .before .before .before .args .t2))))
 
-pub put-append-spec : {M : Type 1} → statement M
-put-append-spec =
+pub put-frame-spec : {M : Type 1} → statement M
+put-frame-spec =
     tie.close
     (tie.spec
     Inv-loop

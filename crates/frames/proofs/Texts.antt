@@ -1,4 +1,4 @@
--- The append: its length, and its first lines. Assumes nothing.
+-- A frame: its length, and its first lines. Assumes nothing.
 use mathlib.Core.Path.{_≡_, refl, sym, ap, _∙_}
 use mathlib.Core.List.{List, [], _∷_, _++_, map, append-assoc}
 use Prim.Native.Nat.{ℕ, zero, suc, _+_, _<_, _≤_}
@@ -12,7 +12,7 @@ use Rattle.manifest.specs.Operations.{Operation, operationOf}
 use Rattle.manifest.specs.declared.operation.Change.{Change}
 use Rattle.manifest.specs.Lines.{textOf}
 use Rattle.manifest.specs.Split.{joined}
-use Rattle.commit.specs.Append.{appendOf}
+use Rattle.frames.specs.Frames.{frameOf}
 
 -- lines, and lines after them
 pub joined-append : (ls ms : List (List ℕ)) → joined (ls ++ ms) ≡ joined ls ++ joined ms
@@ -23,11 +23,11 @@ joined-append (l ∷ ls) ms = rw (joined-append ls ms) (sym (append-assoc l (10 
 abbrev pub textsOf : List Operation → List ℕ
 textsOf os = joined (map textOf os)
 
-pub append-is : (os : List Operation) → appendOf os ≡ (66 ∷ 10 ∷ textsOf os) ++ (69 ∷ 10 ∷ [])
-append-is os = ap (λ (l : List ℕ). 66 ∷ 10 ∷ l) (joined-append (map textOf os) ((69 ∷ []) ∷ []))
+pub frame-is : (os : List Operation) → frameOf os ≡ (66 ∷ 10 ∷ textsOf os) ++ (69 ∷ 10 ∷ [])
+frame-is os = ap (λ (l : List ℕ). 66 ∷ 10 ∷ l) (joined-append (map textOf os) ((69 ∷ []) ∷ []))
 
-pub append-long : (os : List Operation) → length (appendOf os) ≡ 4 + length (textsOf os)
-append-long os = ap length (append-is os) ∙ length-append (66 ∷ 10 ∷ textsOf os) (69 ∷ 10 ∷ []) ∙ omega arith
+pub frame-long : (os : List Operation) → length (frameOf os) ≡ 4 + length (textsOf os)
+frame-long os = ap length (frame-is os) ∙ length-append (66 ∷ 10 ∷ textsOf os) (69 ∷ 10 ∷ []) ∙ omega arith
 
 pub texts-cons : (o : Operation) (os : List Operation) → length (textsOf (o ∷ os)) ≡ length (textOf o) + 1 + length (textsOf os)
 texts-cons o os = length-append (textOf o) (10 ∷ textsOf os) ∙ omega arith

@@ -1,4 +1,4 @@
--- `commit::put_line` meets its contract. Assumes nothing.
+-- `frames::put_line` meets its contract. Assumes nothing.
 use mathlib.Core.List.{[], _∷_}
 use native.Mathlib.Omega.{arith}
 use lib.ListN.{length-append}
@@ -7,8 +7,8 @@ use Rattle.lists.proofs.Written.{wrote-on}
 use Rattle.manifest.specs.Operations.{operationOf}
 use Rattle.manifest.specs.Lines.{textOf}
 use borrow.Author.Needs.{needs}
-use Rattle.commit.proofs.put_line.Statement.{statement}
-use Rattle.commit.proofs.put_line.Tie as tie
+use Rattle.frames.proofs.put_line.Statement.{statement}
+use Rattle.frames.proofs.put_line.Tie as tie
 
 print-requires : tie.Need-print-requires
 print-requires c κs = omega (arith, c .before .before .pre, length-append (textOf (operationOf (c .before .before .args .change))) (10 ∷ []))

@@ -1,0 +1,49 @@
+-- Reopen: from a manifest's bytes to a manager, an empty pin book and the rewritten manifest. Assumes nothing.
+use mathlib.Core.Path.{_≡_}
+use mathlib.Core.Bool.{cond}
+use mathlib.Core.List.{List, [], _∷_}
+use Prim.Native.Nat.{ℕ}
+use lib.Dec.{ltb}
+use lib.ListN.{length}
+use Rattle.lists.specs.Written.{over}
+use Rattle.ids.specs.declared.refusal.Refusal.the-variants.{OutputTooShort}
+use Rattle.ids.specs.declared.refusal.Verdict.the-variants.{Accepted, Refused}
+use Rattle.ids.specs.Answers.{Told, told}
+use Rattle.version_state.specs.State.{State, start, withEpoch}
+use Rattle.pins.specs.Book.{pinsOf}
+use Rattle.version_manager.specs.Managers.{Manages}
+use Rattle.rewrite.specs.Rewritten.{rewrittenOf}
+use Rattle.replay.specs.Replay.{Result, refused, given, andThen, replayOf}
+use Rattle.storage.specs.declared.Reopened.{Reopened}
+use Rattle.storage.specs.declared.ReopenAnswer.{ReopenAnswer}
+use Rattle.storage.specs.declared.ReopenAnswer.the-variants as answer
+
+-- the manifest of what is handed out is the rewritten one; 9 goes by its bytes
+abbrev pub openedOf : ℕ → State → Result State
+openedOf room s = cond (ltb room (length (rewrittenOf s))) (refused OutputTooShort) (given (withEpoch s (s .epoch) (length (rewrittenOf s))))
+
+-- the state of the manager that a reopen hands out, for a lent buffer of `room`: 1, the lines in order, 5, 9
+abbrev pub reopenOf : List ℕ → ℕ → Result State
+reopenOf src room = andThen (replayOf src) (openedOf room)
+
+-- accepted: the rewritten manifest's length
+abbrev pub reopenTold : ReopenAnswer → Told
+reopenTold (answer.Rewritten n) = told Accepted (n ∷ [])
+reopenTold (answer.Refused k) = told (Refused k) []
+
+-- beside a refusal stand a fresh manager and an empty book, since a struct must hold something; they are not handed on
+abbrev pub ReopenIs : Result State → List ℕ → Reopened → List ℕ → Type 0
+ReopenIs (given s) out r out′ =
+    (reopenTold (r .answer) ≡ told Accepted (s .manifest ∷ []))
+    × Manages (r .manager) s
+    × (pinsOf (r .book) ≡ [])
+    × (out′ ≡ over (rewrittenOf s) out)
+ReopenIs (refused k) out r out′ =
+    (reopenTold (r .answer) ≡ told (Refused k) [])
+    × Manages (r .manager) start
+    × (pinsOf (r .book) ≡ [])
+    × (out′ ≡ out)
+
+-- what a reopen of the bytes src into the lent buffer says
+abbrev pub ReopenSays : List ℕ → List ℕ → Reopened → List ℕ → Type 0
+ReopenSays src out r out′ = ReopenIs (reopenOf src (length out)) out r out′
