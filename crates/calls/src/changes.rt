@@ -80,14 +80,12 @@ pub fn commit(world: World, s: &[u8], room: usize, file: &mut [u8]) -> World {
     let manager = world.manager;
     let len = world.disk.len;
     let start = script::least(len, file.len());
-    let most = script::least(room, file.len() - start);
-    let end = start + most;
+    let end = start + script::least(room, file.len() - start);
     let done = manager.commit(batches::batch(s), &mut file[start..end]);
     let answer = done.answer;
     let n = say::committed(answer);
     if n == 0 {
         return world;
     }
-    let end = start + script::least(n, most);
-    world.with_manager(done.manager).with_disk(Disk::appended(start, end))
+    world.with_manager(done.manager).with_disk(Disk::appended(start, n, end))
 }

@@ -4,8 +4,6 @@ use libc::STDIN_FILENO;
 use words::Word;
 use world::ENOUGH;
 use world::World;
-ghost use Prim.Native.Nat.{_≤_};
-ghost use lib.ListN.{length};
 
 mod batches;
 mod changes;
@@ -21,7 +19,7 @@ fn line(world: World, s: &[u8], file: &mut [u8], old: &mut [u8], scratch: &mut [
     if s.len() == 0 {
         return world;
     }
-    if s[0] == b'#' {
+    if script::first(s) == b'#' {
         return world;
     }
     let end = script::word_end(s, 0);
@@ -71,14 +69,15 @@ fn line(world: World, s: &[u8], file: &mut [u8], old: &mut [u8], scratch: &mut [
     }
 }
 
-// One line after another, the last with no newline.
-fn lines(world: World, s: &[u8], file: &mut [u8], old: &mut [u8], scratch: &mut [u8]) -> World {
+// The lines up to a place; the last may have no newline.
+fn lines(world: World, s: &[u8], to: usize, file: &mut [u8], old: &mut [u8], scratch: &mut [u8]) -> World {
     let mut world = world;
+    let to = script::least(to, s.len());
     let mut at: usize = 0;
-    while at < s.len() {
-        let end = script::line_end(s, at);
+    while at < to {
+        let end = script::line_end(s, at, to);
         world = line(world, &s[at..end], file, old, scratch);
-        if s.len() <= end {
+        if to <= end {
             return world;
         }
         at = end + 1;
@@ -87,9 +86,7 @@ fn lines(world: World, s: &[u8], file: &mut [u8], old: &mut [u8], scratch: &mut 
 }
 
 // One read behind the bytes that are there: how many are there then.
-fn filled(input: &mut [u8], have: usize) -> usize
-    ensures { λ r. ⌜ r ≤ length (now (input .exit)) ⌝ }
-{
+fn filled(input: &mut [u8], have: usize) -> usize {
     let from = script::least(have, input.len());
     let got = libc::read(STDIN_FILENO, &mut input[from..]);
     let more = io::count(got, &input[from..]);
@@ -97,8 +94,11 @@ fn filled(input: &mut [u8], have: usize) -> usize
 }
 
 // A line that fills the buffer is too long, and is answered once: what comes of it then is passed over as a remark.
-fn too_long(world: World, first: u8) -> World {
-    if first == b'#' {
+fn too_long(world: World, input: &[u8], have: usize) -> World {
+    if have < input.len() {
+        return world;
+    }
+    if script::first(input) == b'#' {
         return world;
     }
     say::no_call();
@@ -111,20 +111,17 @@ fn run(input: &mut [u8], file: &mut [u8], old: &mut [u8], scratch: &mut [u8]) {
     let mut have: usize = 0;
     let mut turns: u64 = 18446744073709551615;
     while turns > 0 {
+        turns -= 1;
         let more = filled(input, have);
         if more <= have {
-            lines(world, &input[..have], file, old, scratch);
+            lines(world, input, have, file, old, scratch);
             return;
         }
-        let whole = script::last_line(&input[..more]);
-        world = lines(world, &input[..whole], file, old, scratch);
-        have = script::shift(input, whole, more);
-        if input.len() <= have {
-            world = too_long(world, input[0]);
-            input[0] = b'#';
-            have = 1;
-        }
-        turns -= 1;
+        let whole = script::last_line(input, more);
+        world = lines(world, input, whole, file, old, scratch);
+        let left = script::shift(input, whole, more);
+        world = too_long(world, input, left);
+        have = script::shortened(input, left);
     }
 }
 

@@ -186,7 +186,7 @@ pub fn bits(s: &[u8]) {
 fn lines(s: &[u8]) {
     let mut at: usize = 0;
     loop {
-        let end = script::line_end(s, at);
+        let end = script::line_end(s, at, s.len());
         say(&s[at..end]);
         if s.len() <= end {
             return;

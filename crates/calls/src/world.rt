@@ -23,6 +23,14 @@ pub struct World {
     pub room: usize,
 }
 
+// So many places on from `start`, and not past `end`.
+fn place(start: usize, n: usize, end: usize) -> usize {
+    if end <= start {
+        return start;
+    }
+    start + script::least(n, end - start)
+}
+
 impl Disk {
     // A file that comes whole.
     pub fn whole(len: usize) -> Disk {
@@ -46,8 +54,9 @@ impl Disk {
         }
     }
 
-    // The bytes up to `end` are appended to those up to `start`.
-    pub fn appended(start: usize, end: usize) -> Disk {
+    // So many bytes are appended at `start`, where the buffer goes on to `most`.
+    pub fn appended(start: usize, n: usize, most: usize) -> Disk {
+        let end = place(start, n, most);
         Disk {
             len: end,
             start,
@@ -59,13 +68,9 @@ impl Disk {
 
     // Of the last append only so many bytes are there.
     pub fn cut(self, n: usize) -> Disk {
-        let start = self.start;
-        let end = self.end;
+        let len = place(self.start, n, self.end);
         let mut disk = self;
-        if end < start {
-            return disk;
-        }
-        disk.len = start + script::least(n, end - start);
+        disk.len = len;
         disk
     }
 }

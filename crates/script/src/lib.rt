@@ -31,13 +31,13 @@ pub fn word_end(s: &[u8], at: usize) -> usize
     i
 }
 
-// The place of the first newline from there on, or the line's end.
-pub fn line_end(s: &[u8], at: usize) -> usize
-    requires { ⌜ at ≤ length (now s) ⌝ }
-    ensures { λ r. ⌜ (at ≤ r) × (r ≤ length (now (s .entry))) ⌝ }
+// The place of the first newline from a place on, or another place before which there is none.
+pub fn line_end(s: &[u8], at: usize, to: usize) -> usize
+    requires { ⌜ (at ≤ to) × (to ≤ length (now s)) ⌝ }
+    ensures { λ r. ⌜ (at ≤ r) × (r ≤ to) ⌝ }
 {
     let mut i = at;
-    while i < s.len() {
+    while i < to {
         if text::is_newline(s[i]) {
             return i;
         }
@@ -46,11 +46,9 @@ pub fn line_end(s: &[u8], at: usize) -> usize
     i
 }
 
-// Where the last line begins: after the last newline, or at 0.
-pub fn last_line(s: &[u8]) -> usize
-    ensures { λ r. ⌜ r ≤ length (now (s .entry)) ⌝ }
-{
-    let mut i = s.len();
+// The place after the last newline before a place, or 0.
+pub fn last_line(s: &[u8], to: usize) -> usize {
+    let mut i = least(to, s.len());
     while 0 < i {
         if text::is_newline(s[i - 1]) {
             return i;
@@ -58,6 +56,14 @@ pub fn last_line(s: &[u8]) -> usize
         i -= 1;
     }
     0
+}
+
+// The first byte, or 0 where there is none.
+pub fn first(s: &[u8]) -> u8 {
+    if s.len() == 0 {
+        return 0;
+    }
+    s[0]
 }
 
 pub fn same(s: &[u8], t: &[u8]) -> bool {
@@ -330,11 +336,10 @@ pub fn written(s: &[u8], out: &mut [u8]) -> Count {
     text_run(s, out)
 }
 
-// Internal: the place is in the buffer. What stands from there on is moved to its front; how much that is.
-pub fn shift(s: &mut [u8], from: usize, to: usize) -> usize
-    requires { ⌜ (from ≤ to) × (to ≤ length (now s)) ⌝ }
-    ensures { λ r. ⌜ r ≤ to ⌝ }
-{
+// What stands from one place to another is moved to the front; how much that is.
+pub fn shift(s: &mut [u8], from: usize, to: usize) -> usize {
+    let to = least(to, s.len());
+    let from = least(from, to);
     let n = to - from;
     let mut i = 0;
     while i < n {
@@ -342,6 +347,18 @@ pub fn shift(s: &mut [u8], from: usize, to: usize) -> usize
         i += 1;
     }
     n
+}
+
+// Bytes that fill the buffer become a remark's first; how many are there then.
+pub fn shortened(s: &mut [u8], have: usize) -> usize {
+    if have < s.len() {
+        return have;
+    }
+    if s.len() == 0 {
+        return 0;
+    }
+    s[0] = b'#';
+    1
 }
 
 // The front of one buffer becomes a copy of another, as far as it goes.

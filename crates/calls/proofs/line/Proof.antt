@@ -9,8 +9,8 @@ use Rattle.calls.proofs.line.Tie as tie
 returns : tie.Need-returns
 returns c = search needs
 
-shared-slice-read-if2 : tie.Need-shared-slice-read-if2
-shared-slice-read-if2 c = search needs
+first-requires : tie.Need-first-requires
+first-requires c κs = search needs
 
 returns-2 : tie.Need-returns-2
 returns-2 c = search needs
@@ -221,7 +221,7 @@ line-spec =
     tie.close
     (tie.spec
     returns
-    shared-slice-read-if2
+    first-requires
     returns-2
     word-end-requires
     sub-rest

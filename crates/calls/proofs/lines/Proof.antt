@@ -1,16 +1,19 @@
 -- `calls::lines` meets its contract. Assumes nothing.
 use Prim.Native.Nat.{_≤_, _-_}
+use mathlib.Core.Path.{_≡_}
 use lib.ListN.{length}
 use borrow.Author.Needs.{needs}
 use Rattle.calls.proofs.lines.Statement.{statement}
 use Rattle.calls.proofs.lines.Tie as tie
 
 abbrev Inv-loop : tie.InvT-loop
-Inv-loop s file₀ old₀ scratch₀ world₀ at₀ file old scratch world at =
-    (at ≤ length s) × (length file ≡ length file₀) × (length old ≡ length old₀) × (length scratch ≡ length scratch₀)
+Inv-loop s to file₀ old₀ scratch₀ world₀ to' at₀ file old scratch world at = (at ≤ to') × (to' ≤ length s) × (length file ≡ length file₀) × (length old ≡ length old₀) × (length scratch ≡ length scratch₀)
 
 abbrev μ-loop : tie.MeasureT-loop
-μ-loop s file₀ old₀ scratch₀ world₀ at₀ file old scratch world at = length s - at
+μ-loop s to file₀ old₀ scratch₀ world₀ to' at₀ file old scratch world at = to' - at
+
+least-requires : tie.Need-least-requires Inv-loop μ-loop
+least-requires c κs = search needs
 
 loop-holds : tie.Need-loop-holds Inv-loop μ-loop
 loop-holds c = search needs
@@ -69,6 +72,7 @@ lines-spec =
     (tie.spec
     Inv-loop
     μ-loop
+    least-requires
     loop-holds
     line-end-requires
     sub-line

@@ -6,10 +6,13 @@ use Rattle.script.proofs.last_line.Statement.{statement}
 use Rattle.script.proofs.last_line.Tie as tie
 
 abbrev Inv-loop : tie.InvT-loop
-Inv-loop s i₀ i = i ≤ length s
+Inv-loop s to i₀ i = i ≤ length s
 
 abbrev μ-loop : tie.MeasureT-loop
-μ-loop s i₀ i = i
+μ-loop s to i₀ i = i
+
+least-requires : tie.Need-least-requires Inv-loop μ-loop
+least-requires c κs = search needs
 
 loop-holds : tie.Need-loop-holds Inv-loop μ-loop
 loop-holds c = search needs
@@ -44,6 +47,7 @@ last-line-spec =
     (tie.spec
     Inv-loop
     μ-loop
+    least-requires
     loop-holds
     sub-is-newline
     shared-slice-read-is-newline

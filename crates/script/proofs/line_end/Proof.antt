@@ -1,15 +1,14 @@
 -- `script::line_end` meets its contract. Assumes nothing.
 use Prim.Native.Nat.{_≤_, _-_}
-use lib.ListN.{length}
 use borrow.Author.Needs.{needs}
 use Rattle.script.proofs.line_end.Statement.{statement}
 use Rattle.script.proofs.line_end.Tie as tie
 
 abbrev Inv-loop : tie.InvT-loop
-Inv-loop s at i₀ i = (at ≤ i) × (i ≤ length s)
+Inv-loop s at to i₀ i = (at ≤ i) × (i ≤ to)
 
 abbrev μ-loop : tie.MeasureT-loop
-μ-loop s at i₀ i = length s - i
+μ-loop s at to i₀ i = to - i
 
 loop-holds : tie.Need-loop-holds Inv-loop μ-loop
 loop-holds c = search needs

@@ -1,5 +1,5 @@
 -- `script::shift` meets its contract. Assumes nothing.
-use Prim.Native.Nat.{_≤_, _-_}
+use Prim.Native.Nat.{_≤_, _-_, _+_}
 use mathlib.Core.Path.{_≡_}
 use lib.ListN.{length}
 use borrow.Author.Needs.{needs}
@@ -7,10 +7,16 @@ use Rattle.script.proofs.shift.Statement.{statement}
 use Rattle.script.proofs.shift.Tie as tie
 
 abbrev Inv-loop : tie.InvT-loop
-Inv-loop s₀ from to n i₀ s i = (i ≤ n) × (length s ≡ length s₀)
+Inv-loop s₀ from to to' from' n i₀ s i = (i ≤ n) × (from' + n ≤ length s) × (length s ≡ length s₀)
 
 abbrev μ-loop : tie.MeasureT-loop
-μ-loop s₀ from to n i₀ s i = n - i
+μ-loop s₀ from to to' from' n i₀ s i = n - i
+
+least-requires : tie.Need-least-requires Inv-loop μ-loop
+least-requires c κs = search needs
+
+least-requires-2 : tie.Need-least-requires-2 Inv-loop μ-loop
+least-requires-2 c κs = search needs
 
 sub-n : tie.Need-sub-n Inv-loop μ-loop
 sub-n c = search needs
@@ -48,6 +54,8 @@ shift-spec =
     (tie.spec
     Inv-loop
     μ-loop
+    least-requires
+    least-requires-2
     sub-n
     loop-holds
     add-s

@@ -1,6 +1,7 @@
 -- `calls::say::lines` meets its contract. Assumes nothing.
 use Prim.Native.Nat.{_≤_, _-_}
 use lib.ListN.{length}
+use lib.Seq.{length-take-le}
 use borrow.Author.Needs.{needs}
 use Rattle.calls.proofs.say.lines.Statement.{statement}
 use Rattle.calls.proofs.say.lines.Tie as tie
@@ -33,7 +34,7 @@ returns : tie.Need-returns Inv-loop μ-loop
 returns c = search needs
 
 slice-aggregate-say : tie.Need-slice-aggregate-say Inv-loop μ-loop
-slice-aggregate-say c = search needs
+slice-aggregate-say c = search (needs, length-take-le)
 
 say-requires-2 : tie.Need-say-requires-2 Inv-loop μ-loop
 say-requires-2 c κs = search needs
