@@ -1,7 +1,7 @@
 // Calls that hand a manager back.
 use crate::batches;
 use crate::say;
-use crate::world::Disk;
+use crate::world::Host;
 use crate::world::World;
 use pins::PinBook;
 use vacuum::VacuumAnswer;
@@ -78,7 +78,7 @@ pub fn vacuum(manager: VersionManager, book: PinBook, s: &[u8], room: usize) -> 
 // The append is written to the file's end.
 pub fn commit(world: World, s: &[u8], room: usize, file: &mut [u8]) -> World {
     let manager = world.manager;
-    let len = world.disk.len;
+    let len = world.host.len;
     let start = script::least(len, file.len());
     let end = start + script::least(room, file.len() - start);
     let done = manager.commit(batches::batch(s), &mut file[start..end]);
@@ -87,5 +87,7 @@ pub fn commit(world: World, s: &[u8], room: usize, file: &mut [u8]) -> World {
     if n == 0 {
         return world;
     }
-    world.with_manager(done.manager).with_disk(Disk::appended(start, n, end))
+    world
+        .with_manager(done.manager)
+        .with_host(Host::appended(start, n, end))
 }

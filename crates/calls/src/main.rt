@@ -3,6 +3,7 @@
 use libc::STDIN_FILENO;
 use words::Word;
 use world::ENOUGH;
+use world::Host;
 use world::World;
 
 mod batches;
@@ -15,6 +16,37 @@ mod vectors;
 mod words;
 mod world;
 
+fn call(
+    world: World,
+    word: Word,
+    s: &[u8],
+    file: &mut [u8],
+    old: &mut [u8],
+    scratch: &mut [u8],
+) -> World {
+    let host = world.host;
+    let room = host.room;
+    let manager = world.manager;
+    let book = world.book;
+    let next = world.with_host(host.with_room(ENOUGH));
+    match word {
+        Word::Fresh => changes::fresh(next, s),
+        Word::Draw => next.with_manager(changes::draw(manager, s)),
+        Word::Commit => changes::commit(next, s, room, file),
+        Word::Vacuum => next.with_manager(changes::vacuum(manager, book, s, room)),
+        Word::Show => {
+            shows::show(manager, book, s, room);
+            next
+        }
+        Word::State => {
+            shows::state(manager, s);
+            next
+        }
+        Word::Reopen => reopen::reopen(next, s, room, file, old),
+        Word::Plain(plain) => world.with_host(host::line(host, plain, s, file, old, scratch)),
+    }
+}
+
 fn line(world: World, s: &[u8], file: &mut [u8], old: &mut [u8], scratch: &mut [u8]) -> World {
     if s.len() == 0 {
         return world;
@@ -23,54 +55,19 @@ fn line(world: World, s: &[u8], file: &mut [u8], old: &mut [u8], scratch: &mut [
         return world;
     }
     let end = script::word_end(s, 0);
-    let rest = &s[end..];
-    let room = world.room;
-    let manager = world.manager;
-    let book = world.book;
-    let next = world.with_room(ENOUGH);
-    match words::first_word(&s[..end]) {
-        Word::Fresh => changes::fresh(next, rest),
-        Word::Draw => next.with_manager(changes::draw(manager, rest)),
-        Word::Commit => changes::commit(next, rest, room, file),
-        Word::Vacuum => next.with_manager(changes::vacuum(manager, book, rest, room)),
-        Word::Reopen => reopen::reopen(next, rest, room, file, old),
-        Word::Show => {
-            shows::show(manager, book, rest, room);
-            next
-        }
-        Word::State => {
-            shows::state(manager, rest);
-            next
-        }
-        Word::File => {
-            shows::file(next.disk.len, rest, file);
-            next
-        }
-        Word::Encode => {
-            vectors::encode(rest, room);
-            next
-        }
-        Word::Decode => {
-            vectors::decode(rest, room, scratch);
-            next
-        }
-        Word::Mask => {
-            vectors::mask(rest, scratch);
-            next
-        }
-        Word::Room => host::room(world, rest),
-        Word::Cut => host::cut(world, rest),
-        Word::Stale => host::stale(world, rest, file, old),
-        Word::Write => host::write(world, rest, file, scratch),
-        Word::Other => {
-            say::no_call();
-            next
-        }
-    }
+    let word = words::first_word(&s[..end]);
+    call(world, word, &s[end..], file, old, scratch)
 }
 
 // The lines up to a place; the last may have no newline.
-fn lines(world: World, s: &[u8], to: usize, file: &mut [u8], old: &mut [u8], scratch: &mut [u8]) -> World {
+fn lines(
+    world: World,
+    s: &[u8],
+    to: usize,
+    file: &mut [u8],
+    old: &mut [u8],
+    scratch: &mut [u8],
+) -> World {
     let mut world = world;
     let to = script::least(to, s.len());
     let mut at: usize = 0;
@@ -94,15 +91,51 @@ fn filled(input: &mut [u8], have: usize) -> usize {
 }
 
 // A line that fills the buffer is too long, and is answered once: what comes of it then is passed over as a remark.
-fn too_long(world: World, input: &[u8], have: usize) -> World {
+fn too_long(host: Host, input: &[u8], have: usize) -> Host {
     if have < input.len() {
-        return world;
+        return host;
     }
     if script::first(input) == b'#' {
-        return world;
+        return host;
     }
     say::no_call();
-    world.with_room(ENOUGH)
+    host.with_room(ENOUGH)
+}
+
+// What a turn leaves: the bytes in the buffer, unless the input has ended.
+struct Turned {
+    world: World,
+    have: usize,
+    ended: bool,
+}
+
+// What comes after the lines that were gone through stays for the next turn.
+fn kept(world: World, whole: usize, more: usize, ended: bool, input: &mut [u8]) -> Turned {
+    let left = script::shift(input, whole, more);
+    let host = too_long(world.host, input, left);
+    let have = script::shortened(input, left);
+    let world = world.with_host(host);
+    Turned { world, have, ended }
+}
+
+// After a read: goes through the lines that are there whole, or, where nothing came, through the last.
+fn turn(
+    world: World,
+    have: usize,
+    more: usize,
+    input: &mut [u8],
+    file: &mut [u8],
+    old: &mut [u8],
+    scratch: &mut [u8],
+) -> Turned {
+    let ended = more <= have;
+    let whole = if ended {
+        have
+    } else {
+        script::last_line(input, more)
+    };
+    let world = lines(world, input, whole, file, old, scratch);
+    kept(world, whole, more, ended, input)
 }
 
 // A proved loop has to end, and nothing says that the input does: the turns are more than any input has bytes.
@@ -113,15 +146,13 @@ fn run(input: &mut [u8], file: &mut [u8], old: &mut [u8], scratch: &mut [u8]) {
     while turns > 0 {
         turns -= 1;
         let more = filled(input, have);
-        if more <= have {
-            lines(world, input, have, file, old, scratch);
+        let done = turn(world, have, more, input, file, old, scratch);
+        if done.ended {
             return;
         }
-        let whole = script::last_line(input, more);
-        world = lines(world, input, whole, file, old, scratch);
-        let left = script::shift(input, whole, more);
-        world = too_long(world, input, left);
-        have = script::shortened(input, left);
+        let next = done.world;
+        world = next;
+        have = done.have;
     }
 }
 

@@ -1,7 +1,6 @@
 // The reopening call: the file is read, and the rewritten manifest takes its place.
 use crate::say;
-use crate::world::Disk;
-use crate::world::ENOUGH;
+use crate::world::Host;
 use crate::world::World;
 use storage::ReopenAnswer;
 
@@ -20,7 +19,7 @@ fn reopened(answer: ReopenAnswer) -> usize {
 }
 
 fn reopen_into(world: World, out: &mut [u8], file: &mut [u8], old: &mut [u8]) -> World {
-    let len = world.disk.len;
+    let len = world.host.len;
     let len = script::least(len, file.len());
     let done = storage::bootstrap(&file[..len], out);
     let answer = done.answer;
@@ -33,11 +32,11 @@ fn reopen_into(world: World, out: &mut [u8], file: &mut [u8], old: &mut [u8]) ->
     let n = script::copy(&out[..n], file);
     let manager = done.manager;
     let book = done.book;
+    let host = Host::reopened(read, n);
     World {
         manager,
         book,
-        disk: Disk::reopened(read, n),
-        room: ENOUGH,
+        host,
     }
 }
 

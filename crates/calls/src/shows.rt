@@ -152,15 +152,3 @@ pub fn state(manager: VersionManager, s: &[u8]) {
     say::comma(next.vector.0);
     say::one(b"", inner.manifest as u64);
 }
-
-pub fn file(len: usize, s: &[u8], file: &[u8]) {
-    if s.len() != 0 {
-        say::no_call();
-        return;
-    }
-    let n = script::least(len, file.len());
-    say::say(b"file");
-    say::comma(n as u64);
-    say::say(b",");
-    say::bytes(&file[..n]);
-}

@@ -6,12 +6,17 @@ pub enum Word {
     Commit,
     Vacuum,
     Show,
+    State,
     Reopen,
+    Plain(Plain),
+}
+
+// Words of lines that have no part in the manager.
+pub enum Plain {
+    File,
     Encode,
     Decode,
     Mask,
-    State,
-    File,
     Room,
     Cut,
     Stale,
@@ -20,31 +25,34 @@ pub enum Word {
     Other,
 }
 
-fn host_word(s: &[u8]) -> Word {
+fn host_word(s: &[u8]) -> Plain {
     if script::same(s, b"room") {
-        return Word::Room;
+        return Plain::Room;
     }
     if script::same(s, b"cut") {
-        return Word::Cut;
+        return Plain::Cut;
     }
     if script::same(s, b"stale") {
-        return Word::Stale;
+        return Plain::Stale;
     }
     if script::same(s, b"write") {
-        return Word::Write;
+        return Plain::Write;
     }
-    Word::Other
+    Plain::Other
 }
 
-fn vector_word(s: &[u8]) -> Word {
+fn plain_word(s: &[u8]) -> Plain {
+    if script::same(s, b"file") {
+        return Plain::File;
+    }
     if script::same(s, b"encode") {
-        return Word::Encode;
+        return Plain::Encode;
     }
     if script::same(s, b"decode") {
-        return Word::Decode;
+        return Plain::Decode;
     }
     if script::same(s, b"mask") {
-        return Word::Mask;
+        return Plain::Mask;
     }
     host_word(s)
 }
@@ -56,10 +64,8 @@ fn read_word(s: &[u8]) -> Word {
     if script::same(s, b"state") {
         return Word::State;
     }
-    if script::same(s, b"file") {
-        return Word::File;
-    }
-    vector_word(s)
+    let plain = plain_word(s);
+    Word::Plain(plain)
 }
 
 pub fn first_word(s: &[u8]) -> Word {

@@ -1,12 +1,12 @@
-// What stands between two lines: the manager, the pin book, what is known of the file, and the room for the next answer.
+// What stands between two lines: the manager, the pin book, and what the program knows as their host.
 use pins::PinBook;
 use version_manager::VersionManager;
 
 // Room that is more than any output is lent.
 pub const ENOUGH: usize = 18446744073709551615;
 
-// The file's bytes lie in a buffer that the program lends.
-pub struct Disk {
+// What is known of the file, whose bytes lie in a buffer that the program lends.
+pub struct Host {
     pub len: usize,
     // Where the last append begins and ends, both the file's end where there was none.
     pub start: usize,
@@ -14,13 +14,14 @@ pub struct Disk {
     // Whether the file that the last accepted reopen read is kept for `stale`, and its length.
     pub kept: bool,
     pub read: usize,
+    // The room that the next answered call is lent for each of its outputs.
+    pub room: usize,
 }
 
 pub struct World {
     pub manager: VersionManager,
     pub book: PinBook,
-    pub disk: Disk,
-    pub room: usize,
+    pub host: Host,
 }
 
 // So many places on from `start`, and not past `end`.
@@ -31,47 +32,56 @@ fn place(start: usize, n: usize, end: usize) -> usize {
     start + script::least(n, end - start)
 }
 
-impl Disk {
+impl Host {
     // A file that comes whole.
-    pub fn whole(len: usize) -> Disk {
-        Disk {
+    pub fn whole(len: usize) -> Host {
+        Host {
             len,
             start: len,
             end: len,
             kept: false,
             read: 0,
+            room: ENOUGH,
         }
     }
 
     // Such a file, with the one before it kept.
-    pub fn reopened(read: usize, len: usize) -> Disk {
-        Disk {
+    pub fn reopened(read: usize, len: usize) -> Host {
+        Host {
             len,
             start: len,
             end: len,
             kept: true,
             read,
+            room: ENOUGH,
         }
     }
 
     // So many bytes are appended at `start`, where the buffer goes on to `most`.
-    pub fn appended(start: usize, n: usize, most: usize) -> Disk {
+    pub fn appended(start: usize, n: usize, most: usize) -> Host {
         let end = place(start, n, most);
-        Disk {
+        Host {
             len: end,
             start,
             end,
             kept: false,
             read: 0,
+            room: ENOUGH,
         }
     }
 
     // Of the last append only so many bytes are there.
-    pub fn cut(self, n: usize) -> Disk {
+    pub fn cut(self, n: usize) -> Host {
         let len = place(self.start, n, self.end);
-        let mut disk = self;
-        disk.len = len;
-        disk
+        let mut host = self;
+        host.len = len;
+        host
+    }
+
+    pub fn with_room(self, room: usize) -> Host {
+        let mut host = self;
+        host.room = room;
+        host
     }
 }
 
@@ -80,11 +90,11 @@ impl World {
         let opened = VersionManager::fresh();
         let manager = opened.manager;
         let book = opened.book;
+        let host = Host::whole(0);
         World {
             manager,
             book,
-            disk: Disk::whole(0),
-            room: ENOUGH,
+            host,
         }
     }
 
@@ -94,15 +104,9 @@ impl World {
         world
     }
 
-    pub fn with_disk(self, disk: Disk) -> World {
+    pub fn with_host(self, host: Host) -> World {
         let mut world = self;
-        world.disk = disk;
-        world
-    }
-
-    pub fn with_room(self, room: usize) -> World {
-        let mut world = self;
-        world.room = room;
+        world.host = host;
         world
     }
 }

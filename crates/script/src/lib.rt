@@ -199,8 +199,7 @@ fn wide(b: u8) -> u16
 }
 
 // Two hex digits a byte.
-fn hex_run(s: &[u8], out: &mut [u8]) -> Count
-{
+fn hex_run(s: &[u8], out: &mut [u8]) -> Count {
     let mut at: usize = 0;
     let mut k: usize = 0;
     while at < s.len() {

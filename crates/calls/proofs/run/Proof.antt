@@ -1,7 +1,5 @@
 -- `calls::run` meets its contract. Each turn leaves fewer turns. Assumes nothing.
-use Prim.Native.Nat.{_≤_}
 use mathlib.Core.Path.{_≡_}
-use native.Mathlib.Omega.{arith}
 use lib.ListN.{length}
 use borrow.Author.Needs.{needs}
 use Rattle.calls.proofs.run.Statement.{statement}
@@ -26,8 +24,8 @@ sub-turns c = search needs
 filled-requires : tie.Need-filled-requires Inv-loop μ-loop
 filled-requires c κs = search needs
 
-lines-requires : tie.Need-lines-requires Inv-loop μ-loop
-lines-requires c κs = search needs
+turn-requires : tie.Need-turn-requires Inv-loop μ-loop
+turn-requires c κs = search needs
 
 same-length : tie.Need-same-length Inv-loop μ-loop
 same-length c = search needs
@@ -44,23 +42,8 @@ same-length-4 c = search needs
 returns : tie.Need-returns Inv-loop μ-loop
 returns c = search needs
 
-last-line-requires : tie.Need-last-line-requires Inv-loop μ-loop
-last-line-requires c κs = search needs
-
-lines-requires-2 : tie.Need-lines-requires-2 Inv-loop μ-loop
-lines-requires-2 c κs = search needs
-
-shift-requires : tie.Need-shift-requires Inv-loop μ-loop
-shift-requires c κs = search needs
-
-too-long-requires : tie.Need-too-long-requires Inv-loop μ-loop
-too-long-requires c κs = search needs
-
-shortened-requires : tie.Need-shortened-requires Inv-loop μ-loop
-shortened-requires c κs = search needs
-
 loop-less : tie.Need-loop-less Inv-loop μ-loop
-loop-less c = omega (arith, c .before .before .before .before .before .before .before .before .before .before .before .before .before .before .before .before .before .before .before .before .before .before .before .before .before .before .before .before .loop-test .taken)
+loop-less c = search needs
 
 loop-again : tie.Need-loop-again Inv-loop μ-loop
 loop-again c = search needs
@@ -90,17 +73,12 @@ run-spec =
     loop-holds
     sub-turns
     filled-requires
-    lines-requires
+    turn-requires
     same-length
     same-length-2
     same-length-3
     same-length-4
     returns
-    last-line-requires
-    lines-requires-2
-    shift-requires
-    too-long-requires
-    shortened-requires
     loop-less
     loop-again
     same-length-5

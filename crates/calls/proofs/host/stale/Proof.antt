@@ -27,8 +27,8 @@ copy-requires c κs = search needs
 reopened-requires : tie.Need-reopened-requires
 reopened-requires c κs = search needs
 
-with-disk-requires : tie.Need-with-disk-requires
-with-disk-requires c κs = search needs
+with-room-requires : tie.Need-with-room-requires
+with-room-requires c κs = search needs
 
 same-length : tie.Need-same-length
 same-length c = search needs
@@ -47,6 +47,6 @@ stale-spec =
     slice-aggregate-copy
     copy-requires
     reopened-requires
-    with-disk-requires
+    with-room-requires
     same-length
     returns-3)

@@ -42,8 +42,8 @@ copy-requires c κs = search needs
 whole-requires : tie.Need-whole-requires
 whole-requires c κs = search needs
 
-with-disk-requires : tie.Need-with-disk-requires
-with-disk-requires c κs = search needs
+with-room-requires : tie.Need-with-room-requires
+with-room-requires c κs = search needs
 
 enum-told : tie.Need-enum-told
 enum-told c = search needs
@@ -82,7 +82,7 @@ write-spec =
     slice-aggregate-copy
     copy-requires
     whole-requires
-    with-disk-requires
+    with-room-requires
     enum-told
     no-line-requires-2
     same-length

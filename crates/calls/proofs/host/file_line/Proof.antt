@@ -1,10 +1,10 @@
--- `calls::shows::file` meets its contract. Assumes nothing.
+-- `calls::host::file_line` meets its contract. Assumes nothing.
 use Prim.Native.Nat.{_-_}
 use lib.ListN.{length}
 use lib.Seq.{length-take-le}
 use borrow.Author.Needs.{needs}
-use Rattle.calls.proofs.shows.file.Statement.{statement}
-use Rattle.calls.proofs.shows.file.Tie as tie
+use Rattle.calls.proofs.host.file_line.Statement.{statement}
+use Rattle.calls.proofs.host.file_line.Tie as tie
 
 no-call-requires : tie.Need-no-call-requires
 no-call-requires c κs = search needs
@@ -39,8 +39,8 @@ bytes-requires c κs = search needs
 returns-2 : tie.Need-returns-2
 returns-2 c = search needs
 
-pub file-spec : {M : Type 1} → statement M
-file-spec =
+pub file-line-spec : {M : Type 1} → statement M
+file-line-spec =
     tie.close
     (tie.spec
     no-call-requires
