@@ -1,6 +1,7 @@
 // Calls that hand a manager back.
 use crate::batches;
 use crate::say;
+use crate::words::Managed;
 use crate::world::Host;
 use crate::world::World;
 use pins::PinBook;
@@ -30,7 +31,7 @@ fn draw_vector(manager: VersionManager) -> VersionManager {
     drawn.manager
 }
 
-pub fn draw(manager: VersionManager, s: &[u8]) -> VersionManager {
+fn draw(manager: VersionManager, s: &[u8]) -> VersionManager {
     if script::same(s, b" rowset") {
         return draw_rowset(manager);
     }
@@ -64,7 +65,7 @@ fn vacuum_into(
     done.manager
 }
 
-pub fn vacuum(manager: VersionManager, book: PinBook, s: &[u8], room: usize) -> VersionManager {
+fn vacuum(manager: VersionManager, book: PinBook, s: &[u8], room: usize) -> VersionManager {
     if s.len() != 0 {
         say::no_call();
         return manager;
@@ -73,6 +74,19 @@ pub fn vacuum(manager: VersionManager, book: PinBook, s: &[u8], room: usize) -> 
     let mut rowsets = [0u32; 256];
     let n = script::least(room, 256);
     vacuum_into(manager, book, &mut tables[..n], &mut rowsets[..n])
+}
+
+pub fn managed(
+    manager: VersionManager,
+    book: PinBook,
+    word: Managed,
+    s: &[u8],
+    room: usize,
+) -> VersionManager {
+    match word {
+        Managed::Draw => draw(manager, s),
+        Managed::Vacuum => vacuum(manager, book, s, room),
+    }
 }
 
 // The append is written to the file's end.

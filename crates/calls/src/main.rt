@@ -31,19 +31,16 @@ fn call(
     let next = world.with_host(host.with_room(ENOUGH));
     match word {
         Word::Fresh => changes::fresh(next, s),
-        Word::Draw => next.with_manager(changes::draw(manager, s)),
         Word::Commit => changes::commit(next, s, room, file),
-        Word::Vacuum => next.with_manager(changes::vacuum(manager, book, s, room)),
-        Word::Show => {
-            shows::show(manager, book, s, room);
-            next
-        }
-        Word::State => {
-            shows::state(manager, s);
-            next
-        }
         Word::Reopen => reopen::reopen(next, s, room, file, old),
-        Word::Plain(plain) => world.with_host(host::line(host, plain, s, file, old, scratch)),
+        Word::Managed(managed) => {
+            next.with_manager(changes::managed(manager, book, managed, s, room))
+        }
+        Word::Told(told) => {
+            shows::told(manager, book, told, s, room);
+            next
+        }
+        Word::Plain(plain) => next.with_host(host::line(host, plain, s, file, old, scratch)),
     }
 }
 

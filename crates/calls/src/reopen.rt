@@ -18,6 +18,15 @@ fn reopened(answer: ReopenAnswer) -> usize {
     }
 }
 
+// The file that was read is kept, and the rewritten manifest takes its place.
+fn replaced(len: usize, n: usize, out: &[u8], file: &mut [u8], old: &mut [u8]) -> Host {
+    let len = script::least(len, file.len());
+    let read = script::copy(&file[..len], old);
+    let n = script::least(n, out.len());
+    let n = script::copy(&out[..n], file);
+    Host::reopened(read, n)
+}
+
 fn reopen_into(world: World, out: &mut [u8], file: &mut [u8], old: &mut [u8]) -> World {
     let len = world.host.len;
     let len = script::least(len, file.len());
@@ -27,12 +36,9 @@ fn reopen_into(world: World, out: &mut [u8], file: &mut [u8], old: &mut [u8]) ->
     if n == 0 {
         return world;
     }
-    let read = script::copy(&file[..len], old);
-    let n = script::least(n, out.len());
-    let n = script::copy(&out[..n], file);
     let manager = done.manager;
     let book = done.book;
-    let host = Host::reopened(read, n);
+    let host = replaced(len, n, out, file, old);
     World {
         manager,
         book,

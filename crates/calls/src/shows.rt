@@ -1,9 +1,11 @@
 // Shows, and what the manager holds: calls that change nothing.
 use crate::say;
+use crate::words::Told;
 use pins::PinBook;
 use script::Found;
 use show::ShowAnswer;
 use version_manager::VersionManager;
+use version_state::NextIds;
 
 // A refusal, or the word and how many are shown, which are still to be said.
 fn shown(word: &[u8], answer: ShowAnswer) -> bool {
@@ -126,7 +128,7 @@ fn show_at(manager: VersionManager, book: PinBook, what: &[u8], epoch: u32, room
     say::no_call();
 }
 
-pub fn show(manager: VersionManager, book: PinBook, s: &[u8], room: usize) {
+fn show(manager: VersionManager, book: PinBook, s: &[u8], room: usize) {
     if s.len() == 0 {
         say::no_call();
         return;
@@ -138,17 +140,27 @@ pub fn show(manager: VersionManager, book: PinBook, s: &[u8], room: usize) {
     }
 }
 
-pub fn state(manager: VersionManager, s: &[u8]) {
+fn state_line(epoch: u32, next: NextIds, manifest: usize) {
+    say::say(b"state");
+    say::comma(epoch as u64);
+    say::comma(next.table.0 as u64);
+    say::comma(next.rowset.0 as u64);
+    say::comma(next.vector.0);
+    say::one(b"", manifest as u64);
+}
+
+fn state(manager: VersionManager, s: &[u8]) {
     if s.len() != 0 {
         say::no_call();
         return;
     }
-    let inner = manager.inner;
-    let next = inner.next;
-    say::say(b"state");
-    say::comma(inner.epoch as u64);
-    say::comma(next.table.0 as u64);
-    say::comma(next.rowset.0 as u64);
-    say::comma(next.vector.0);
-    say::one(b"", inner.manifest as u64);
+    let next = manager.inner.next;
+    state_line(manager.inner.epoch, next, manager.inner.manifest);
+}
+
+pub fn told(manager: VersionManager, book: PinBook, word: Told, s: &[u8], room: usize) {
+    match word {
+        Told::Show => show(manager, book, s, room),
+        Told::State => state(manager, s),
+    }
 }

@@ -2,13 +2,23 @@
 
 pub enum Word {
     Fresh,
-    Draw,
     Commit,
+    Reopen,
+    Managed(Managed),
+    Told(Told),
+    Plain(Plain),
+}
+
+// Calls that hand a manager back and touch nothing else.
+pub enum Managed {
+    Draw,
     Vacuum,
+}
+
+// Calls that change nothing.
+pub enum Told {
     Show,
     State,
-    Reopen,
-    Plain(Plain),
 }
 
 // Words of lines that have no part in the manager.
@@ -59,10 +69,10 @@ fn plain_word(s: &[u8]) -> Plain {
 
 fn read_word(s: &[u8]) -> Word {
     if script::same(s, b"show") {
-        return Word::Show;
+        return Word::Told(Told::Show);
     }
     if script::same(s, b"state") {
-        return Word::State;
+        return Word::Told(Told::State);
     }
     let plain = plain_word(s);
     Word::Plain(plain)
@@ -73,13 +83,13 @@ pub fn first_word(s: &[u8]) -> Word {
         return Word::Fresh;
     }
     if script::same(s, b"draw") {
-        return Word::Draw;
+        return Word::Managed(Managed::Draw);
     }
     if script::same(s, b"commit") {
         return Word::Commit;
     }
     if script::same(s, b"vacuum") {
-        return Word::Vacuum;
+        return Word::Managed(Managed::Vacuum);
     }
     if script::same(s, b"reopen") {
         return Word::Reopen;

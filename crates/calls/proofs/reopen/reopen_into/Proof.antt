@@ -30,29 +30,8 @@ same-length-2 c = search needs
 returns : tie.Need-returns
 returns c = search needs
 
-slice-reshare-prefix-copy : tie.Need-slice-reshare-prefix-copy
-slice-reshare-prefix-copy c = search needs
-
-slice-aggregate-copy : tie.Need-slice-aggregate-copy
-slice-aggregate-copy c = search (needs, length-take-le)
-
-copy-requires : tie.Need-copy-requires
-copy-requires c κs = search needs
-
-least-requires-2 : tie.Need-least-requires-2
-least-requires-2 c κs = search needs
-
-slice-reshare-prefix-copy-2 : tie.Need-slice-reshare-prefix-copy-2
-slice-reshare-prefix-copy-2 c = search needs
-
-slice-aggregate-copy-2 : tie.Need-slice-aggregate-copy-2
-slice-aggregate-copy-2 c = search (needs, length-take-le)
-
-copy-requires-2 : tie.Need-copy-requires-2
-copy-requires-2 c κs = search needs
-
-reopened-requires-2 : tie.Need-reopened-requires-2
-reopened-requires-2 c κs = search needs
+replaced-requires : tie.Need-replaced-requires
+replaced-requires c κs = search needs
 
 same-length-3 : tie.Need-same-length-3
 same-length-3 c = search needs
@@ -78,14 +57,7 @@ reopen-into-spec =
     same-length
     same-length-2
     returns
-    slice-reshare-prefix-copy
-    slice-aggregate-copy
-    copy-requires
-    least-requires-2
-    slice-reshare-prefix-copy-2
-    slice-aggregate-copy-2
-    copy-requires-2
-    reopened-requires-2
+    replaced-requires
     same-length-3
     same-length-4
     same-length-5
