@@ -1,10 +1,10 @@
 // Calls that hand a manager back.
-use crate::batches;
-use crate::say;
-use crate::words::Managed;
 use crate::world::Host;
 use crate::world::World;
+use answers::say;
 use pins::PinBook;
+use script::batches;
+use script::words::Managed;
 use vacuum::VacuumAnswer;
 use version_manager::VersionManager;
 

@@ -1,11 +1,11 @@
 // Lines that have no part in the manager: those that stand for the host and the disk, and the calls on delete vectors.
-use crate::say;
-use crate::vectors;
-use crate::words::Plain;
 use crate::world::ENOUGH;
 use crate::world::Host;
+use answers::say;
+use answers::vectors;
 use script::Count;
 use script::Found;
+use script::words::Plain;
 
 fn long(n: u64) -> usize {
     n as usize

@@ -1,19 +1,17 @@
 // Lists of calls as text: reads one call a line from standard input, and answers each by a line. It holds the manager, the
 // pin book and the manifest file's bytes, and hands each call what the last one left.
+use answers::say;
+use answers::shows;
 use libc::STDIN_FILENO;
-use words::Word;
+use script::words;
+use script::words::Word;
 use world::ENOUGH;
 use world::Host;
 use world::World;
 
-mod batches;
 mod changes;
 mod host;
 mod reopen;
-mod say;
-mod shows;
-mod vectors;
-mod words;
 mod world;
 
 fn call(

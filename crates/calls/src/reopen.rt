@@ -1,7 +1,7 @@
 // The reopening call: the file is read, and the rewritten manifest takes its place.
-use crate::say;
 use crate::world::Host;
 use crate::world::World;
+use answers::say;
 use storage::ReopenAnswer;
 
 // How many bytes the rewritten manifest has, which are never 0.

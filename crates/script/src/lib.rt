@@ -1,8 +1,11 @@
-// Words, numbers and runs of bytes of a line of text, read from lent slices. Nothing here knows a call.
+// Words, numbers, operations and runs of bytes of a line of text, read from lent slices.
 use text::Number;
 ghost use mathlib.Core.Path.{_≡_};
 ghost use Prim.Native.Nat.{_≤_};
 ghost use lib.ListN.{length};
+
+pub mod batches;
+pub mod words;
 
 // A number, or nothing where the word is none.
 pub enum Found {
