@@ -1,0 +1,66 @@
+-- `answers::say::tables` meets its contract. Assumes nothing.
+use Prim.Native.Nat.{_≤_, _-_}
+use borrow.Author.Needs.{needs}
+use Rattle.answers.proofs.say.tables.Statement.{statement}
+use Rattle.answers.proofs.say.tables.Tie as tie
+
+abbrev Inv-loop : tie.InvT-loop
+Inv-loop ids shapes lengths names count i₀ t7 t8 i = i ≤ count
+
+abbrev μ-loop : tie.MeasureT-loop
+μ-loop ids shapes lengths names count i₀ t7 t8 i = count - i
+
+loop-holds : tie.Need-loop-holds Inv-loop μ-loop
+loop-holds c = search needs
+
+pair-requires : tie.Need-pair-requires Inv-loop μ-loop
+pair-requires c κs = search needs
+
+slice-aggregate-say : tie.Need-slice-aggregate-say Inv-loop μ-loop
+slice-aggregate-say c = search needs
+
+say-requires : tie.Need-say-requires Inv-loop μ-loop
+say-requires c κs = search needs
+
+at32-requires : tie.Need-at32-requires Inv-loop μ-loop
+at32-requires c κs = search needs
+
+name-requires : tie.Need-name-requires Inv-loop μ-loop
+name-requires c κs = search needs
+
+add-i : tie.Need-add-i Inv-loop μ-loop
+add-i c = search needs
+
+loop-less : tie.Need-loop-less Inv-loop μ-loop
+loop-less c = search needs
+
+loop-again : tie.Need-loop-again Inv-loop μ-loop
+loop-again c = search needs
+
+slice-aggregate-say-2 : tie.Need-slice-aggregate-say-2 Inv-loop μ-loop
+slice-aggregate-say-2 c = search needs
+
+say-requires-2 : tie.Need-say-requires-2 Inv-loop μ-loop
+say-requires-2 c κs = search needs
+
+returns : tie.Need-returns Inv-loop μ-loop
+returns c = search needs
+
+pub tables-spec : {M : Type 1} → statement M
+tables-spec =
+    tie.close
+    (tie.spec
+    Inv-loop
+    μ-loop
+    loop-holds
+    pair-requires
+    slice-aggregate-say
+    say-requires
+    at32-requires
+    name-requires
+    add-i
+    loop-less
+    loop-again
+    slice-aggregate-say-2
+    say-requires-2
+    returns)

@@ -1,0 +1,166 @@
+// Shows, and what the manager holds: calls that change nothing.
+use crate::say;
+use pins::PinBook;
+use script::Found;
+use script::words::Told;
+use show::ShowAnswer;
+use version_manager::VersionManager;
+use version_state::NextIds;
+
+// A refusal, or the word and how many are shown, which are still to be said.
+fn shown(word: &[u8], answer: ShowAnswer) -> bool {
+    match answer {
+        ShowAnswer::Shown(n) => {
+            say::say(word);
+            say::comma(n as u64);
+            true
+        }
+        ShowAnswer::Refused(why) => {
+            say::refusal(why);
+            false
+        }
+    }
+}
+
+fn count(answer: ShowAnswer) -> usize {
+    match answer {
+        ShowAnswer::Shown(n) => n,
+        ShowAnswer::Refused(_) => 0,
+    }
+}
+
+fn pairs_into(
+    manager: VersionManager,
+    book: PinBook,
+    epoch: u32,
+    tables: &mut [u32],
+    rowsets: &mut [u32],
+) {
+    let answer = manager.show_pairs(book, epoch, tables, rowsets);
+    if shown(b"pairs", answer) {
+        say::pairs(tables, rowsets, count(answer));
+    }
+}
+
+fn pairs(manager: VersionManager, book: PinBook, epoch: u32, room: usize) {
+    let mut tables = [0u32; 256];
+    let mut rowsets = [0u32; 256];
+    let n = script::least(room, 256);
+    pairs_into(manager, book, epoch, &mut tables[..n], &mut rowsets[..n]);
+}
+
+fn vectors_into(
+    manager: VersionManager,
+    book: PinBook,
+    epoch: u32,
+    tables: &mut [u32],
+    rowsets: &mut [u32],
+    vectors: &mut [u64],
+) {
+    let answer = manager.show_vectors(book, epoch, tables, rowsets, vectors);
+    if shown(b"vectors", answer) {
+        say::vectors(tables, rowsets, vectors, count(answer));
+    }
+}
+
+fn vectors(manager: VersionManager, book: PinBook, epoch: u32, room: usize) {
+    let mut tables = [0u32; 256];
+    let mut rowsets = [0u32; 256];
+    let mut vectors = [0u64; 256];
+    let n = script::least(room, 256);
+    vectors_into(
+        manager,
+        book,
+        epoch,
+        &mut tables[..n],
+        &mut rowsets[..n],
+        &mut vectors[..n],
+    );
+}
+
+fn tables_into(
+    manager: VersionManager,
+    book: PinBook,
+    epoch: u32,
+    ids: &mut [u32],
+    shapes: &mut [u32],
+    lengths: &mut [u32],
+    names: &mut [u8],
+) {
+    let answer = manager.show_tables(book, epoch, ids, shapes, lengths, names);
+    if shown(b"tables", answer) {
+        say::tables(ids, shapes, lengths, names, count(answer));
+    }
+}
+
+// An entry of the names has 32 bytes.
+fn tables(manager: VersionManager, book: PinBook, epoch: u32, room: usize) {
+    let mut ids = [0u32; 16];
+    let mut shapes = [0u32; 16];
+    let mut lengths = [0u32; 16];
+    let mut names = [0u8; 512];
+    let n = script::least(room, 16);
+    let bytes = script::least(32 * n, 512);
+    tables_into(
+        manager,
+        book,
+        epoch,
+        &mut ids[..n],
+        &mut shapes[..n],
+        &mut lengths[..n],
+        &mut names[..bytes],
+    );
+}
+
+fn show_at(manager: VersionManager, book: PinBook, what: &[u8], epoch: u32, room: usize) {
+    if script::same(what, b" tables") {
+        tables(manager, book, epoch, room);
+        return;
+    }
+    if script::same(what, b" pairs") {
+        pairs(manager, book, epoch, room);
+        return;
+    }
+    if script::same(what, b" vectors") {
+        vectors(manager, book, epoch, room);
+        return;
+    }
+    say::no_call();
+}
+
+fn show(manager: VersionManager, book: PinBook, s: &[u8], room: usize) {
+    if s.len() == 0 {
+        say::no_call();
+        return;
+    }
+    let end = script::word_end(s, 1);
+    match script::one(&s[end..], 4294967295) {
+        Found::Of(n) => show_at(manager, book, &s[..end], script::narrow(n), room),
+        Found::Nothing => say::no_call(),
+    }
+}
+
+fn state_line(epoch: u32, next: NextIds, manifest: usize) {
+    say::say(b"state");
+    say::comma(epoch as u64);
+    say::comma(next.table.0 as u64);
+    say::comma(next.rowset.0 as u64);
+    say::comma(next.vector.0);
+    say::one(b"", manifest as u64);
+}
+
+fn state(manager: VersionManager, s: &[u8]) {
+    if s.len() != 0 {
+        say::no_call();
+        return;
+    }
+    let next = manager.inner.next;
+    state_line(manager.inner.epoch, next, manager.inner.manifest);
+}
+
+pub fn told(manager: VersionManager, book: PinBook, word: Told, s: &[u8], room: usize) {
+    match word {
+        Told::Show => show(manager, book, s, room),
+        Told::State => state(manager, s),
+    }
+}

@@ -1,0 +1,109 @@
+// Lines that have no part in the manager: those that stand for the host and the disk, and the calls on delete vectors.
+use crate::world::ENOUGH;
+use crate::world::Host;
+use answers::say;
+use answers::vectors;
+use script::Count;
+use script::Found;
+use script::words::Plain;
+
+fn long(n: u64) -> usize {
+    n as usize
+}
+
+// A line that is no call is answered, and uses the room up.
+fn no_line(host: Host) -> Host {
+    say::no_call();
+    host.with_room(ENOUGH)
+}
+
+fn room_line(host: Host, s: &[u8]) -> Host {
+    match script::one(s, 18446744073709551615) {
+        Found::Of(n) => host.with_room(long(n)),
+        Found::Nothing => no_line(host),
+    }
+}
+
+fn cut(host: Host, s: &[u8]) -> Host {
+    match script::one(s, 18446744073709551615) {
+        Found::Of(n) => host.cut(long(n)),
+        Found::Nothing => no_line(host),
+    }
+}
+
+fn stale(host: Host, s: &[u8], file: &mut [u8], old: &[u8]) -> Host {
+    if s.len() != 0 {
+        return no_line(host);
+    }
+    if !host.kept {
+        return host;
+    }
+    let room = host.room;
+    let read = host.read;
+    let n = script::least(read, old.len());
+    let n = script::copy(&old[..n], file);
+    Host::reopened(n, n).with_room(room)
+}
+
+// All after the first blank is the text. It is looked through before the file is changed.
+fn write(host: Host, s: &[u8], file: &mut [u8], scratch: &mut [u8]) -> Host {
+    if s.len() == 0 {
+        return no_line(host);
+    }
+    let room = host.room;
+    match script::written(&s[1..], scratch) {
+        Count::Of(n) => {
+            let n = script::least(n, scratch.len());
+            let n = script::copy(&scratch[..n], file);
+            Host::whole(n).with_room(room)
+        }
+        Count::Nothing => no_line(host),
+    }
+}
+
+fn file_line(len: usize, s: &[u8], file: &[u8]) {
+    if s.len() != 0 {
+        say::no_call();
+        return;
+    }
+    let n = script::least(len, file.len());
+    say::say(b"file");
+    say::comma(n as u64);
+    say::say(b",");
+    say::bytes(&file[..n]);
+}
+
+pub fn line(
+    host: Host,
+    word: Plain,
+    s: &[u8],
+    file: &mut [u8],
+    old: &[u8],
+    scratch: &mut [u8],
+) -> Host {
+    let room = host.room;
+    let next = host.with_room(ENOUGH);
+    match word {
+        Plain::Room => room_line(host, s),
+        Plain::Cut => cut(host, s),
+        Plain::Stale => stale(host, s, file, old),
+        Plain::Write => write(host, s, file, scratch),
+        Plain::File => {
+            file_line(host.len, s, file);
+            next
+        }
+        Plain::Encode => {
+            vectors::encode(s, room);
+            next
+        }
+        Plain::Decode => {
+            vectors::decode(s, room, scratch);
+            next
+        }
+        Plain::Mask => {
+            vectors::mask(s, scratch);
+            next
+        }
+        Plain::Other => no_line(host),
+    }
+}

@@ -1,0 +1,112 @@
+// What stands between two lines: the manager, the pin book, and what the program knows as their host.
+use pins::PinBook;
+use version_manager::VersionManager;
+
+// Room that is more than any output is lent.
+pub const ENOUGH: usize = 18446744073709551615;
+
+// What is known of the file, whose bytes lie in a buffer that the program lends.
+pub struct Host {
+    pub len: usize,
+    // Where the last append begins and ends, both the file's end where there was none.
+    pub start: usize,
+    pub end: usize,
+    // Whether the file that the last accepted reopen read is kept for `stale`, and its length.
+    pub kept: bool,
+    pub read: usize,
+    // The room that the next answered call is lent for each of its outputs.
+    pub room: usize,
+}
+
+pub struct World {
+    pub manager: VersionManager,
+    pub book: PinBook,
+    pub host: Host,
+}
+
+// So many places on from `start`, and not past `end`.
+fn place(start: usize, n: usize, end: usize) -> usize {
+    if end <= start {
+        return start;
+    }
+    start + script::least(n, end - start)
+}
+
+impl Host {
+    // A file that comes whole.
+    pub fn whole(len: usize) -> Host {
+        Host {
+            len,
+            start: len,
+            end: len,
+            kept: false,
+            read: 0,
+            room: ENOUGH,
+        }
+    }
+
+    // Such a file, with the one before it kept.
+    pub fn reopened(read: usize, len: usize) -> Host {
+        Host {
+            len,
+            start: len,
+            end: len,
+            kept: true,
+            read,
+            room: ENOUGH,
+        }
+    }
+
+    // So many bytes are appended at `start`, where the buffer goes on to `most`.
+    pub fn appended(start: usize, n: usize, most: usize) -> Host {
+        let end = place(start, n, most);
+        Host {
+            len: end,
+            start,
+            end,
+            kept: false,
+            read: 0,
+            room: ENOUGH,
+        }
+    }
+
+    // Of the last append only so many bytes are there.
+    pub fn cut(self, n: usize) -> Host {
+        let len = place(self.start, n, self.end);
+        let mut host = self;
+        host.len = len;
+        host
+    }
+
+    pub fn with_room(self, room: usize) -> Host {
+        let mut host = self;
+        host.room = room;
+        host
+    }
+}
+
+impl World {
+    pub fn fresh() -> World {
+        let opened = VersionManager::fresh();
+        let manager = opened.manager;
+        let book = opened.book;
+        let host = Host::whole(0);
+        World {
+            manager,
+            book,
+            host,
+        }
+    }
+
+    pub fn with_manager(self, manager: VersionManager) -> World {
+        let mut world = self;
+        world.manager = manager;
+        world
+    }
+
+    pub fn with_host(self, host: Host) -> World {
+        let mut world = self;
+        world.host = host;
+        world
+    }
+}

@@ -1,0 +1,54 @@
+// The operations of a commit, read from its line.
+use ids::RowsetNo;
+use ids::TableNo;
+use ids::VectorNo;
+use ids::name::Name;
+use manifest::operation::Batch;
+use manifest::operation::Change;
+use manifest::operation::EpochOp;
+use manifest::operation::ManifestOperation;
+use manifest::operation::ParsedLine;
+
+// What stands for a word that is no operation: commit refuses it by 2 at its place.
+fn no_change() -> Change {
+    Change {
+        op: EpochOp::NextIds(TableNo(0), RowsetNo(0), VectorNo(0)),
+        name: Name::none(),
+    }
+}
+
+fn change(s: &[u8]) -> Change {
+    let parsed = manifest::parser::parse(s);
+    let line = parsed.line;
+    let name = parsed.name;
+    match line {
+        ParsedLine::Line(m) => match m {
+            ManifestOperation::Begin => no_change(),
+            ManifestOperation::End => no_change(),
+            ManifestOperation::Epoch(op) => Change { op, name },
+        },
+        ParsedLine::Bad => no_change(),
+    }
+}
+
+// A blank before each operation. The count is that of all; the places hold the first 600.
+pub fn batch(s: &[u8]) -> Batch {
+    let none = no_change();
+    let mut batch = Batch {
+        changes: [none; 600],
+        count: 0,
+    };
+    let mut at: usize = 0;
+    let mut k: usize = 0;
+    while at < s.len() {
+        let from = at + 1;
+        let end = crate::word_end(s, from);
+        if k < 600 {
+            batch.changes[k] = change(&s[from..end]);
+        }
+        k += 1;
+        at = end;
+    }
+    batch.count = k;
+    batch
+}
