@@ -2,6 +2,8 @@
 use commit::CommitAnswer;
 use ids::refusal::Refusal;
 use libc::STDOUT_FILENO;
+use pinning::PinAnswer;
+use pinning::UnpinAnswer;
 use version_manager::RowsetAnswer;
 use version_manager::VectorAnswer;
 
@@ -52,6 +54,32 @@ pub fn vector(answer: VectorAnswer) {
     match answer {
         VectorAnswer::Id(id) => one(b"drawn", id.0),
         VectorAnswer::Refused(why) => refusal(why),
+    }
+}
+
+pub fn pinned(answer: PinAnswer) {
+    match answer {
+        PinAnswer::Pinned(epoch) => one(b"pinned", epoch as u64),
+        PinAnswer::Refused(why) => refusal(why),
+    }
+}
+
+fn flag(due: bool) -> u64 {
+    if due {
+        return 1;
+    }
+    0
+}
+
+pub fn unpinned(answer: UnpinAnswer) {
+    match answer {
+        UnpinAnswer::Unpinned(due, ready) => {
+            say(b"unpinned");
+            comma(flag(due));
+            comma(ready as u64);
+            say(b"\n");
+        }
+        UnpinAnswer::Refused(why) => refusal(why),
     }
 }
 

@@ -9,6 +9,7 @@ use world::ENOUGH;
 use world::Host;
 use world::World;
 
+mod booking;
 mod changes;
 mod host;
 mod reopen;
@@ -34,6 +35,7 @@ fn call(
         Word::Managed(managed) => {
             next.with_manager(changes::managed(manager, book, managed, s, room))
         }
+        Word::Booked(booked) => next.with_book(booking::booked(manager, book, booked, s)),
         Word::Told(told) => {
             shows::told(manager, book, told, s, room);
             next

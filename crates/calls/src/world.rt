@@ -104,6 +104,12 @@ impl World {
         world
     }
 
+    pub fn with_book(self, book: PinBook) -> World {
+        let mut world = self;
+        world.book = book;
+        world
+    }
+
     pub fn with_host(self, host: Host) -> World {
         let mut world = self;
         world.host = host;

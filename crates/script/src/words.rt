@@ -5,6 +5,7 @@ pub enum Word {
     Commit,
     Reopen,
     Managed(Managed),
+    Booked(Booked),
     Told(Told),
     Plain(Plain),
 }
@@ -13,6 +14,12 @@ pub enum Word {
 pub enum Managed {
     Draw,
     Vacuum,
+}
+
+// Calls that alter the pin book alone.
+pub enum Booked {
+    Pin,
+    Unpin,
 }
 
 // Calls that change nothing.
@@ -68,6 +75,12 @@ fn plain_word(s: &[u8]) -> Plain {
 }
 
 fn read_word(s: &[u8]) -> Word {
+    if crate::same(s, b"pin") {
+        return Word::Booked(Booked::Pin);
+    }
+    if crate::same(s, b"unpin") {
+        return Word::Booked(Booked::Unpin);
+    }
     if crate::same(s, b"show") {
         return Word::Told(Told::Show);
     }
