@@ -4,8 +4,8 @@ use mathlib.Core.Bool.{Bool, true, false, cond, not, _||_}
 use mathlib.Core.List.{List, [], _∷_, _++_}
 use Prim.Native.Nat.{ℕ, _+_}
 use lib.Dec.{leb, ltb}
-use lib.ListN.{length, take}
-use Rattle.lists.specs.Keyed.{keep, allOf, has}
+use lib.ListN.{length}
+use Rattle.lists.specs.Keyed.{keep, allOf}
 use Rattle.ids.specs.declared.refusal.Refusal.{Refusal}
 use Rattle.ids.specs.declared.refusal.Refusal.the-variants.{ManifestTooLong, Malformed, TableConflict, OverLimit, RowsetWithoutTable, TooManyOperations}
 use Rattle.ids.specs.declared.refusal.Verdict.the-variants.{Accepted, Refused}
@@ -13,10 +13,11 @@ use Rattle.manifest.specs.Operations.{Operation, createTable, dropTable, addRow
 use Rattle.manifest.specs.Lines.{lineOf}
 use Rattle.manifest.specs.Split.{lines}
 use Rattle.frames.specs.Frames.{mostOperations}
-use Rattle.snapshot.specs.Entries.{Entry, byIds, waits}
-use Rattle.snapshot.specs.Tables.{byTable, nameTaken}
+use Rattle.snapshot.specs.Entries.{Entry, waits}
+use Rattle.snapshot.specs.Tables.{nameTaken}
 use Rattle.version_state.specs.Limits.{mostTables, mostHeld, longestManifest}
 use Rattle.version_state.specs.State.{State, start, withPairs, withVectors, withEpoch, Hands}
+use Rattle.version_state.specs.Sound.{hasTable, hasRowset}
 use Rattle.operations.specs.Effect.{applied}
 use Rattle.operations.specs.Judge.{isLive}
 use Rattle.replay.specs.declared.Replayed.{Replayed}
@@ -106,11 +107,11 @@ linesRead (l ∷ ls) c = andThen (lineRead (lineOf l) c) (linesRead ls)
 
 -- 5: a live rowset without its table
 abbrev pub tableless : State → Bool
-tableless s = not (allOf (λ p. has byTable (take 1 (byIds p)) (s .tables)) (s .pairs))
+tableless s = not (allOf (hasTable (s .tables)) (s .pairs))
 
 -- vectors whose rowset is not live are dropped
 abbrev pub withoutOrphans : State → State
-withoutOrphans s = withVectors s (keep (λ v. has byIds (take 2 (byIds v)) (s .pairs)) (s .vectors))
+withoutOrphans s = withVectors s (keep (hasRowset (s .pairs)) (s .vectors))
 
 -- at the end; a frame still open is dropped
 abbrev pub finished : State → Result State

@@ -18,11 +18,11 @@ use version_state::VersionManagerInner;
 ghost use mathlib.Core.Path.{_≡_};
 ghost use mathlib.Core.List.{[], _∷_};
 ghost use Prim.Native.Nat.{_≤_, _/_, _%_};
-ghost use lib.ListN.{length, take};
-ghost use Rattle.lists.specs.Keyed.{keep, has};
-ghost use Rattle.snapshot.specs.Entries.{byIds};
+ghost use lib.ListN.{length};
+ghost use Rattle.lists.specs.Keyed.{keep};
 ghost use Rattle.snapshot.specs.Views.{tablesOf, rowsetsOf, vectorsOf, pairIds};
 ghost use Rattle.replay.specs.Replay.{finished, ReplayIs};
+ghost use Rattle.version_state.specs.Sound.{hasRowset};
 ghost use Rattle.replay.specs.Working.{slices, tablesIn, pairsIn, vectorsIn, stateIn, wide32, TablesGood, PairsGood, VectorsGood, Good, Small};
 
 // Internal, as is all here: everything is added at epoch 1.
@@ -89,7 +89,7 @@ fn pair_of(key: u64) -> Pair
 // Without those whose rowset is not live.
 fn build_vectors(pairs: &[u64], vectors: &[u64], count: usize, rowsets: Rowsets) -> Vectors
     requires { ⌜ VectorsGood (now pairs) (now vectors) count × (rowsets .count ≤ 856) ⌝ }
-    ensures { λ r. ⌜ (r .count ≤ count) × (vectorsOf r ≡ keep (λ v. has byIds (take 2 (byIds v)) (rowsetsOf rowsets)) (vectorsIn (now (pairs .entry)) (now (vectors .entry)) count)) ⌝ }
+    ensures { λ r. ⌜ (r .count ≤ count) × (vectorsOf r ≡ keep (hasRowset (rowsetsOf rowsets)) (vectorsIn (now (pairs .entry)) (now (vectors .entry)) count)) ⌝ }
 {
     let mut s = Vectors::none();
     let epochs = epochs();

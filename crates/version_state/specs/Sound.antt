@@ -6,17 +6,24 @@ use lib.Dec.{leb, ltb}
 use lib.ListN.{take}
 use Rattle.lists.specs.Keyed.{keep, allOf, has, ascending}
 use Rattle.text.specs.Name.{isName}
-use Rattle.snapshot.specs.Entries.{byIds, shownBy, within}
-use Rattle.snapshot.specs.Tables.{byTable}
+use Rattle.snapshot.specs.Entries.{Entry, byIds, shownBy, within}
+use Rattle.snapshot.specs.Tables.{TableEntry, byTable}
 use Rattle.version_state.specs.Limits.{longestManifest}
 use Rattle.version_state.specs.State.{State, stateOf, countsFit}
 use Rattle.version_state.specs.declared.VersionManagerInner.{VersionManagerInner}
 
+-- the table of a pair is among ts, the rowset of a vector among ps
+abbrev pub hasTable : List TableEntry → Entry → Bool
+hasTable ts p = has byTable (take 1 (byIds p)) ts
+
+abbrev pub hasRowset : List Entry → Entry → Bool
+hasRowset ps v = has byIds (take 2 (byIds v)) ps
+
 -- 17: in what epoch e shows, a vector is without its rowset or a rowset without its table
 abbrev pub leftBehind : ℕ → State → Bool
 leftBehind e s =
-    not (allOf (λ v. has byIds (take 2 (byIds v)) (keep (shownBy e) (s .pairs))) (keep (shownBy e) (s .vectors))
-    && allOf (λ p. has byTable (take 1 (byIds p)) (s .tables)) (keep (shownBy e) (s .pairs)))
+    not (allOf (hasRowset (keep (shownBy e) (s .pairs))) (keep (shownBy e) (s .vectors))
+    && allOf (hasTable (s .tables)) (keep (shownBy e) (s .pairs)))
 
 -- beyond the limits: a list too long, a manifest too long, a name that is none
 abbrev pub beyondLimits : VersionManagerInner → Bool

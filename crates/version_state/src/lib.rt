@@ -10,14 +10,12 @@ ghost use mathlib.Core.Path.{_≡_};
 ghost use mathlib.Core.Bool.{true, false};
 ghost use mathlib.Core.List.{[], _∷_};
 ghost use Prim.Native.Nat.{_≤_};
-ghost use lib.ListN.{take};
-ghost use Rattle.lists.specs.Keyed.{allOf, has, ascending};
+ghost use Rattle.lists.specs.Keyed.{allOf, ascending};
 ghost use Rattle.text.specs.Name.{isName};
 ghost use Rattle.snapshot.specs.Entries.{byIds};
-ghost use Rattle.snapshot.specs.Tables.{byTable};
 ghost use Rattle.snapshot.specs.Views.{tablesOf, rowsetsOf, vectorsOf};
 ghost use Rattle.version_state.specs.State.{start, stateOf, countsFit, Fit, Hands};
-ghost use Rattle.version_state.specs.Sound.{leftBehind, beyondLimits, outOfOrder, aboveOwn, badManager};
+ghost use Rattle.version_state.specs.Sound.{hasTable, hasRowset, leftBehind, beyondLimits, outOfOrder, aboveOwn, badManager};
 
 // The next id of each kind.
 pub struct NextIds {
@@ -39,7 +37,7 @@ pub struct VersionManagerInner {
 // Internal: both lists are in order. Each vector has its rowset; the two are walked side by side.
 pub fn have_rowsets(vectors: Vectors, rowsets: Rowsets) -> bool
     requires { ⌜ (vectors .count ≤ 856) × (rowsets .count ≤ 856) × (ascending byIds (vectorsOf vectors) ≡ true) × (ascending byIds (rowsetsOf rowsets) ≡ true) ⌝ }
-    ensures { λ r. ⌜ r ≡ allOf (λ v. has byIds (take 2 (byIds v)) (rowsetsOf rowsets)) (vectorsOf vectors) ⌝ }
+    ensures { λ r. ⌜ r ≡ allOf (hasRowset (rowsetsOf rowsets)) (vectorsOf vectors) ⌝ }
 {
     let count = vectors.count;
     let mut j: usize = 0;
@@ -59,7 +57,7 @@ pub fn have_rowsets(vectors: Vectors, rowsets: Rowsets) -> bool
 // Internal: each rowset has its table.
 pub fn have_tables(rowsets: Rowsets, tables: Tables) -> bool
     requires { ⌜ (rowsets .count ≤ 856) × (tables .count ≤ 16) ⌝ }
-    ensures { λ r. ⌜ r ≡ allOf (λ p. has byTable (take 1 (byIds p)) (tablesOf tables)) (rowsetsOf rowsets) ⌝ }
+    ensures { λ r. ⌜ r ≡ allOf (hasTable (tablesOf tables)) (rowsetsOf rowsets) ⌝ }
 {
     let count = rowsets.count;
     let mut i = 0;
