@@ -23,7 +23,7 @@ use Rattle.manifest.specs.Operations.{Operation, createTable, dropTable, addRow
 use Rattle.snapshot.specs.Entries.{Entry, addedAt, deletedAt, byIds, belowNext, within, shownBy}
 use Rattle.snapshot.specs.Tables.{TableEntry, created, byTable}
 use Rattle.version_state.specs.declared.VersionManagerInner.{VersionManagerInner}
-use Rattle.version_state.specs.Limits.{longestManifest}
+use Rattle.ids.specs.Limits.{longestManifest}
 use Rattle.version_state.specs.State.{State, stateOf, withEpoch, Hands}
 use Rattle.version_state.specs.Sound.{leftBehind, badManager}
 use Rattle.version_state.proofs.Within.{Within, within-of, of-within, within-up}

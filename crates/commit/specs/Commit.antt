@@ -14,11 +14,11 @@ use Rattle.ids.specs.Answers.{Told, told}
 use Rattle.manifest.specs.declared.operation.Batch.{Batch}
 use Rattle.manifest.specs.Operations.{Operation, batchOf}
 use Rattle.version_state.specs.declared.VersionManagerInner.{VersionManagerInner}
-use Rattle.version_state.specs.Limits.{lastEpoch, longestManifest}
+use Rattle.ids.specs.Limits.{lastEpoch, longestManifest, mostOperations}
 use Rattle.version_state.specs.State.{State, stateOf, withEpoch, Hands}
 use Rattle.version_state.specs.Sound.{badManager, leftBehind}
 use Rattle.operations.specs.Steps.{Outcome, left, stopped, onward, andThen, stepsOf}
-use Rattle.frames.specs.Frames.{mostOperations, frameOf}
+use Rattle.frames.specs.Frames.{frameOf}
 use Rattle.commit.specs.declared.Committed.{Committed}
 use Rattle.commit.specs.declared.CommitAnswer.{CommitAnswer}
 use Rattle.commit.specs.declared.CommitAnswer.the-variants as answer

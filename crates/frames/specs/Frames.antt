@@ -1,13 +1,9 @@
--- A frame of a manifest: how many operations it holds, and how it is written. Assumes nothing.
+-- A frame of a manifest: how it is written. Assumes nothing.
 use mathlib.Core.List.{List, [], _∷_, _++_, map}
 use Prim.Native.Nat.{ℕ}
 use Rattle.manifest.specs.Operations.{Operation, begin, end}
 use Rattle.manifest.specs.Lines.{textOf, lineText}
 use Rattle.manifest.specs.Split.{joined}
-
--- the operations of a commit, and of a frame
-abbrev pub mostOperations : ℕ
-mostOperations = 600
 
 -- `B`, the operations' lines and `E`, each with its newline
 abbrev pub frameOf : List Operation → List ℕ

@@ -1,4 +1,5 @@
 pub mod Ids
+pub mod Limits
 pub mod Names
 pub mod Refusals
 pub mod Verdicts

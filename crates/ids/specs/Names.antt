@@ -10,6 +10,9 @@ use Rattle.ids.specs.declared.name.Name.{Name}
 abbrev pub longestName : ℕ
 longestName = 32
 
--- a length that the array does not have stands for no bytes at all
+-- the first n of the bytes; a length that no name has stands for no bytes at all
+abbrev pub nameIn : ℕ → List ℕ → List ℕ
+nameIn n b = cond (leb n longestName) (take n b) []
+
 unfoldable pub nameOf : Name → List ℕ
-nameOf n = cond (leb (n .len) longestName) (take (n .len) (n .bytes)) []
+nameOf n = nameIn (n .len) (n .bytes)

@@ -3,7 +3,7 @@ use mathlib.Core.Path.{_≡_, sym, ap, _∙_}
 use mathlib.Core.List.{List}
 use Prim.Native.Nat.{ℕ, _≤_}
 use lib.ListN.{length}
-use Rattle.version_state.specs.Limits.{longestManifest}
+use Rattle.ids.specs.Limits.{longestManifest}
 use Rattle.version_state.specs.State.{State}
 use Rattle.recovery.specs.Sets as held
 use Rattle.recovery.proofs.Appending.{holds-replayed}

@@ -18,7 +18,7 @@ use Rattle.ids.specs.declared.refusal.Refusal.the-variants.{OutputTooShort}
 use Rattle.snapshot.specs.Entries.{Entry, byIds, byDeletion, waits}
 use Rattle.version_state.specs.State.{State, start, stateOf, withEpoch, Hands, pairsAt, vectorsAt}
 use Rattle.version_state.specs.Sound.{badManager}
-use Rattle.version_state.specs.Limits.{longestManifest}
+use Rattle.ids.specs.Limits.{longestManifest}
 use Rattle.pins.specs.declared.PinBook.{PinBook}
 use Rattle.pins.specs.Book.{PinEntry, pinsOf, badBook, bound, Keeps}
 use Rattle.version_manager.specs.declared.VersionManager.{VersionManager}

@@ -11,9 +11,9 @@ use Rattle.lists.proofs.Keyed.{keep-all}
 use Rattle.manifest.specs.Operations.{Operation, Line, wellFormed}
 use Rattle.manifest.specs.Split.{lines}
 use Rattle.manifest.proofs.Split.{rest-none}
-use Rattle.frames.specs.Frames.{mostOperations, frameOf}
+use Rattle.ids.specs.Limits.{mostOperations, mostTables, mostHeld}
+use Rattle.frames.specs.Frames.{frameOf}
 use Rattle.snapshot.specs.Entries.{Entry}
-use Rattle.version_state.specs.Limits.{mostTables, mostHeld}
 use Rattle.version_state.specs.State.{State, start, withPairs, withVectors, withEpoch}
 use Rattle.rewrite.specs.Rewritten.{createOf, addOf, addVectorOf, rewriteOf, rewrittenOf}
 use Rattle.replay.specs.Replay.{given, none, carried, reopened, atStart, stands, settled, overLimit, linesRead, replayOf}

@@ -12,9 +12,9 @@ use Rattle.manifest.specs.Operations.{Operation, Line, wellFormed, operationOf,
 use Rattle.manifest.specs.Lines.{lineOf}
 use Rattle.manifest.specs.Split.{restOn, lines, linesOn}
 use Rattle.manifest.proofs.Split.{lines-append}
-use Rattle.frames.specs.Frames.{mostOperations, frameOf}
+use Rattle.ids.specs.Limits.{mostOperations, longestManifest}
+use Rattle.frames.specs.Frames.{frameOf}
 use Rattle.version_state.specs.declared.VersionManagerInner.{VersionManagerInner}
-use Rattle.version_state.specs.Limits.{longestManifest}
 use Rattle.version_state.specs.State.{State, start, withEpoch, stateOf}
 use Rattle.version_state.proofs.Facts.{sound-of}
 use Rattle.operations.specs.Steps.{left}

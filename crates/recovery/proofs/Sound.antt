@@ -18,7 +18,7 @@ use Rattle.manifest.specs.Operations.{Operation, nextIds, wellFormed}
 use Rattle.snapshot.specs.Entries.{Entry, byIds, goneAt, shownAt, shownBy, belowNext, within}
 use Rattle.snapshot.specs.Tables.{byTable}
 use Rattle.version_state.specs.declared.VersionManagerInner.{VersionManagerInner}
-use Rattle.version_state.specs.Limits.{longestManifest}
+use Rattle.ids.specs.Limits.{longestManifest}
 use Rattle.version_state.specs.State.{State, withEpoch, Hands}
 use Rattle.version_state.specs.Sound.{leftBehind, badManager}
 use Rattle.version_state.proofs.Within.{Within, of-within}

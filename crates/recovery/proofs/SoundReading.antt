@@ -16,9 +16,8 @@ use Rattle.manifest.specs.Operations.{Operation, Line, begin, end, operation, b
 use Rattle.manifest.specs.Lines.{lineOf}
 use Rattle.manifest.specs.Split.{lines}
 use Rattle.manifest.proofs.Lines.{text-parse}
-use Rattle.frames.specs.Frames.{mostOperations}
+use Rattle.ids.specs.Limits.{mostOperations, mostTables, mostHeld, longestManifest}
 use Rattle.snapshot.specs.Entries.{Entry, byIds}
-use Rattle.version_state.specs.Limits.{mostTables, mostHeld, longestManifest}
 use Rattle.version_state.specs.State.{State, start, withPairs, withVectors, withEpoch}
 use Rattle.operations.specs.Effect.{applied}
 use Rattle.replay.specs.Replay.{Result, refused, given, andThen, Frame, none, opened, Carried, carried, reopened, atStart, conflicts, framed, stands, settled, overLimit, limited, ended, noted, lineRead, linesRead, tableless, withoutOrphans, finished, linesReplayed, replayOf}

@@ -9,7 +9,7 @@ use Rattle.manifest.specs.Operations.{Operation, batchOf}
 use Rattle.manifest.specs.Split.{restOn, lines}
 use Rattle.frames.specs.Frames.{frameOf}
 use Rattle.version_state.specs.declared.VersionManagerInner.{VersionManagerInner}
-use Rattle.version_state.specs.Limits.{longestManifest}
+use Rattle.ids.specs.Limits.{longestManifest}
 use Rattle.version_state.specs.State.{State, start, stateOf, Hands}
 use Rattle.operations.specs.Effect.{applied}
 use Rattle.operations.specs.Steps.{left}

@@ -7,9 +7,9 @@ use lib.ListN.{length, take}
 use Rattle.lists.specs.Keyed.{allOf}
 use Rattle.manifest.specs.declared.operation.Batch.{Batch}
 use Rattle.manifest.specs.Operations.{Operation, wellFormed, batchOf}
-use Rattle.frames.specs.Frames.{mostOperations, frameOf}
+use Rattle.ids.specs.Limits.{mostOperations, longestManifest}
+use Rattle.frames.specs.Frames.{frameOf}
 use Rattle.version_state.specs.declared.VersionManagerInner.{VersionManagerInner}
-use Rattle.version_state.specs.Limits.{longestManifest}
 use Rattle.version_state.specs.State.{State, start, withEpoch, stateOf, Hands}
 use Rattle.version_state.specs.Sound.{badManager}
 use Rattle.operations.specs.Steps.{left}

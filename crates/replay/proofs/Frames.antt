@@ -35,7 +35,7 @@ use Rattle.replay.specs.declared.Applied.{Applied}
 use Rattle.replay.specs.declared.Begun.{Begun}
 use Rattle.replay.specs.declared.Turn.{Turn}
 use Rattle.replay.specs.declared.Replayed.{Replayed}
-use Rattle.frames.specs.Frames.{mostOperations}
+use Rattle.ids.specs.Limits.{mostOperations}
 use Rattle.replay.specs.Replay.{Result, refused, given, andThen, Frame, none, opened, Carried, carried, atStart, framed, stands, settled, overLimit, limited, ended, noted, lineRead, linesRead, finished, ReplayIs}
 use Rattle.replay.specs.Working.{firstLine, lineHere, pairRow, vectorRow, Slices, slices, tablesIn, pairsIn, vectorsIn, stateIn, TablesGood, PairsGood, VectorsGood, Good, Grown, oneOf, AppliedIs, saidFrom, leading, framedLightly, Held, FrameIs, Small, EndIs, BegunOk, OpenFrame, BegunIs, Turned, TurnIs, OperationSays, Ready, RunIs}
 use Rattle.replay.proofs.Maps.{lex-split, ascending-mapped}

@@ -12,10 +12,9 @@ use Rattle.ids.specs.declared.refusal.Verdict.the-variants.{Accepted, Refused}
 use Rattle.manifest.specs.Operations.{Operation, createTable, dropTable, addRowset, deleteRowset, addVector, deleteVector, nextIds, Line, begin, end, operation, bad}
 use Rattle.manifest.specs.Lines.{lineOf}
 use Rattle.manifest.specs.Split.{lines}
-use Rattle.frames.specs.Frames.{mostOperations}
+use Rattle.ids.specs.Limits.{mostOperations, mostTables, mostHeld, longestManifest}
 use Rattle.snapshot.specs.Entries.{Entry, waits}
 use Rattle.snapshot.specs.Tables.{nameTaken}
-use Rattle.version_state.specs.Limits.{mostTables, mostHeld, longestManifest}
 use Rattle.version_state.specs.State.{State, start, withPairs, withVectors, withEpoch, Hands}
 use Rattle.version_state.specs.Sound.{hasTable, hasRowset}
 use Rattle.operations.specs.Effect.{applied}

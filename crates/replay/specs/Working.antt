@@ -22,7 +22,7 @@ use Rattle.replay.specs.declared.Applied.{Applied}
 use Rattle.replay.specs.declared.Here.{Here}
 use Rattle.replay.specs.declared.Begun.{Begun}
 use Rattle.replay.specs.declared.Turn.{Turn}
-use Rattle.frames.specs.Frames.{mostOperations}
+use Rattle.ids.specs.Limits.{mostOperations}
 use Rattle.replay.specs.Replay.{Result, refused, given, andThen, reopened, conflicts, Frame, none, opened, Carried}
 
 -- the line that starts at a place

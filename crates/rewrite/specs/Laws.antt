@@ -5,7 +5,7 @@ use Prim.Native.Nat.{_≤_}
 use lib.ListN.{length}
 use Rattle.lists.specs.Keyed.{allOf}
 use Rattle.manifest.specs.Operations.{wellFormed}
-use Rattle.version_state.specs.Limits.{mostTables, mostHeld}
+use Rattle.ids.specs.Limits.{mostTables, mostHeld}
 use Rattle.version_state.specs.State.{State}
 use Rattle.rewrite.specs.Rewritten.{rewriteOf, rewrittenOf, longestRewritten}
 

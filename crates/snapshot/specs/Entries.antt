@@ -5,8 +5,7 @@ use Prim.Native.Nat.{ℕ}
 use lib.Dec.{leb, ltb, eqb}
 use lib.ListN.{getD}
 use Rattle.lists.specs.Keyed.{keep}
-use Rattle.snapshot.specs.declared.Pick.{Pick}
-use Rattle.snapshot.specs.declared.Pick.the-variants.{Shown, Gone, Left}
+use Rattle.columns.specs.Rows.{rows, column, across}
 
 -- a held pair or vector: its ids in field order (table, rowset; or table, rowset, vector), and its epochs; deleted is 0 while it is not
 pub record Entry : Type 0 where
@@ -55,15 +54,6 @@ byIds x = x .ids
 abbrev pub byDeletion : Entry → List ℕ
 byDeletion x = x .deleted ∷ x .ids
 
--- which entries a pass picks: those that an epoch shows, those gone by it, or those not gone by it
-abbrev pub picksAt : Pick → ℕ → ℕ → ℕ → Bool
-picksAt Shown e a d = shownAt e a d
-picksAt Gone e a d = goneAt e d
-picksAt Left e a d = not (goneAt e d)
-
-abbrev pub picks : Pick → ℕ → Entry → Bool
-picks p e x = picksAt p e (x .added) (x .deleted)
-
 -- each id is below the next one of its kind
 abbrev pub belowNext : List ℕ → List ℕ → Bool
 belowNext [] ns = true
@@ -77,3 +67,11 @@ within e ns x = leb (x .added) e && (leb (x .deleted) e && belowNext (x .ids) ns
 -- one field of the ids of each entry
 abbrev pub field : ℕ → List Entry → List ℕ
 field n l = map (λ (x : Entry). getD (x .ids) n 0) l
+
+-- the entry at i of columns: those of its ids, in field order, and those of its epochs
+abbrev pub entryAt : List (List ℕ) → List ℕ → List ℕ → ℕ → Entry
+entryAt ks a d i = record { ids = across ks i; added = column a i; deleted = column d i }
+
+-- the first n entries of columns
+abbrev pub entries : List (List ℕ) → List ℕ → List ℕ → ℕ → List Entry
+entries ks a d n = rows (entryAt ks a d) n

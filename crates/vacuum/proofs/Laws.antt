@@ -15,7 +15,7 @@ use Rattle.text.specs.Name.{isName}
 use Rattle.snapshot.specs.Entries.{Entry, goneAt, shownAt, goneBy, shownBy, shown, byIds, byDeletion, within}
 use Rattle.snapshot.specs.Tables.{TableEntry}
 use Rattle.version_state.specs.declared.VersionManagerInner.{VersionManagerInner}
-use Rattle.version_state.specs.Limits.{longestManifest}
+use Rattle.ids.specs.Limits.{longestManifest}
 use Rattle.version_state.specs.State.{State, stateOf, countsFit, Hands, pairsAt, vectorsAt, HandsBack}
 use Rattle.version_state.specs.Sound.{leftBehind, beyondLimits, outOfOrder, aboveOwn, badManager}
 use Rattle.version_state.proofs.Facts.{fit-counts, in-order, order-in}

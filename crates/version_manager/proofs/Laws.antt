@@ -14,7 +14,7 @@ use Rattle.ids.specs.Ids.{largest32, largest64}
 use Rattle.text.specs.Name.{isName}
 use Rattle.snapshot.specs.Entries.{Entry, within}
 use Rattle.version_state.specs.declared.VersionManagerInner.{VersionManagerInner}
-use Rattle.version_state.specs.Limits.{longestManifest}
+use Rattle.ids.specs.Limits.{longestManifest}
 use Rattle.version_state.specs.State.{State, start, stateOf, withNext, Hands, HandsBack}
 use Rattle.version_state.specs.Sound.{leftBehind, badManager}
 use Rattle.version_state.proofs.Within.{Rises, within-of, of-within, within-up}

@@ -13,17 +13,17 @@ use Rattle.snapshot.specs.Entries.{byIds, within}
 use Rattle.snapshot.specs.Tables.{byTable}
 use Rattle.version_state.specs.declared.VersionManagerInner.{VersionManagerInner}
 use Rattle.version_state.specs.State.{State, stateOf, countsFit, Fit}
-use Rattle.version_state.specs.Limits.{longestManifest}
-use Rattle.version_state.specs.Sound.{leftBehind, beyondLimits, outOfOrder, aboveOwn, badManager}
+use Rattle.ids.specs.Limits.{mostTables, mostHeld, longestManifest}
+use Rattle.version_state.specs.Sound.{leftBehind, beyondLimits, outOfOrder, aboveOwn, badInner}
 
 pub counts-fit : (m : VersionManagerInner) → countsFit m ≡ true → Fit m
 counts-fit m h =
     let a = both _ _ h in
-    let b = both (leb (m .rowsets .count) 256) (leb (m .vectors .count) 256) (a .1) in
-    record { tables = leb-true (m .tables .count) 16 (a .0); rowsets = leb-true (m .rowsets .count) 256 (b .0); vectors = leb-true (m .vectors .count) 256 (b .1) }
+    let b = both (leb (m .rowsets .count) mostHeld) (leb (m .vectors .count) mostHeld) (a .1) in
+    record { tables = leb-true (m .tables .count) mostTables (a .0); rowsets = leb-true (m .rowsets .count) mostHeld (b .0); vectors = leb-true (m .vectors .count) mostHeld (b .1) }
 
 pub fit-counts : (m : VersionManagerInner) → Fit m → countsFit m ≡ true
-fit-counts m f = rw (le-leb (m .tables .count) 16 (f .tables), le-leb (m .rowsets .count) 256 (f .rowsets), le-leb (m .vectors .count) 256 (f .vectors))
+fit-counts m f = rw (le-leb (m .tables .count) mostTables (f .tables), le-leb (m .rowsets .count) mostHeld (f .rowsets), le-leb (m .vectors .count) mostHeld (f .vectors))
 
 -- lists in order
 pub record Ordered (s : State) : Type 0 where
@@ -51,7 +51,7 @@ pub record Sound (m : VersionManagerInner) : Type 0 where
   pub vectors : allOf (within (stateOf m .epoch) (stateOf m .nextTable ∷ stateOf m .nextRowset ∷ stateOf m .nextVector ∷ [])) (stateOf m .vectors) ≡ true
   pub whole : leftBehind (stateOf m .epoch) (stateOf m) ≡ false
 
-pub sound-of : (m : VersionManagerInner) → badManager m ≡ false → Sound m
+pub sound-of : (m : VersionManagerInner) → badInner m ≡ false → Sound m
 sound-of m h =
     let a = neither (beyondLimits m) (outOfOrder (stateOf m) || (aboveOwn (stateOf m) || leftBehind (stateOf m .epoch) (stateOf m))) h in
     let b = neither (outOfOrder (stateOf m)) (aboveOwn (stateOf m) || leftBehind (stateOf m .epoch) (stateOf m)) (a .1) in
@@ -71,6 +71,6 @@ sound-of m h =
       whole = c .1;
     }
 
-pub of-sound : (m : VersionManagerInner) → Sound m → badManager m ≡ false
+pub of-sound : (m : VersionManagerInner) → Sound m → badInner m ≡ false
 of-sound m s =
     rw (fit-counts m (s .fits), le-ltb longestManifest (m .manifest) (s .manifest), s .names, order-in (stateOf m) (s .ordered), s .below, s .pairs, s .vectors) (s .whole)

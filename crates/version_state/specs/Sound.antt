@@ -8,7 +8,7 @@ use Rattle.lists.specs.Keyed.{keep, allOf, has, ascending}
 use Rattle.text.specs.Name.{isName}
 use Rattle.snapshot.specs.Entries.{Entry, byIds, shownBy, within}
 use Rattle.snapshot.specs.Tables.{TableEntry, byTable}
-use Rattle.version_state.specs.Limits.{longestManifest}
+use Rattle.ids.specs.Limits.{longestManifest}
 use Rattle.version_state.specs.State.{State, stateOf, countsFit}
 use Rattle.version_state.specs.declared.VersionManagerInner.{VersionManagerInner}
 
@@ -42,5 +42,5 @@ aboveOwn s =
     && allOf (within (s .epoch) (s .nextTable ∷ s .nextRowset ∷ s .nextVector ∷ [])) (s .vectors)))
 
 -- 29
-abbrev pub badManager : VersionManagerInner → Bool
-badManager m = beyondLimits m || (outOfOrder (stateOf m) || (aboveOwn (stateOf m) || leftBehind (stateOf m .epoch) (stateOf m)))
+abbrev pub badInner : VersionManagerInner → Bool
+badInner m = beyondLimits m || (outOfOrder (stateOf m) || (aboveOwn (stateOf m) || leftBehind (stateOf m .epoch) (stateOf m)))

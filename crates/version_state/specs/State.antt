@@ -9,7 +9,7 @@ use Rattle.ids.specs.declared.refusal.Verdict.the-variants.{Accepted, Refused}
 use Rattle.snapshot.specs.Entries.{Entry, shown}
 use Rattle.snapshot.specs.Tables.{TableEntry}
 use Rattle.snapshot.specs.Views.{tablesOf, rowsetsOf, vectorsOf}
-use Rattle.version_state.specs.Limits.{mostTables, mostHeld}
+use Rattle.ids.specs.Limits.{mostTables, mostHeld}
 use Rattle.version_state.specs.declared.VersionManagerInner.{VersionManagerInner}
 
 pub record State : Type 0 where

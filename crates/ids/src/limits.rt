@@ -1,0 +1,18 @@
+// Document 01's limits, for code and for the lengths of arrays.
+pub const MOST_TABLES: usize = 16;
+
+// Pairs held, and vectors held.
+pub const MOST_HELD: usize = 256;
+
+pub const LONGEST_NAME: usize = 32;
+
+// The names of all live tables, one after another.
+pub const NAME_BYTES: usize = MOST_TABLES * LONGEST_NAME;
+
+// The operations of a commit, and of a frame.
+pub const MOST_OPERATIONS: usize = 600;
+
+pub const LAST_EPOCH: u32 = 4294967295;
+
+// Bytes of a manifest.
+pub const LONGEST_MANIFEST: usize = 65536;
