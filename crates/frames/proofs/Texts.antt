@@ -12,16 +12,12 @@ use Rattle.manifest.specs.Operations.{Operation, operationOf}
 use Rattle.manifest.specs.declared.operation.Change.{Change}
 use Rattle.manifest.specs.Lines.{textOf}
 use Rattle.manifest.specs.Split.{joined}
-use Rattle.frames.specs.Frames.{frameOf}
+use Rattle.frames.specs.Frames.{textsOf, frameOf}
 
 -- lines, and lines after them
 pub joined-append : (ls ms : List (List ℕ)) → joined (ls ++ ms) ≡ joined ls ++ joined ms
 joined-append [] ms = refl
 joined-append (l ∷ ls) ms = rw (joined-append ls ms) (sym (append-assoc l (10 ∷ joined ls) (joined ms)))
-
--- the operations' lines
-abbrev pub textsOf : List Operation → List ℕ
-textsOf os = joined (map textOf os)
 
 pub frame-is : (os : List Operation) → frameOf os ≡ (66 ∷ 10 ∷ textsOf os) ++ (69 ∷ 10 ∷ [])
 frame-is os = ap (λ (l : List ℕ). 66 ∷ 10 ∷ l) (joined-append (map textOf os) ((69 ∷ []) ∷ []))

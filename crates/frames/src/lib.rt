@@ -26,7 +26,7 @@ pub fn frame_length(batch: Batch) -> usize
     n
 }
 
-fn put_line(out: &mut [u8], at: usize, change: Change) -> usize
+pub fn put_line(out: &mut [u8], at: usize, change: Change) -> usize
     requires { ⌜ at + length (textOf (operationOf change) ++ (10 ∷ [])) ≤ length (now out) ⌝ }
     ensures { λ r. ⌜ Wrote (now (out .entry)) at (textOf (operationOf change) ++ (10 ∷ [])) (now (out .exit)) r ⌝ }
 {
@@ -34,7 +34,7 @@ fn put_line(out: &mut [u8], at: usize, change: Change) -> usize
     text::put_byte(out, i, 10)
 }
 
-fn put_letter(out: &mut [u8], at: usize, letter: u8) -> usize
+pub fn put_letter(out: &mut [u8], at: usize, letter: u8) -> usize
     requires { ⌜ at + 2 ≤ length (now out) ⌝ }
     ensures { λ r. ⌜ Wrote (now (out .entry)) at (letter ∷ 10 ∷ []) (now (out .exit)) r ⌝ }
 {

@@ -1,146 +1,157 @@
-// The end of a replay: what the slices hold becomes a manager's lists, one pass each.
+// The end of a replay: what the slices hold becomes a manager's columns, one pass each.
 use crate::Replayed;
 use crate::Sets;
-use ids::RowsetNo;
 use ids::TableNo;
-use ids::VectorNo;
+use ids::limits::MOST_HELD;
+use ids::limits::MOST_TABLES;
+use ids::limits::NAME_BYTES;
 use ids::refusal::Refusal;
 use ids::refusal::Verdict;
-use snapshot::Epochs;
-use snapshot::Pair;
-use snapshot::rowsets::Rowset;
 use snapshot::rowsets::Rowsets;
-use snapshot::tables::Table;
 use snapshot::tables::Tables;
-use snapshot::vectors::Vector;
 use snapshot::vectors::Vectors;
 use version_state::VersionManagerInner;
 ghost use mathlib.Core.Path.{_≡_};
-ghost use mathlib.Core.List.{[], _∷_};
-ghost use Prim.Native.Nat.{_≤_, _/_, _%_};
+ghost use mathlib.Core.Bool.{true};
+ghost use mathlib.Core.List.{List, [], _∷_};
+ghost use Prim.Native.Nat.{ℕ, _≤_, _<_, _/_, _%_};
 ghost use lib.ListN.{length};
-ghost use Rattle.lists.specs.Keyed.{keep};
-ghost use Rattle.snapshot.specs.Views.{tablesOf, rowsetsOf, vectorsOf, pairIds};
+ghost use Rattle.lists.specs.Keyed.{keep, allOf, has, ascending};
+ghost use Rattle.ids.specs.Limits.{mostTables, mostHeld};
+ghost use Rattle.ids.specs.Ids.{largest32};
+ghost use Rattle.columns.specs.Rows.{column, marks, across, plain, rows};
+ghost use Rattle.snapshot.specs.Entries.{byIds, entries};
+ghost use Rattle.snapshot.specs.Views.{tablesOf, rowsetsOf, vectorsOf};
 ghost use Rattle.replay.specs.Replay.{finished, ReplayIs};
 ghost use Rattle.version_state.specs.Sound.{hasRowset};
 ghost use Rattle.replay.specs.Working.{slices, tablesIn, pairsIn, vectorsIn, stateIn, wide32, TablesGood, PairsGood, VectorsGood, Good, Small};
 
-// Internal, as is all here: everything is added at epoch 1.
-fn epochs() -> Epochs
-    ensures { λ r. ⌜ (r .added ≡ 1) × (r .deleted ≡ 0) ⌝ }
+// Internal, as is all here: numbers that fit, in a column of their own.
+fn narrowed(src: &[u64], count: usize) -> [u32; MOST_HELD]
+    requires { ⌜ (count ≤ mostHeld) × (count ≤ length (now src)) × ((i : ℕ) → i < count → column (now src) i ≤ largest32) ⌝ }
+    ensures { λ r. ⌜ ((i : ℕ) → i < count → column r i ≡ column (now (src .entry)) i) ⌝ }
 {
-    Epochs {
-        added: 1,
-        deleted: 0,
-    }
-}
-
-fn build_tables(src: &[u8], ids: &[u64], places: &[u64], count: usize) -> Tables
-    requires { ⌜ TablesGood (now ids) (now places) count × (count ≤ 16) ⌝ }
-    ensures { λ r. ⌜ (r .count ≡ count) × (tablesOf r ≡ tablesIn (now (src .entry)) (now (ids .entry)) (now (places .entry)) count) ⌝ }
-{
-    let mut s = Tables::none();
+    let mut out = [0u32; MOST_HELD];
     let mut i = 0;
     while i < count {
-        let at = places[i] as usize;
-        let said = crate::said_here(src, at);
-        let name = said.name;
-        let x = Table {
-            id: TableNo(ids[i] as u32),
-            shape: said.shape,
-            name,
-            locked: false,
-        };
-        s = s.with_last(x);
+        out[i] = src[i] as u32;
         i += 1;
     }
-    s
+    out
+}
+
+// The tables of keys.
+fn highs(keys: &[u64], count: usize) -> [u32; MOST_HELD]
+    requires { ⌜ (count ≤ mostHeld) × (count ≤ length (now keys)) ⌝ }
+    ensures { λ r. ⌜ ((i : ℕ) → i < count → column r i ≡ column (now (keys .entry)) i / wide32) ⌝ }
+{
+    let mut out = [0u32; MOST_HELD];
+    let mut i = 0;
+    while i < count {
+        out[i] = (keys[i] / 4294967296) as u32;
+        i += 1;
+    }
+    out
+}
+
+// The rowsets of keys.
+fn lows(keys: &[u64], count: usize) -> [u32; MOST_HELD]
+    requires { ⌜ (count ≤ mostHeld) × (count ≤ length (now keys)) ⌝ }
+    ensures { λ r. ⌜ ((i : ℕ) → i < count → column r i ≡ column (now (keys .entry)) i % wide32) ⌝ }
+{
+    let mut out = [0u32; MOST_HELD];
+    let mut i = 0;
+    while i < count {
+        out[i] = (keys[i] % 4294967296) as u32;
+        i += 1;
+    }
+    out
+}
+
+fn copied(src: &[u64], count: usize) -> [u64; MOST_HELD]
+    requires { ⌜ (count ≤ mostHeld) × (count ≤ length (now src)) ⌝ }
+    ensures { λ r. ⌜ ((i : ℕ) → i < count → column r i ≡ column (now (src .entry)) i) ⌝ }
+{
+    let mut out = [0u64; MOST_HELD];
+    let mut i = 0;
+    while i < count {
+        out[i] = src[i];
+        i += 1;
+    }
+    out
+}
+
+// One number at every place.
+fn filled(x: u32) -> [u32; MOST_HELD]
+    ensures { λ r. ⌜ ((i : ℕ) → i < mostHeld → column r i ≡ x) ⌝ }
+{
+    [x; MOST_HELD]
 }
 
 fn build_rowsets(tables: &[u64], rowsets: &[u64], count: usize) -> Rowsets
-    requires { ⌜ PairsGood (now tables) (now rowsets) count ⌝ }
+    requires { ⌜ PairsGood (now tables) (now rowsets) count × (count ≤ mostHeld) ⌝ }
     ensures { λ r. ⌜ (r .count ≡ count) × (rowsetsOf r ≡ pairsIn (now (tables .entry)) (now (rowsets .entry)) count) ⌝ }
 {
-    let mut s = Rowsets::none();
-    let epochs = epochs();
-    let mut i = 0;
-    while i < count {
-        let pair = Pair {
-            table: TableNo(tables[i] as u32),
-            rowset: RowsetNo(rowsets[i] as u32),
-        };
-        s.items[i] = Rowset { pair, epochs };
-        i += 1;
+    Rowsets {
+        tables: narrowed(tables, count),
+        rowsets: narrowed(rowsets, count),
+        added: filled(1),
+        deleted: filled(0),
+        count,
     }
-    s.count = count;
-    s
 }
 
-// Table and rowset out of one number.
-fn pair_of(key: u64) -> Pair
-    ensures { λ r. ⌜ pairIds r ≡ key / wide32 ∷ key % wide32 ∷ [] ⌝ }
+// Marks the vectors whose rowset is live.
+fn live<'a>(
+    tables: &'a [u32; MOST_HELD],
+    rowsets: &'a [u32; MOST_HELD],
+    held: usize,
+    t: &'a [u32; MOST_HELD],
+    r: &'a [u32; MOST_HELD],
+    count: usize,
+) -> [bool; MOST_HELD]
+    requires { ⌜ (held ≤ mostHeld) × (count ≤ mostHeld) × (ascending plain (rows (across (now tables ∷ now rowsets ∷ [])) held) ≡ true) ⌝ }
+    ensures { λ m. ⌜ ((a d : List ℕ) (i : ℕ) → i < count → marks m i ≡ has byIds (column (now (t .entry)) i ∷ column (now (r .entry)) i ∷ []) (entries (now (tables .entry) ∷ now (rowsets .entry) ∷ []) a d held)) ⌝ }
 {
-    Pair {
-        table: TableNo((key / 4294967296) as u32),
-        rowset: RowsetNo((key % 4294967296) as u32),
+    let mut kept = [false; MOST_HELD];
+    let mut i = 0;
+    while i < count {
+        let at = columns::place(tables, rowsets, held, t[i], r[i]);
+        kept[i] = columns::stands(tables, rowsets, held, at, t[i], r[i]);
+        i += 1;
     }
+    kept
 }
 
 // Without those whose rowset is not live.
-fn build_vectors(pairs: &[u64], vectors: &[u64], count: usize, rowsets: Rowsets) -> Vectors
-    requires { ⌜ VectorsGood (now pairs) (now vectors) count × (rowsets .count ≤ 856) ⌝ }
-    ensures { λ r. ⌜ (r .count ≤ count) × (vectorsOf r ≡ keep (hasRowset (rowsetsOf rowsets)) (vectorsIn (now (pairs .entry)) (now (vectors .entry)) count)) ⌝ }
-{
-    let mut s = Vectors::none();
-    let epochs = epochs();
-    let mut k: usize = 0;
-    let mut i = 0;
-    while i < count {
-        let pair = pair_of(pairs[i]);
-        if rowsets.holds(pair) {
-            s.items[k] = Vector {
-                pair,
-                vector: VectorNo(vectors[i]),
-                epochs,
-            };
-            k += 1;
-        }
-        i += 1;
-    }
-    s.count = k;
-    s
-}
-
-pub fn finish(
-    src: &[u8],
-    sets: Sets,
-    ids: &[u64],
-    places: &[u64],
-    tables: &[u64],
-    rowsets: &[u64],
+fn build_vectors<'a>(
     pairs: &[u64],
     vectors: &[u64],
-) -> Replayed
-    requires { ⌜ Good (slices (now ids) (now places) (now tables) (now rowsets) (now pairs) (now vectors)) sets × Small sets ⌝ }
-    ensures { λ r. ⌜ ReplayIs (finished (stateIn (now (src .entry)) (slices (now (ids .entry)) (now (places .entry)) (now (tables .entry)) (now (rowsets .entry)) (now (pairs .entry)) (now (vectors .entry))) sets)) r ⌝ }
+    count: usize,
+    live_tables: &'a [u32; MOST_HELD],
+    live_rowsets: &'a [u32; MOST_HELD],
+    held: usize,
+) -> Vectors
+    requires { ⌜ VectorsGood (now pairs) (now vectors) count × (count ≤ mostHeld) × (held ≤ mostHeld) × (ascending plain (rows (across (now «live_tables» ∷ now «live_rowsets» ∷ [])) held) ≡ true) ⌝ }
+    ensures { λ r. ⌜ (r .count ≤ count) × ((a d : List ℕ) → vectorsOf r ≡ keep (hasRowset (entries (now («live_tables» .entry) ∷ now («live_rowsets» .entry) ∷ []) a d held)) (vectorsIn (now (pairs .entry)) (now (vectors .entry)) count)) ⌝ }
 {
-    let live = build_tables(src, ids, places, sets.tables);
-    let held = build_rowsets(tables, rowsets, sets.pairs);
-    if !version_state::have_tables(held, live) {
-        return crate::no(Refusal::RowsetWithoutTable);
-    }
-    let shown = build_vectors(pairs, vectors, sets.vectors, held);
-    let next = sets.next;
-    let inner = VersionManagerInner {
-        epoch: 1,
-        next,
-        tables: live,
-        rowsets: held,
-        vectors: shown,
-        manifest: 0,
-    };
-    Replayed {
-        verdict: Verdict::Accepted,
-        inner,
+    let mut tables = highs(pairs, count);
+    let mut rowsets = lows(pairs, count);
+    let mut ids = copied(vectors, count);
+    let mut added = filled(1);
+    let mut deleted = filled(0);
+    let kept = live(live_tables, live_rowsets, held, &tables, &rowsets, count);
+    columns::keep(&mut tables, &kept, count);
+    columns::keep(&mut rowsets, &kept, count);
+    columns::triples::keep(&mut ids, &kept, count);
+    columns::keep(&mut added, &kept, count);
+    let left = columns::keep(&mut deleted, &kept, count);
+    Vectors {
+        tables,
+        rowsets,
+        vectors: ids,
+        added,
+        deleted,
+        count: left,
     }
 }

@@ -1,2 +1,2 @@
-pub mod Follow
+pub mod Lines
 pub mod Room

@@ -17,7 +17,8 @@ use Rattle.manifest.proofs.Texts.{create-room, add-room, add-vector-room, next-
 use Rattle.snapshot.specs.Entries.{Entry, byIds, shownBy}
 use Rattle.snapshot.specs.Tables.{TableEntry}
 use Rattle.version_state.specs.State.{State}
-use Rattle.frames.proofs.Texts.{textsOf, joined-append, frame-long, texts-cons}
+use Rattle.frames.specs.Frames.{textsOf}
+use Rattle.frames.proofs.Texts.{joined-append, frame-long, texts-cons}
 use Rattle.rewrite.specs.Rewritten.{createOf, addOf, addVectorOf, rewriteOf}
 use Rattle.rewrite.specs.Laws.{RewrittenFits}
 

@@ -30,3 +30,7 @@ rewrittenOf s = frameOf (rewriteOf s)
 -- bytes that always hold it
 abbrev pub longestRewritten : ℕ
 longestRewritten = 18625
+
+-- bytes that always hold one line of it
+abbrev pub longestLine : ℕ
+longestLine = 57

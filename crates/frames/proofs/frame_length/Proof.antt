@@ -7,8 +7,8 @@ use lib.ListN.{length, drop}
 use Rattle.lists.proofs.Places.{known}
 use Rattle.lists.proofs.Views.{seen-end}
 use Rattle.manifest.specs.Operations.{Operation, operationOf, batchOf}
-use Rattle.frames.specs.Frames.{frameOf}
-use Rattle.frames.proofs.Texts.{textsOf, frame-long, length-turn}
+use Rattle.frames.specs.Frames.{textsOf, frameOf}
+use Rattle.frames.proofs.Texts.{frame-long, length-turn}
 use Rattle.frames.proofs.frame_length.Statement.{statement}
 use Rattle.frames.proofs.frame_length.Tie as tie
 

@@ -11,7 +11,8 @@ use Rattle.lists.proofs.Places.{known}
 use Rattle.lists.proofs.Views.{view-length}
 use Rattle.lists.proofs.Written.{wrote-on, wrote-none, wrote-over, wrote-length}
 use Rattle.manifest.specs.Operations.{operationOf, batchOf}
-use Rattle.frames.proofs.Texts.{textsOf, frame-is, frame-long, texts-le, wrote-turn, place-turn}
+use Rattle.frames.specs.Frames.{textsOf}
+use Rattle.frames.proofs.Texts.{frame-is, frame-long, texts-le, wrote-turn, place-turn}
 use Rattle.frames.proofs.put_frame.Statement.{statement}
 use Rattle.frames.proofs.put_frame.Tie as tie
 
