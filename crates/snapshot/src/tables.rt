@@ -91,12 +91,18 @@ pub fn below(ids: &[u32; MOST_TABLES], count: usize, next: TableNo) -> bool
     true
 }
 
+fn wide(n: u32) -> usize
+    ensures { λ r. ⌜ r ≡ n ⌝ }
+{
+    n as usize
+}
+
 // How many bytes the name at i has.
 fn length_at(lengths: &[u32; MOST_TABLES], i: usize) -> usize
     requires { ⌜ i < mostTables ⌝ }
     ensures { λ r. ⌜ (r ≡ lengthIn (column (now (lengths .entry)) i)) × (r ≤ longestName) ⌝ }
 {
-    let n = lengths[i] as usize;
+    let n = wide(lengths[i]);
     if n <= LONGEST_NAME {
         return n;
     }
@@ -159,7 +165,9 @@ pub fn name_at<'a>(lengths: &'a [u32; MOST_TABLES], names: &'a [u8; NAME_BYTES],
 {
     let n = length_at(lengths, i);
     let from = LONGEST_NAME * i;
-    Name::of(&names[from..from + n])
+    let to = from + n;
+    let all = &names[..];
+    Name::of(&all[from..to])
 }
 
 // Bytes stored at a name's place.
