@@ -7,11 +7,12 @@ use native.Mathlib.Omega.{arith}
 use native.Mathlib.Numerals.{add-one}
 use lib.Dec.{leb, ltb, eqb}
 use lib.ListN.{length, getD, take, drop, set, length-append, length-take, length-drop, length-set, drop-of-length-le, List·getD-append}
-use lib.Seq.{take-all, take-suc, drop-cons, drop-at, take-append-le, getD-append-add, getD-take, getD-drop, getD-set-same, getD-set-other, length-take-le, ext-getD, append-snoc}
-use borrow.Author.Tests.{leb-true, le-ltb, eq-eqb, ne-eqb}
+use lib.Seq.{take-all, take-suc, take-take, drop-cons, drop-at, take-append-le, getD-append-add, getD-take, getD-drop, getD-set-same, getD-set-other, length-take-le, ext-getD, append-snoc}
+use borrow.Author.Tests.{leb-true, le-leb, lt-leb, le-ltb, eq-eqb, ne-eqb}
 use Rattle.ids.specs.Limits.{mostTables}
 use Rattle.ids.specs.Names.{longestName, nameIn, nameOf}
 use Rattle.ids.specs.declared.name.Name.{Name}
+use Rattle.ids.proofs.Names.{name-room}
 use Rattle.lists.specs.Order.{less, same}
 use Rattle.lists.specs.Keyed.{keep, allOf, anyOf, isAt, has, ascending, without}
 use Rattle.lists.specs.Places.{insertAt}
@@ -116,6 +117,13 @@ name-take m l = by-cases (leb m longestName) (λ e. rw e) (λ e. rw e)
 pub length-in : (m : ℕ) → lengthIn m ≤ longestName
 length-in m = by-cases (leb m longestName) (λ e. rw e (leb-true m longestName e)) (λ e. rw e (omega arith))
 
+-- a length r that a column says
+pub length-short : (r m : ℕ) → r ≡ m → r ≤ longestName → r ≡ lengthIn m
+length-short r m e h = rw (le-leb m longestName (omega arith)) e
+
+pub length-over : (r m : ℕ) → r ≡ m → longestName < r → 0 ≡ lengthIn m
+length-over r m e h = rw (lt-leb m longestName (omega arith))
+
 -- the bytes of a name that is passed
 pub name-bytes : (x : Name) (n : ℕ) → n ≡ length (nameOf x) → length (x .bytes) ≡ longestName → take n (x .bytes) ≡ nameOf x
 unfolding nameOf
@@ -132,16 +140,25 @@ module _ (names : List ℕ) (i : ℕ) (h : i < mostTables) (f : length names ≡
       let z = length-drop (longestName * i) names in
       length-take-le m (drop (longestName * i) names) (omega arith)
 
-  -- names of other lengths differ
-  pub length-differs : (lengths b : List ℕ) (n : ℕ) → (lengthIn (column lengths i) ≡ n → ⊥) → length b ≡ n → false ≡ same (nameAt lengths names i) b
-  length-differs lengths b n ne e =
-      let t = name-take (column lengths i) (drop (longestName * i) names) in
-      let z = place-length (lengthIn (column lengths i)) (length-in (column lengths i)) in
-      sym (same-ne (nameAt lengths names i) b (λ q. ne (sym z ∙ ap length (sym t ∙ q) ∙ e)))
+  -- a name of another length differs, and one of the same length is told by its bytes
+  module _ (lengths b : List ℕ) (n r : ℕ) (e : r ≡ lengthIn (column lengths i)) where
+    pub length-differs : n ≤ length b → (r ≡ n → ⊥) → false ≡ same (nameAt lengths names i) (take n b)
+    length-differs q ne =
+        let t = name-take (column lengths i) (drop (longestName * i) names) in
+        let z = place-length (lengthIn (column lengths i)) (length-in (column lengths i)) in
+        sym (same-ne (nameAt lengths names i) (take n b) (λ o. ne (e ∙ sym z ∙ ap length (sym t ∙ o) ∙ length-take-le n b q)))
 
-  pub length-same : (lengths b : List ℕ) (n : ℕ) → lengthIn (column lengths i) ≡ n → same (take n (drop (longestName * i) names)) b ≡ same (nameAt lengths names i) b
-  length-same lengths b n e =
-      ap (λ (l : List ℕ). same l b) (ap (λ (k : ℕ). take k (drop (longestName * i) names)) (sym e) ∙ sym (name-take (column lengths i) (drop (longestName * i) names)))
+    pub length-same : (x : Bool) → r ≡ n → x ≡ same (take n (drop (longestName * i) names)) (take n b) → x ≡ same (nameAt lengths names i) (take n b)
+    length-same x q o =
+        o
+        ∙ ap (λ (l : List ℕ). same l (take n b))
+        (ap (λ (k : ℕ). take k (drop (longestName * i) names)) (sym q ∙ e) ∙ sym (name-take (column lengths i) (drop (longestName * i) names)))
+
+-- the part of the bytes that is the name at i
+pub name-part : (lengths names : List ℕ) (i r : ℕ) → r ≡ lengthIn (column lengths i) → take (longestName * i + r - longestName * i) (drop (longestName * i) names) ≡ nameAt lengths names i
+name-part lengths names i r e =
+    let z : longestName * i + r - longestName * i ≡ r = omega arith in
+    ap (λ (k : ℕ). take k (drop (longestName * i) names)) (z ∙ e) ∙ sym (name-take (column lengths i) (drop (longestName * i) names))
 
 -- A run written into a list: what stands before it, after it and in its place.
 module _ (s run : List ℕ) (at : ℕ) (h : at + length run ≤ length s) where
@@ -288,3 +305,81 @@ module _ {A : Type 0} (p : A → Bool) (f₀ : ℕ → A) (n : ℕ) where
   pack-done i k f h s =
       let none : keep p (drop i (rows f n)) ≡ [] = rw (rows-end f n i h) in
       sym (append-nil (rows f k)) ∙ ap (λ (t : List A). rows f k ++ t) (sym none) ∙ s .same
+
+-- What storing in each column does to the tables.
+module _ (ids shapes lengths names : List ℕ) (locked : List Bool) (w : Whole ids shapes lengths names locked) where
+  abbrev before : ℕ → TableEntry
+  before = tableAt ids shapes lengths names locked
+
+  module _ (at : ℕ) (h : at < mostTables) (t s l : ℕ) (run : List ℕ) (r : length run ≤ longestName) (k : Bool) where
+    abbrev after : ℕ → TableEntry
+    after = tableAt (set ids at t) (set shapes at s) (set lengths at l) (written names (longestName * at) run) (set locked at k)
+
+    store-whole : Whole (set ids at t) (set shapes at s) (set lengths at l) (written names (longestName * at) run) (set locked at k)
+    store-whole =
+        record {
+          ids = length-set ids at t ∙ w .ids;
+          shapes = length-set shapes at s ∙ w .shapes;
+          lengths = length-set lengths at l ∙ w .lengths;
+          names = write-length names run at h (w .names) r;
+          locked = length-set locked at k ∙ w .locked;
+        }
+
+    store-other : (i : ℕ) → i < mostTables → (i ≡ at → ⊥) → after i ≡ before i
+    store-other i q ne =
+        rw (getD-set-other ids at i t 0 ne, getD-set-other shapes at i s 0 ne, getD-set-other lengths at i l 0 ne, getD-set-other locked at i k false ne)
+        (ap (λ (n : List ℕ). record { table = column ids i; shape = column shapes i; name = n; locked = marks locked i }) (write-other names run at h (w .names) r lengths i q ne))
+
+    store-here : lengthIn l ≤ length run → after at ≡ record { table = t; shape = s; name = take (lengthIn l) run; locked = k }
+    store-here m =
+        let f = w .names in
+        let a = w .ids in
+        let b = w .shapes in
+        let c = w .lengths in
+        let d = w .locked in
+        rw (getD-set-same ids at t 0 (omega arith), getD-set-same shapes at s 0 (omega arith), getD-set-same lengths at l 0 (omega arith), getD-set-same locked at k false (omega arith))
+        (ap (λ (n : List ℕ). record { table = t; shape = s; name = n; locked = k })
+        (name-take l (drop (longestName * at) (written names (longestName * at) run)) ∙ written-here names run (longestName * at) (omega arith) (lengthIn l) m))
+
+    store-push : lengthIn l ≡ length run → rows after (at + 1) ≡ rows before at ++ (record { table = t; shape = s; name = run; locked = k } ∷ [])
+    store-push m =
+        rows-push before after at (record { table = t; shape = s; name = run; locked = k })
+        (λ i q. store-other i (omega arith) (λ e. omega arith))
+        (store-here (omega arith)
+        ∙ ap (λ (n : List ℕ). record { table = t; shape = s; name = n; locked = k }) (take-all (lengthIn l) run (omega arith)))
+
+  -- a table after the others
+  pub pushed : (at : ℕ) → at < mostTables → (t s l : ℕ) (x : Name) (m : List ℕ) → l ≡ length (nameOf x) → length (x .bytes) ≡ longestName → m ≡ written names (longestName * at) (take l (x .bytes))
+      → (rows (tableAt (set ids at t) (set shapes at s) (set lengths at l) m (set locked at false)) (at + 1) ≡ rows before at ++ (created t s (nameOf x) ∷ []))
+      × Whole (set ids at t) (set shapes at s) (set lengths at l) m (set locked at false)
+  pushed at h t s l x m e f o =
+      let r = name-room x in
+      let z : lengthIn l ≡ length (nameOf x) = sym (length-short l l refl (omega arith)) ∙ e in
+      rw (o, name-bytes x l e f) (store-push at h t s l (nameOf x) r false z, store-whole at h t s l (nameOf x) r false)
+
+  -- a table copied to a place before it
+  pub moved : (to from : ℕ) → to < mostTables → from < mostTables → (m : List ℕ) → m ≡ written names (longestName * to) (take longestName (drop (longestName * from) names))
+      → RowMoved before to from (tableAt (set ids to (column ids from)) (set shapes to (column shapes from)) (set lengths to (column lengths from)) m (set locked to (marks locked from)))
+      × Whole (set ids to (column ids from)) (set shapes to (column shapes from)) (set lengths to (column lengths from)) m (set locked to (marks locked from))
+  moved to from h q m o =
+      let t = column ids from in
+      let s = column shapes from in
+      let l = column lengths from in
+      let k = marks locked from in
+      let x = take longestName (drop (longestName * from) names) in
+      let z = place-length names from q (w .names) longestName (omega arith) in
+      let y = length-in l in
+      let r : length x ≤ longestName = omega arith in
+      rw o (
+        record {
+          here =
+              store-here to h t s l x r k (omega arith)
+              ∙ ap (λ (n : List ℕ). record { table = t; shape = s; name = n; locked = k })
+              (take-take (lengthIn l) longestName (drop (longestName * from) names) y ∙ sym (name-take l (drop (longestName * from) names)));
+          others = store-other to h t s l x r k;
+        },
+        store-whole to h t s l x r k,
+      )
+
+pub stay-put : {A : Type 0} (f : ℕ → A) (to from : ℕ) → to ≡ from → RowMoved f to from f
+stay-put f to from e = record { here = ap f e; others = λ i h ne. refl }

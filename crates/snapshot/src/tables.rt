@@ -110,7 +110,12 @@ fn length_at(lengths: &[u32; MOST_TABLES], i: usize) -> usize
 }
 
 // Whether the first n bytes at a name's place are those.
-fn same_bytes<'a>(names: &'a [u8; NAME_BYTES], at: usize, bytes: &'a [u8; LONGEST_NAME], n: usize) -> bool
+fn same_bytes<'a>(
+    names: &'a [u8; NAME_BYTES],
+    at: usize,
+    bytes: &'a [u8; LONGEST_NAME],
+    n: usize,
+) -> bool
     requires { ⌜ (at < mostTables) × (n ≤ longestName) × (length (now names) ≡ nameBytes) × (length (now bytes) ≡ longestName) ⌝ }
     ensures { λ r. ⌜ r ≡ same (take n (drop (longestName * at) (now (names .entry)))) (take n (now (bytes .entry))) ⌝ }
 {
@@ -143,7 +148,12 @@ fn named<'a>(
 }
 
 // Whether a live table has the name.
-pub fn taken<'a>(lengths: &'a [u32; MOST_TABLES], names: &'a [u8; NAME_BYTES], count: usize, name: Name) -> bool
+pub fn taken<'a>(
+    lengths: &'a [u32; MOST_TABLES],
+    names: &'a [u8; NAME_BYTES],
+    count: usize,
+    name: Name,
+) -> bool
     requires { ⌜ (count ≤ mostTables) × (length (now names) ≡ nameBytes) ⌝ }
     ensures { λ r. ⌜ r ≡ anyOf (λ x. same x (nameOf name)) (rows (nameAt (now (lengths .entry)) (now (names .entry))) count) ⌝ }
 {

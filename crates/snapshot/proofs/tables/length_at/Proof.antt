@@ -1,29 +1,24 @@
-use borrow.Author.Needs.{needs}
+-- `snapshot::tables::length_at` meets its contract. Assumes nothing.
+use native.Mathlib.Omega.{arith}
+use Rattle.snapshot.proofs.TableRows.{length-short, length-over}
+use Rattle.lists.proofs.Places.{known}
 use Rattle.snapshot.proofs.tables.length_at.Statement.{statement}
 use Rattle.snapshot.proofs.tables.length_at.Tie as tie
-use Rattle.snapshot.proofs.tables.length_at.Reads as reads
-use Rattle.snapshot.proofs.tables.length_at.Lts as lts
-use Rattle.snapshot.proofs.tables.wide.Reads as wide-reads
 
--- src/tables.rt:105:18
 mul-wide : tie.Need-mul-wide
-mul-wide c = search needs
+mul-wide c = search known
 
--- src/tables.rt:105:18
 element-copy-out-wide : tie.Need-element-copy-out-wide
-element-copy-out-wide c = search needs
+element-copy-out-wide c = search known
 
--- src/tables.rt:105:9
 wide-requires : tie.Need-wide-requires
-wide-requires c κs = search needs
+wide-requires c κs = search known
 
--- src/tables.rt:107:9
 returns : tie.Need-returns
-returns c = ?
+returns c = (length-short _ _ (c .before .wide .ensures) (c .if1 .taken), c .if1 .taken)
 
--- src/tables.rt:101:1
 returns-2 : tie.Need-returns-2
-returns-2 c = ?
+returns-2 c = (length-over _ _ (c .before .wide .ensures) (c .if1 .left), omega arith)
 
 pub length-at-spec : {M : Type 1} → statement M
 length-at-spec =

@@ -27,7 +27,7 @@ mul-read : tie.Need-mul-read Inv-loop μ-loop
 mul-read c = search known
 
 loop-holds : tie.Need-loop-holds Inv-loop μ-loop
-loop-holds c = 
+loop-holds c =
     let p = c .pre in
     let z = place-length (c .args .names .now) (c .args .from) (p .1) (p .2) longestName (omega arith) in
     (p .0, p .1, p .2, copy-start _ _ _ _ (omega arith) (omega arith))
@@ -51,7 +51,7 @@ loop-less : tie.Need-loop-less Inv-loop μ-loop
 loop-less c = search known
 
 loop-again : tie.Need-loop-again Inv-loop μ-loop
-loop-again c = 
+loop-again c =
     let inv = c .before .before .loop .inv in
     (inv .0, inv .1, inv .2, rw (copy-inside _ _ (longestName * c .before .before .before .args .from) _ _ _ (omega arith) (omega arith) (c .before .loop-test .taken) (inv .3)) (copy-more _ _ _ _ _ _ (inv .3) (c .before .loop-test .taken)))
 

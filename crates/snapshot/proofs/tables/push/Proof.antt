@@ -1,54 +1,49 @@
-use borrow.Author.Needs.{needs}
+-- `snapshot::tables::push` meets its contract. Assumes nothing.
+use native.Mathlib.Omega.{arith}
+use Rattle.ids.proofs.Names.{name-room}
+use Rattle.snapshot.proofs.TableRows.{pushed}
+use Rattle.lists.proofs.Places.{known}
 use Rattle.snapshot.proofs.tables.push.Statement.{statement}
 use Rattle.snapshot.proofs.tables.push.Tie as tie
-use Rattle.snapshot.proofs.tables.push.Reads as reads
-use Rattle.snapshot.proofs.tables.push.Lts as lts
-use Rattle.ids.proofs.name.Name.length.Reads as length-reads
-use Rattle.snapshot.proofs.tables.put_name.Reads as put-name-reads
 
--- src/tables.rt:203:9
 length-requires : tie.Need-length-requires
-length-requires c κs = search needs
+length-requires c κs = search known
 
--- src/tables.rt:204:5
 mul-ids : tie.Need-mul-ids
-mul-ids c = search needs
+mul-ids c = search known
 
--- src/tables.rt:204:5
 element-write-ids : tie.Need-element-write-ids
-element-write-ids c = search needs
+element-write-ids c = search known
 
--- src/tables.rt:205:5
 mul-shapes : tie.Need-mul-shapes
-mul-shapes c = search needs
+mul-shapes c = search known
 
--- src/tables.rt:205:5
 element-write-shapes : tie.Need-element-write-shapes
-element-write-shapes c = search needs
+element-write-shapes c = search known
 
--- src/tables.rt:206:22
 cast-lengths : tie.Need-cast-lengths
-cast-lengths c = ?
+cast-lengths c = let r = name-room (c .before .args .t9) in let e = c .length .ensures in search known
 
--- src/tables.rt:206:5
 mul-lengths : tie.Need-mul-lengths
-mul-lengths c = search needs
+mul-lengths c = search known
 
--- src/tables.rt:206:5
 element-write-lengths : tie.Need-element-write-lengths
-element-write-lengths c = search needs
+element-write-lengths c = search known
 
--- src/tables.rt:207:5
 put-name-requires : tie.Need-put-name-requires
-put-name-requires c κs = ?
+put-name-requires c κs =
+    let s = c .before .before .before in
+    let r = name-room (s .before .args .t9) in
+    let e = s .length .ensures in
+    (s .before .pre .0, omega arith, s .before .pre .1 .names, search known)
 
--- src/tables.rt:208:5
 element-write-locked : tie.Need-element-write-locked
-element-write-locked c = search needs
+element-write-locked c = search known
 
--- src/tables.rt:187:1
 returns : tie.Need-returns
-returns c = ?
+returns c =
+    let s = c .before .before .before .before in
+    pushed _ _ _ _ _ (s .before .pre .1) _ (s .before .pre .0) _ _ _ _ _ (s .length .ensures) (search known) (c .put-name .ensures)
 
 pub push-spec : {M : Type 1} → statement M
 push-spec =

@@ -39,7 +39,7 @@ loop-less : tie.Need-loop-less Inv-loop μ-loop
 loop-less c = search known
 
 loop-again : tie.Need-loop-again Inv-loop μ-loop
-loop-again c = 
+loop-again c =
     let inv = c .before .before .loop .inv in
     (inv .0, inv .1, inv .2, inv .3, copy-more _ _ _ _ _ _ (inv .4) (c .before .loop-test .taken))
 

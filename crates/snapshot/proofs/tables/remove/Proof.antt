@@ -1,62 +1,66 @@
+-- `snapshot::tables::remove` meets its contract. Assumes nothing.
+use mathlib.Core.Bool.{not}
+use mathlib.Core.List.{[], _∷_}
+use Prim.Native.Nat.{_-_, _≤_}
+use native.Mathlib.Omega.{arith}
+use borrow.Author.Tests.{eq-eqb, ne-eqb}
+use Rattle.ids.specs.Limits.{mostTables}
+use Rattle.lists.specs.Keyed.{isAt}
+use Rattle.snapshot.specs.Tables.{byTable, tableAt, Whole}
+use Rattle.snapshot.proofs.TableRows.{Packing, pack-start, pack-pass, pack-take, pack-done}
+use Rattle.lists.proofs.Places.{known}
 use Rattle.snapshot.proofs.tables.remove.Statement.{statement}
 use Rattle.snapshot.proofs.tables.remove.Tie as tie
-use Rattle.snapshot.proofs.tables.remove.Reads as reads
-use Rattle.snapshot.proofs.tables.remove.Lts as lts
-use Rattle.snapshot.proofs.tables.move_table.Reads as move-table-reads
 
 abbrev Inv-loop : tie.InvT-loop
-Inv-loop ids₀ shapes₀ lengths₀ names₀ locked₀ count t k₀ i₀ ids shapes lengths names locked k i = ?
+Inv-loop ids₀ shapes₀ lengths₀ names₀ locked₀ count t k₀ i₀ ids shapes lengths names locked k i = (count ≤ mostTables) × Whole ids shapes lengths names locked × Packing (λ x. not (isAt byTable (t ∷ []) x)) (tableAt ids₀ shapes₀ lengths₀ names₀ locked₀) count i k (tableAt ids shapes lengths names locked)
 
 abbrev μ-loop : tie.MeasureT-loop
-μ-loop ids₀ shapes₀ lengths₀ names₀ locked₀ count t k₀ i₀ ids shapes lengths names locked k i = ?
+μ-loop ids₀ shapes₀ lengths₀ names₀ locked₀ count t k₀ i₀ ids shapes lengths names locked k i = count - i
 
--- src/tables.rt:268:5
 loop-holds : tie.Need-loop-holds Inv-loop μ-loop
-loop-holds c = ?
+loop-holds c = (c .pre .0, c .pre .1, pack-start _ _ _)
 
--- src/tables.rt:269:12
 mul-if1 : tie.Need-mul-if1 Inv-loop μ-loop
-mul-if1 c = ?
+mul-if1 c = search known
 
--- src/tables.rt:269:12
 element-copy-out-if1 : tie.Need-element-copy-out-if1 Inv-loop μ-loop
-element-copy-out-if1 c = ?
+element-copy-out-if1 c = search known
 
--- src/tables.rt:270:13
 add-i : tie.Need-add-i Inv-loop μ-loop
-add-i c = ?
+add-i c = search known
 
--- src/tables.rt:268:5
 loop-less : tie.Need-loop-less Inv-loop μ-loop
-loop-less c = ?
+loop-less c = search known
 
--- src/tables.rt:268:5
 loop-again : tie.Need-loop-again Inv-loop μ-loop
-loop-again c = ?
+loop-again c =
+    let inv = c .before .before .before .loop .inv in
+    (inv .0, inv .1, pack-pass _ _ _ _ _ _ (c .before .before .loop-test .taken) (inv .2) (rw (eq-eqb _ _ (c .if1 .taken))))
 
--- src/tables.rt:272:13
 move-table-requires : tie.Need-move-table-requires Inv-loop μ-loop
-move-table-requires c κs = ?
+move-table-requires c κs = search known
 
--- src/tables.rt:273:13
 add-k : tie.Need-add-k Inv-loop μ-loop
-add-k c = ?
+add-k c = search known
 
--- src/tables.rt:274:13
 add-i-2 : tie.Need-add-i-2 Inv-loop μ-loop
-add-i-2 c = ?
+add-i-2 c = search known
 
--- src/tables.rt:268:5
 loop-less-2 : tie.Need-loop-less-2 Inv-loop μ-loop
-loop-less-2 c = ?
+loop-less-2 c = search known
 
--- src/tables.rt:268:5
 loop-again-2 : tie.Need-loop-again-2 Inv-loop μ-loop
-loop-again-2 c = ?
+loop-again-2 c =
+    let s = c .before .before .before .before .before .before in
+    let inv = s .before .before .before .loop .inv in
+    let m = c .move-table .ensures in
+    (inv .0, m .1, pack-take _ _ _ _ _ _ (s .before .before .loop-test .taken) (inv .2) _ (inv .0) (rw (ne-eqb _ _ (s .if1 .left))) (m .0))
 
--- src/tables.rt:251:1
 returns : tie.Need-returns Inv-loop μ-loop
-returns c = ?
+returns c =
+    let inv = c .before .loop .inv in
+    (pack-done _ _ _ _ _ _ (c .loop-test .left) (inv .2), omega (arith, inv .2 .within, inv .2 .behind), inv .1)
 
 pub remove-spec : {M : Type 1} → statement M
 remove-spec =

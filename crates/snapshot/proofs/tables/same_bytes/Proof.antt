@@ -42,7 +42,7 @@ loop-less : tie.Need-loop-less Inv-loop μ-loop
 loop-less c = search known
 
 loop-again : tie.Need-loop-again Inv-loop μ-loop
-loop-again c = 
+loop-again c =
     let inv = c .before .before .before .before .loop .inv in
     (inv .0, inv .1, inv .2, inv .3, compare-more _ _ _ _ _ (inv .4) (c .before .before .before .loop-test .taken) (c .if1 .left))
 
