@@ -107,3 +107,8 @@ module _ {A : Type 0} (f : ℕ → A) (p : A → Bool) (g : A → Operation) (n 
     write-done i t j h w =
         let e : map g (keep p (rows f n)) ≡ w .done = sym (w .same) ∙ ap (λ (os : List Operation). w .done ++ os) (from-end i h) ∙ append-nil (w .done) in
         rw e (w .wrote)
+
+-- every row passes
+pub keep-every : {A : Type 0} (l : List A) → keep (λ x. true) l ≡ l
+keep-every [] = refl
+keep-every {A} (x ∷ l) = ap (λ (t : List A). x ∷ t) (keep-every l)

@@ -1,32 +1,25 @@
 -- A rewritten manifest has at most 18,625 bytes. Assumes nothing.
-use mathlib.Core.Path.{_≡_, ap, _∙_}
+use mathlib.Core.Path.{_≡_}
 use mathlib.Core.Bool.{true}
 use mathlib.Core.List.{List, [], _∷_, _++_, map}
 use Prim.Native.Nat.{ℕ, _+_, _*_, _≤_}
 use native.Mathlib.Nat.{mul-suc}
 use native.Mathlib.Omega.{arith}
-use lib.ListN.{length, getD, length-append, length-map}
+use lib.ListN.{length, getD, length-map}
 use Rattle.lists.specs.Keyed.{keep}
 use Rattle.lists.proofs.Keyed.{All, allOf-all, length-keep}
-use Rattle.lists.proofs.Views.{map-append}
 use Rattle.text.proofs.Names.{name-length}
 use Rattle.manifest.specs.Operations.{Operation, createTable, addRowset, addVector, nextIds, wellFormed}
 use Rattle.manifest.specs.Lines.{textOf}
-use Rattle.manifest.specs.Split.{joined}
 use Rattle.manifest.proofs.Texts.{create-room, add-room, add-vector-room, next-room, pair-ids, vector-ids, next-values, table-values}
 use Rattle.snapshot.specs.Entries.{Entry, byIds, shownBy}
 use Rattle.snapshot.specs.Tables.{TableEntry}
 use Rattle.version_state.specs.State.{State}
 use Rattle.frames.specs.Frames.{textsOf}
-use Rattle.frames.proofs.Texts.{joined-append, frame-long, texts-cons}
+use Rattle.frames.proofs.Texts.{frame-long, texts-cons}
+use Rattle.rewrite.proofs.Lines.{texts-length}
 use Rattle.rewrite.specs.Rewritten.{createOf, addOf, addVectorOf, rewriteOf}
 use Rattle.rewrite.specs.Laws.{RewrittenFits}
-
-texts-both : (os ps : List Operation) → length (textsOf (os ++ ps)) ≡ length (textsOf os) + length (textsOf ps)
-texts-both os ps =
-    ap (λ (ls : List (List ℕ)). length (joined ls)) (map-append textOf os ps)
-    ∙ ap length (joined-append (map textOf os) (map textOf ps))
-    ∙ length-append (textsOf os) (textsOf ps)
 
 -- lines of at most k bytes each, with their newlines
 texts-most : (k : ℕ) (os : List Operation) → All (λ o. length (textOf o) + 1 ≤ k) os → length (textsOf os) ≤ k * length os
@@ -84,4 +77,4 @@ rewritten-fits s ht hp hv w =
     let lv = length-map (keep (shownBy (s .epoch)) (s .vectors)) addVectorOf in
     let kp = length-keep (shownBy (s .epoch)) (s .pairs) in
     let kv = length-keep (shownBy (s .epoch)) (s .vectors) in
-    omega (arith, frame-long (rewriteOf s), texts-cons n ((ts ++ ps) ++ vs), texts-both (ts ++ ps) vs, texts-both ts ps)
+    omega (arith, frame-long (rewriteOf s), texts-cons n ((ts ++ ps) ++ vs), texts-length (ts ++ ps) vs, texts-length ts ps)
