@@ -12,30 +12,30 @@ use lib.Seq.{length-take-le, drop-cons, getD-take, take-suc, take-suc-set}
 use Rattle.lists.specs.Order.{same}
 use Rattle.lists.proofs.Tests.{by-cases}
 use Rattle.ids.specs.declared.name.Name.{Name}
-use Rattle.ids.specs.Names.{nameOf}
+use Rattle.ids.specs.Names.{longestName, nameOf}
 
-pub name-short : (n : Name) → n .len ≤ 32 → nameOf n ≡ take (n .len) (n .bytes)
+pub name-short : (n : Name) → n .len ≤ longestName → nameOf n ≡ take (n .len) (n .bytes)
 unfolding nameOf
-name-short n h = rw (le-leb (n .len) 32 h)
+name-short n h = rw (le-leb (n .len) longestName h)
 
-pub name-over : (n : Name) → 32 < n .len → nameOf n ≡ []
+pub name-over : (n : Name) → longestName < n .len → nameOf n ≡ []
 unfolding nameOf
-name-over n h = rw (lt-leb (n .len) 32 h)
+name-over n h = rw (lt-leb (n .len) longestName h)
 
-pub name-length : (n : Name) → length (n .bytes) ≡ 32 → n .len ≤ 32 → length (nameOf n) ≡ n .len
+pub name-length : (n : Name) → length (n .bytes) ≡ longestName → n .len ≤ longestName → length (nameOf n) ≡ n .len
 name-length n f h = ap length (name-short n h) ∙ length-take-le (n .len) (n .bytes) (omega arith)
 
-pub name-room : (n : Name) → length (nameOf n) ≤ 32
+pub name-room : (n : Name) → length (nameOf n) ≤ longestName
 unfolding nameOf
 name-room n =
-    by-cases (leb (n .len) 32)
-    (λ e. rw (e, length-take) (omega (arith, leb-true (n .len) 32 e)))
+    by-cases (leb (n .len) longestName)
+    (λ e. rw (e, length-take) (omega (arith, leb-true (n .len) longestName e)))
     (λ e. rw e (omega arith))
 
 pub name-at : (n : Name) (i d : ℕ) → i < length (nameOf n) → getD (nameOf n) i d ≡ getD (n .bytes) i d
 unfolding nameOf
 name-at n i d h =
-    by-cases (leb (n .len) 32)
+    by-cases (leb (n .len) longestName)
     (λ e. let l : i < length (take (n .len) (n .bytes)) = rw e at h in
     rw e (getD-take (n .len) (n .bytes) i d (omega (arith, length-take (n .len) (n .bytes)))))
     (λ e. let l : i < 0 = rw e at h in absurd (omega arith))

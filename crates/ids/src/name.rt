@@ -3,11 +3,14 @@ ghost use Prim.Native.Nat.{_≤_};
 ghost use mathlib.Core.List.{[]};
 ghost use lib.ListN.{length};
 ghost use Rattle.lists.specs.Order.{same};
-ghost use Rattle.ids.specs.Names.{nameOf};
+ghost use Rattle.ids.specs.Names.{longestName, nameOf};
 
-// A table's name: the first `len` bytes. A length over 32 is no name's.
+// The most bytes that a name may have.
+pub const LONGEST_NAME: usize = 32;
+
+// A table's name: the first `len` bytes. A greater length is no name's.
 pub struct Name {
-    pub bytes: [u8; 32],
+    pub bytes: [u8; LONGEST_NAME],
     pub len: usize,
 }
 
@@ -17,18 +20,18 @@ impl Name {
         ensures { λ r. ⌜ nameOf r ≡ [] ⌝ }
     {
         Name {
-            bytes: [0u8; 32],
+            bytes: [0u8; LONGEST_NAME],
             len: 0,
         }
     }
 
     // Internal: the caller has looked at the length.
     pub fn of(src: &[u8]) -> Name
-        requires { ⌜ length (now src) ≤ 32 ⌝ }
+        requires { ⌜ length (now src) ≤ longestName ⌝ }
         ensures { λ r. ⌜ nameOf r ≡ now (src .entry) ⌝ }
     {
         let n = src.len();
-        let mut bytes = [0u8; 32];
+        let mut bytes = [0u8; LONGEST_NAME];
         let mut i = 0;
         while i < n {
             bytes[i] = src[i];
@@ -40,7 +43,7 @@ impl Name {
     pub fn length(self) -> usize
         ensures { λ r. ⌜ r ≡ length (nameOf self) ⌝ }
     {
-        if self.len <= 32 {
+        if self.len <= LONGEST_NAME {
             return self.len;
         }
         0

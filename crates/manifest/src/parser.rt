@@ -10,6 +10,7 @@ use text::Number;
 ghost use mathlib.Core.Path.{_≡_};
 ghost use mathlib.Core.List.{[]};
 ghost use Rattle.ids.specs.Ids.{largest32, largest64};
+ghost use Rattle.text.specs.Class.{Classes};
 ghost use Rattle.manifest.specs.Operations.{Operation, createTable, dropTable, addRowset, deleteRowset, addVector, deleteVector, nextIds, bad, saidOf, lineSaid};
 ghost use Rattle.manifest.specs.Lines.{lastId32, lastId64, fieldAt, atEnd, oneField, twoFields, threeFields, named, tableFields, lineOf};
 ghost use Rattle.manifest.specs.Fields.{OneSays, TwoSays, ThreeSays};
@@ -23,13 +24,14 @@ const LAST_ID64: u64 = 18446744073709551614;
 
 const LARGEST64: u64 = 18446744073709551615;
 
-// A comma, and a number after it.
-fn field(s: &[u8], at: usize, limit: u64) -> Number
+// Internal, as is all that is lent the table of classes: a comma, and a number after it.
+fn field(classes: &[u8; 256], s: &[u8], at: usize, limit: u64) -> Number
+    requires { ⌜ Classes (now classes) ⌝ }
     ensures { λ r. ⌜ r ≡ fieldAt limit (now (s .entry)) at ⌝ }
 {
     if at < s.len() {
-        if text::is_comma(s[at]) {
-            return text::read_number(s, at + 1, limit);
+        if text::is_comma(classes, s[at]) {
+            return text::read_number(classes, s, at + 1, limit);
         }
     }
     Number::Nothing
@@ -51,10 +53,11 @@ pub enum Three {
     Nothing,
 }
 
-fn one_field(s: &[u8], a: u32) -> One
+fn one_field(classes: &[u8; 256], s: &[u8], a: u32) -> One
+    requires { ⌜ Classes (now classes) ⌝ }
     ensures { λ r. ⌜ OneSays a (now (s .entry)) r ⌝ }
 {
-    match field(s, 1, a as u64) {
+    match field(classes, s, 1, a as u64) {
         Number::At(x, i) => {
             if s.len() == i {
                 One::Of(x as u32)
@@ -66,11 +69,12 @@ fn one_field(s: &[u8], a: u32) -> One
     }
 }
 
-fn two_fields(s: &[u8], a: u32, b: u32) -> Two
+fn two_fields(classes: &[u8; 256], s: &[u8], a: u32, b: u32) -> Two
+    requires { ⌜ Classes (now classes) ⌝ }
     ensures { λ r. ⌜ TwoSays a b (now (s .entry)) r ⌝ }
 {
-    match field(s, 1, a as u64) {
-        Number::At(x, i) => match field(s, i, b as u64) {
+    match field(classes, s, 1, a as u64) {
+        Number::At(x, i) => match field(classes, s, i, b as u64) {
             Number::At(y, j) => {
                 if s.len() == j {
                     Two::Of(x as u32, y as u32)
@@ -84,12 +88,13 @@ fn two_fields(s: &[u8], a: u32, b: u32) -> Two
     }
 }
 
-fn three_fields(s: &[u8], a: u32, b: u32, c: u64) -> Three
+fn three_fields(classes: &[u8; 256], s: &[u8], a: u32, b: u32, c: u64) -> Three
+    requires { ⌜ Classes (now classes) ⌝ }
     ensures { λ r. ⌜ ThreeSays a b c (now (s .entry)) r ⌝ }
 {
-    match field(s, 1, a as u64) {
-        Number::At(x, i) => match field(s, i, b as u64) {
-            Number::At(y, j) => match field(s, j, c) {
+    match field(classes, s, 1, a as u64) {
+        Number::At(x, i) => match field(classes, s, i, b as u64) {
+            Number::At(y, j) => match field(classes, s, j, c) {
                 Number::At(z, k) => {
                     if s.len() == k {
                         Three::Of(x as u32, y as u32, z)
@@ -132,18 +137,19 @@ fn alone(s: &[u8], op: ManifestOperation) -> Parsed
 }
 
 // The name from `at` to the line's end, of the table t with the shape h.
-fn named_line(s: &[u8], at: usize, t: TableNo, h: u32) -> Parsed
+fn named_line(classes: &[u8; 256], s: &[u8], at: usize, t: TableNo, h: u32) -> Parsed
+    requires { ⌜ Classes (now classes) ⌝ }
     ensures { λ r. ⌜ lineSaid r ≡ named (now (s .entry)) at (createTable (t .0) h) ⌝ }
 {
     if s.len() <= at {
         return refused();
     }
-    if !text::is_comma(s[at]) {
+    if !text::is_comma(classes, s[at]) {
         return refused();
     }
     let from = at + 1;
     let rest = &s[from..];
-    if !text::is_name(rest) {
+    if !text::is_name(classes, rest) {
         return refused();
     }
     Parsed {
@@ -152,31 +158,34 @@ fn named_line(s: &[u8], at: usize, t: TableNo, h: u32) -> Parsed
     }
 }
 
-fn create_line(s: &[u8]) -> Parsed
+fn create_line(classes: &[u8; 256], s: &[u8]) -> Parsed
+    requires { ⌜ Classes (now classes) ⌝ }
     ensures { λ r. ⌜ lineSaid r ≡ tableFields lastId32 largest32 createTable (now (s .entry)) ⌝ }
 {
-    match field(s, 1, LAST_ID32 as u64) {
-        Number::At(t, i) => match field(s, i, LARGEST32 as u64) {
-            Number::At(h, j) => named_line(s, j, TableNo(t as u32), h as u32),
+    match field(classes, s, 1, LAST_ID32 as u64) {
+        Number::At(t, i) => match field(classes, s, i, LARGEST32 as u64) {
+            Number::At(h, j) => named_line(classes, s, j, TableNo(t as u32), h as u32),
             Number::Nothing => refused(),
         },
         Number::Nothing => refused(),
     }
 }
 
-fn drop_line(s: &[u8]) -> Parsed
+fn drop_line(classes: &[u8; 256], s: &[u8]) -> Parsed
+    requires { ⌜ Classes (now classes) ⌝ }
     ensures { λ r. ⌜ lineSaid r ≡ oneField lastId32 dropTable (now (s .entry)) ⌝ }
 {
-    match one_field(s, LAST_ID32) {
+    match one_field(classes, s, LAST_ID32) {
         One::Of(t) => plain(ManifestOperation::Epoch(EpochOp::DropTable(TableNo(t)))),
         One::Nothing => refused(),
     }
 }
 
-fn add_rowset_line(s: &[u8]) -> Parsed
+fn add_rowset_line(classes: &[u8; 256], s: &[u8]) -> Parsed
+    requires { ⌜ Classes (now classes) ⌝ }
     ensures { λ r. ⌜ lineSaid r ≡ twoFields lastId32 lastId32 addRowset (now (s .entry)) ⌝ }
 {
-    match two_fields(s, LAST_ID32, LAST_ID32) {
+    match two_fields(classes, s, LAST_ID32, LAST_ID32) {
         Two::Of(t, r) => plain(ManifestOperation::Epoch(EpochOp::AddRowSet(
             TableNo(t),
             RowsetNo(r),
@@ -185,10 +194,11 @@ fn add_rowset_line(s: &[u8]) -> Parsed
     }
 }
 
-fn delete_rowset_line(s: &[u8]) -> Parsed
+fn delete_rowset_line(classes: &[u8; 256], s: &[u8]) -> Parsed
+    requires { ⌜ Classes (now classes) ⌝ }
     ensures { λ r. ⌜ lineSaid r ≡ twoFields lastId32 lastId32 deleteRowset (now (s .entry)) ⌝ }
 {
-    match two_fields(s, LAST_ID32, LAST_ID32) {
+    match two_fields(classes, s, LAST_ID32, LAST_ID32) {
         Two::Of(t, r) => plain(ManifestOperation::Epoch(EpochOp::DeleteRowSet(
             TableNo(t),
             RowsetNo(r),
@@ -197,10 +207,11 @@ fn delete_rowset_line(s: &[u8]) -> Parsed
     }
 }
 
-fn add_vector_line(s: &[u8]) -> Parsed
+fn add_vector_line(classes: &[u8; 256], s: &[u8]) -> Parsed
+    requires { ⌜ Classes (now classes) ⌝ }
     ensures { λ r. ⌜ lineSaid r ≡ threeFields lastId32 lastId32 lastId64 addVector (now (s .entry)) ⌝ }
 {
-    match three_fields(s, LAST_ID32, LAST_ID32, LAST_ID64) {
+    match three_fields(classes, s, LAST_ID32, LAST_ID32, LAST_ID64) {
         Three::Of(t, r, v) => plain(ManifestOperation::Epoch(EpochOp::AddDV(
             TableNo(t),
             RowsetNo(r),
@@ -210,10 +221,11 @@ fn add_vector_line(s: &[u8]) -> Parsed
     }
 }
 
-fn delete_vector_line(s: &[u8]) -> Parsed
+fn delete_vector_line(classes: &[u8; 256], s: &[u8]) -> Parsed
+    requires { ⌜ Classes (now classes) ⌝ }
     ensures { λ r. ⌜ lineSaid r ≡ threeFields lastId32 lastId32 lastId64 deleteVector (now (s .entry)) ⌝ }
 {
-    match three_fields(s, LAST_ID32, LAST_ID32, LAST_ID64) {
+    match three_fields(classes, s, LAST_ID32, LAST_ID32, LAST_ID64) {
         Three::Of(t, r, v) => plain(ManifestOperation::Epoch(EpochOp::DeleteDV(
             TableNo(t),
             RowsetNo(r),
@@ -223,10 +235,11 @@ fn delete_vector_line(s: &[u8]) -> Parsed
     }
 }
 
-fn next_ids_line(s: &[u8]) -> Parsed
+fn next_ids_line(classes: &[u8; 256], s: &[u8]) -> Parsed
+    requires { ⌜ Classes (now classes) ⌝ }
     ensures { λ r. ⌜ lineSaid r ≡ threeFields largest32 largest32 largest64 nextIds (now (s .entry)) ⌝ }
 {
-    match three_fields(s, LARGEST32, LARGEST32, LARGEST64) {
+    match three_fields(classes, s, LARGEST32, LARGEST32, LARGEST64) {
         Three::Of(t, r, v) => plain(ManifestOperation::Epoch(EpochOp::NextIds(
             TableNo(t),
             RowsetNo(r),
@@ -236,8 +249,9 @@ fn next_ids_line(s: &[u8]) -> Parsed
     }
 }
 
-// The line that s is, without its newline.
-pub fn parse(s: &[u8]) -> Parsed
+// Internal. The line that s is, without its newline.
+pub fn parse(classes: &[u8; 256], s: &[u8]) -> Parsed
+    requires { ⌜ Classes (now classes) ⌝ }
     ensures { λ r. ⌜ lineSaid r ≡ lineOf (now (s .entry)) ⌝ }
 {
     if s.len() == 0 {
@@ -246,13 +260,13 @@ pub fn parse(s: &[u8]) -> Parsed
     match s[0] {
         b'B' => alone(s, ManifestOperation::Begin),
         b'E' => alone(s, ManifestOperation::End),
-        b'T' => create_line(s),
-        b'X' => drop_line(s),
-        b'A' => add_rowset_line(s),
-        b'D' => delete_rowset_line(s),
-        b'V' => add_vector_line(s),
-        b'W' => delete_vector_line(s),
-        b'N' => next_ids_line(s),
+        b'T' => create_line(classes, s),
+        b'X' => drop_line(classes, s),
+        b'A' => add_rowset_line(classes, s),
+        b'D' => delete_rowset_line(classes, s),
+        b'V' => add_vector_line(classes, s),
+        b'W' => delete_vector_line(classes, s),
+        b'N' => next_ids_line(classes, s),
         _ => refused(),
     }
 }

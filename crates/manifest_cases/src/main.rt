@@ -3,6 +3,7 @@
 use ids::RowsetNo;
 use ids::TableNo;
 use ids::VectorNo;
+use ids::name::LONGEST_NAME;
 use ids::name::Name;
 use libc::STDIN_FILENO;
 use libc::STDOUT_FILENO;
@@ -11,6 +12,7 @@ use manifest::operation::EpochOp;
 use manifest::operation::ManifestOperation;
 use manifest::operation::ParsedLine;
 use manifest::reader::LineAt;
+ghost use Rattle.text.specs.Class.{Classes};
 
 fn show_change(change: Change) {
     let n = manifest::printer::text_length(change);
@@ -28,8 +30,11 @@ fn show_change(change: Change) {
     }
 }
 
-fn show(s: &[u8]) {
-    let p = manifest::parser::parse(s);
+// Internal: it is lent the table of classes.
+fn show(classes: &[u8; 256], s: &[u8])
+    requires { ⌜ Classes (now classes) ⌝ }
+{
+    let p = manifest::parser::parse(classes, s);
     let line = p.line;
     let name = p.name;
     match line {
@@ -49,11 +54,12 @@ fn show(s: &[u8]) {
 }
 
 fn show_all(s: &[u8]) {
+    let classes = text::classes();
     let mut at: usize = 0;
     loop {
-        match manifest::reader::line_at(s, at) {
+        match manifest::reader::line_at(&classes, s, at) {
             LineAt::Line { start, end, next } => {
-                show(&s[start..end]);
+                show(&classes, &s[start..end]);
                 at = next;
             }
             LineAt::None => return,
@@ -61,12 +67,12 @@ fn show_all(s: &[u8]) {
     }
 }
 
-// A create with the first `len` bytes of 32 bytes `a`.
+// A create with the first `len` of as many bytes `a` as a name may have.
 fn create(table: u32, len: usize) -> Change {
     Change {
         op: EpochOp::CreateTable(TableNo(table), 4294967295),
         name: Name {
-            bytes: [97u8; 32],
+            bytes: [97u8; LONGEST_NAME],
             len,
         },
     }
@@ -80,8 +86,8 @@ fn plain(op: EpochOp) -> Change {
 }
 
 fn show_changes() {
-    show_change(create(4294967294, 32));
-    show_change(create(4294967294, 33));
+    show_change(create(4294967294, LONGEST_NAME));
+    show_change(create(4294967294, LONGEST_NAME + 1));
     show_change(create(4294967294, 0));
     show_change(create(4294967295, 1));
     show_change(plain(EpochOp::DropTable(TableNo(4294967295))));

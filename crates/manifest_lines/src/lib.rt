@@ -2,6 +2,7 @@
 // slice is walked by hand; the work is done by `manifest::reader::line_at`. Callers go by `next_line`.
 use manifest::reader::LineAt;
 ghost use mathlib.Core.Path.{_≡_};
+ghost use Rattle.text.specs.Class.{Classes};
 ghost use Rattle.manifest.specs.Split.{lineAt};
 
 pub struct ManifestLines<'a> {
@@ -23,16 +24,18 @@ pub fn moved<'a>(lines: ManifestLines<'a>, at: usize) -> ManifestLines<'a>
     ManifestLines { src: lines.src, at }
 }
 
-// The line at the reader's place.
-pub fn line<'a>(lines: ManifestLines<'a>) -> LineAt
+// Internal, as is the next: it is lent the table of classes. The line at the reader's place.
+pub fn line<'t, 'a>(classes: &'t [u8; 256], lines: ManifestLines<'a>) -> LineAt
+    requires { ⌜ Classes (now classes) ⌝ }
     ensures { λ r. ⌜ r ≡ lineAt (now (lines .entry .src)) (lines .entry .at) ⌝ }
 {
-    manifest::reader::line_at(lines.src, lines.at)
+    manifest::reader::line_at(classes, lines.src, lines.at)
 }
 
 // The line that starts at a place of a manifest. Its parameters are plain: whoever calls it needs no walk.
-pub fn next_line(src: &[u8], at: usize) -> LineAt
+pub fn next_line(classes: &[u8; 256], src: &[u8], at: usize) -> LineAt
+    requires { ⌜ Classes (now classes) ⌝ }
     ensures { λ r. ⌜ r ≡ lineAt (now (src .entry)) at ⌝ }
 {
-    line(moved(new(src), at))
+    line(classes, moved(new(src), at))
 }

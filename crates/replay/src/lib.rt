@@ -22,6 +22,7 @@ ghost use lib.ListN.{length, take};
 ghost use Rattle.lists.specs.Order.{same};
 ghost use Rattle.lists.specs.Keyed.{anyOf, has};
 ghost use Rattle.ids.specs.Names.{nameOf};
+ghost use Rattle.text.specs.Class.{Classes};
 ghost use Rattle.manifest.specs.Operations.{Operation, createTable, dropTable, addRowset, deleteRowset, addVector, deleteVector, nextIds, end, operation, operationBy, operationOf, lineSaid};
 ghost use Rattle.manifest.specs.Lines.{lineOf};
 ghost use Rattle.manifest.specs.Split.{lines};
@@ -129,12 +130,13 @@ fn accepted(sets: Sets) -> Applied
 fn line_here(src: &[u8], at: usize) -> Parsed
     ensures { λ r. ⌜ lineSaid r ≡ lineHere (now (src .entry)) at ⌝ }
 {
-    match manifest_lines::next_line(src, at) {
+    let classes = text::classes();
+    match manifest_lines::next_line(&classes, src, at) {
         LineAt::Line {
             start,
             end,
             next: _,
-        } => manifest::parser::parse(&src[start..end]),
+        } => manifest::parser::parse(&classes, &src[start..end]),
         LineAt::None => Parsed {
             line: ParsedLine::Bad,
             name: Name::none(),
@@ -188,7 +190,8 @@ fn said_here(src: &[u8], at: usize) -> Said
 }
 
 // Whether the line ends in a comma and the name, looked at from its end. Where it does not, it creates no table of that name.
-fn ends_in(line: &[u8], name: Name) -> bool
+fn ends_in(classes: &[u8; 256], line: &[u8], name: Name) -> bool
+    requires { ⌜ Classes (now classes) ⌝ }
     ensures { λ r. ⌜ (r ≡ false → same (nameSaid (lineOf (now (line .entry)))) (nameOf name) ≡ false) ⌝ }
 {
     let k = name.length();
@@ -199,7 +202,7 @@ fn ends_in(line: &[u8], name: Name) -> bool
         return false;
     }
     let from = line.len() - k;
-    if !text::is_comma(line[from - 1]) {
+    if !text::is_comma(classes, line[from - 1]) {
         return false;
     }
     let mut i = k;
@@ -215,13 +218,14 @@ fn ends_in(line: &[u8], name: Name) -> bool
 }
 
 // Only a line that ends so is parsed: a frame may hold many tables, and each `T` looks at every live one.
-fn names(line: &[u8], name: Name) -> bool
+fn names(classes: &[u8; 256], line: &[u8], name: Name) -> bool
+    requires { ⌜ Classes (now classes) ⌝ }
     ensures { λ r. ⌜ r ≡ same (nameSaid (lineOf (now (line .entry)))) (nameOf name) ⌝ }
 {
-    if !ends_in(line, name) {
+    if !ends_in(classes, line, name) {
         return false;
     }
-    let said = said_line(manifest::parser::parse(line));
+    let said = said_line(manifest::parser::parse(classes, line));
     let own = said.name;
     own.same(name)
 }
@@ -229,12 +233,13 @@ fn names(line: &[u8], name: Name) -> bool
 fn named(src: &[u8], at: usize, name: Name) -> bool
     ensures { λ r. ⌜ r ≡ same (nameSaid (lineHere (now (src .entry)) at)) (nameOf name) ⌝ }
 {
-    match manifest_lines::next_line(src, at) {
+    let classes = text::classes();
+    match manifest_lines::next_line(&classes, src, at) {
         LineAt::Line {
             start,
             end,
             next: _,
-        } => names(&src[start..end], name),
+        } => names(&classes, &src[start..end], name),
         LineAt::None => Name::none().same(name),
     }
 }
@@ -505,9 +510,10 @@ fn operation_of(p: Parsed, next: usize) -> Here
 fn operation_at(src: &[u8], at: usize) -> Here
     ensures { λ r. ⌜ HereSays (now (src .entry)) at r ⌝ }
 {
-    match manifest_lines::next_line(src, at) {
+    let classes = text::classes();
+    match manifest_lines::next_line(&classes, src, at) {
         LineAt::Line { start, end, next } => {
-            let p = manifest::parser::parse(&src[start..end]);
+            let p = manifest::parser::parse(&classes, &src[start..end]);
             operation_of(p, next)
         }
         LineAt::None => not_here(),
@@ -777,6 +783,7 @@ fn no_sets() -> Sets
 
 // All complete lines, one after another.
 fn run(
+    classes: &[u8; 256],
     src: &[u8],
     ids: &mut [u64],
     places: &mut [u64],
@@ -785,7 +792,7 @@ fn run(
     pairs: &mut [u64],
     vectors: &mut [u64],
 ) -> Applied
-    requires { ⌜ (length (now ids) ≡ 616) × (length (now places) ≡ 616) × (length (now tables) ≡ 856) × (length (now rowsets) ≡ 856) × (length (now pairs) ≡ 856) × (length (now vectors) ≡ 856) × (length (now src) ≤ 65536) ⌝ }
+    requires { ⌜ (length (now ids) ≡ 616) × (length (now places) ≡ 616) × (length (now tables) ≡ 856) × (length (now rowsets) ≡ 856) × (length (now pairs) ≡ 856) × (length (now vectors) ≡ 856) × (length (now src) ≤ 65536) × Classes (now classes) ⌝ }
     ensures { λ r. ⌜ RunIs (linesRead (lines (now (src .entry))) atStart) (now (src .entry)) (slices (now (ids .exit)) (now (places .exit)) (now (tables .exit)) (now (rowsets .exit)) (now (pairs .exit)) (now (vectors .exit))) r ⌝ }
 {
     let mut sets = no_sets();
@@ -793,9 +800,9 @@ fn run(
     let mut at: usize = 0;
     let mut n: usize = 1;
     loop {
-        match manifest_lines::next_line(src, at) {
+        match manifest_lines::next_line(classes, src, at) {
             LineAt::Line { start, end, next } => {
-                let p = manifest::parser::parse(&src[start..end]);
+                let p = manifest::parser::parse(classes, &src[start..end]);
                 let turn = read_line(
                     src,
                     next,
@@ -845,6 +852,7 @@ pub fn replay(src: &[u8]) -> Replayed
     if 65536 < src.len() {
         return no(Refusal::ManifestTooLong);
     }
+    let classes = text::classes();
     let mut ids = [0u64; 616];
     let mut places = [0u64; 616];
     let mut tables = [0u64; 856];
@@ -852,6 +860,7 @@ pub fn replay(src: &[u8]) -> Replayed
     let mut pairs = [0u64; 856];
     let mut vectors = [0u64; 856];
     let done = run(
+        &classes,
         src,
         &mut ids,
         &mut places,

@@ -8,6 +8,7 @@ use manifest::operation::Change;
 use manifest::operation::EpochOp;
 use manifest::operation::ManifestOperation;
 use manifest::operation::ParsedLine;
+ghost use Rattle.text.specs.Class.{Classes};
 
 // What stands for a word that is no operation: commit refuses it by 2 at its place.
 fn no_change() -> Change {
@@ -17,8 +18,11 @@ fn no_change() -> Change {
     }
 }
 
-fn change(s: &[u8]) -> Change {
-    let parsed = manifest::parser::parse(s);
+// Internal: it is lent the table of classes.
+fn change(classes: &[u8; 256], s: &[u8]) -> Change
+    requires { ⌜ Classes (now classes) ⌝ }
+{
+    let parsed = manifest::parser::parse(classes, s);
     let line = parsed.line;
     let name = parsed.name;
     match line {
@@ -33,6 +37,7 @@ fn change(s: &[u8]) -> Change {
 
 // A blank before each operation. The count is that of all; the places hold the first 600.
 pub fn batch(s: &[u8]) -> Batch {
+    let classes = text::classes();
     let none = no_change();
     let mut batch = Batch {
         changes: [none; 600],
@@ -44,7 +49,7 @@ pub fn batch(s: &[u8]) -> Batch {
         let from = at + 1;
         let end = crate::word_end(s, from);
         if k < 600 {
-            batch.changes[k] = change(&s[from..end]);
+            batch.changes[k] = change(&classes, &s[from..end]);
         }
         k += 1;
         at = end;

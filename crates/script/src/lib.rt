@@ -3,6 +3,7 @@ use text::Number;
 ghost use mathlib.Core.Path.{_≡_};
 ghost use Prim.Native.Nat.{_≤_};
 ghost use lib.ListN.{length};
+ghost use Rattle.text.specs.Class.{Classes};
 
 pub mod batches;
 pub mod words;
@@ -39,9 +40,10 @@ pub fn line_end(s: &[u8], at: usize, to: usize) -> usize
     requires { ⌜ (at ≤ to) × (to ≤ length (now s)) ⌝ }
     ensures { λ r. ⌜ (at ≤ r) × (r ≤ to) ⌝ }
 {
+    let classes = text::classes();
     let mut i = at;
     while i < to {
-        if text::is_newline(s[i]) {
+        if text::is_newline(&classes, s[i]) {
             return i;
         }
         i += 1;
@@ -51,9 +53,10 @@ pub fn line_end(s: &[u8], at: usize, to: usize) -> usize
 
 // The place after the last newline before a place, or 0.
 pub fn last_line(s: &[u8], to: usize) -> usize {
+    let classes = text::classes();
     let mut i = least(to, s.len());
     while 0 < i {
-        if text::is_newline(s[i - 1]) {
+        if text::is_newline(&classes, s[i - 1]) {
             return i;
         }
         i -= 1;
@@ -95,7 +98,15 @@ pub fn least(n: usize, most: usize) -> usize
 
 // A word that is a number.
 pub fn number(s: &[u8], limit: u64) -> Found {
-    match text::read_number(s, 0, limit) {
+    let classes = text::classes();
+    number_by(&classes, s, limit)
+}
+
+// Internal: it is lent the table of classes.
+fn number_by(classes: &[u8; 256], s: &[u8], limit: u64) -> Found
+    requires { ⌜ Classes (now classes) ⌝ }
+{
+    match text::read_number(classes, s, 0, limit) {
         Number::At(n, i) => {
             if i == s.len() {
                 Found::Of(n)
@@ -134,12 +145,13 @@ fn put(out: &mut [u32], k: usize, row: u32) {
 
 // A blank before each word, and every word a row: how many rows there are. As many as there are places are put there.
 pub fn rows(s: &[u8], out: &mut [u32]) -> Count {
+    let classes = text::classes();
     let mut at: usize = 0;
     let mut k: usize = 0;
     while at < s.len() {
         let from = at + 1;
         let end = word_end(s, from);
-        match number(&s[from..end], 4294967295) {
+        match number_by(&classes, &s[from..end], 4294967295) {
             Found::Of(n) => put(out, k, narrow(n)),
             Found::Nothing => return Count::Nothing,
         }

@@ -40,7 +40,7 @@ fn reopened(src: &[u8], out: &mut [u8]) -> Told {
 
 // A blank for a newline.
 fn byte(b: u8) {
-    if text::is_newline(b) {
+    if b == b'\n' {
         say(b" ");
     } else {
         let one = [b; 1];

@@ -65,7 +65,8 @@ fn room(s: &[u8]) -> usize {
 }
 
 fn number(s: &[u8], at: usize) -> usize {
-    match text::read_number(s, at, 18625) {
+    let classes = text::classes();
+    match text::read_number(&classes, s, at, 18625) {
         Number::At(n, _) => n as usize,
         Number::Nothing => 0,
     }
@@ -105,7 +106,8 @@ fn put_lines(src: &mut [u8], at: usize, s: &[u8], times: usize) -> usize {
 
 // `*N,line`.
 fn repeated(src: &mut [u8], at: usize, s: &[u8]) -> usize {
-    match text::read_number(s, 1, 65537) {
+    let classes = text::classes();
+    match text::read_number(&classes, s, 1, 65537) {
         Number::At(n, i) => {
             if i < s.len() {
                 return put_lines(src, at, &s[i + 1..], n as usize);
@@ -156,10 +158,11 @@ fn line(case: Case, s: &[u8], src: &mut [u8]) -> Case {
 }
 
 fn run(s: &[u8], src: &mut [u8]) {
+    let classes = text::classes();
     let mut case = Case::none();
     let mut at: usize = 0;
     loop {
-        match manifest::reader::line_at(s, at) {
+        match manifest::reader::line_at(&classes, s, at) {
             LineAt::Line { start, end, next } => {
                 case = line(case, &s[start..end], src);
                 at = next;

@@ -6,7 +6,7 @@ use Prim.Native.Nat.{ℕ, _+_, _<_, _≤_}
 use native.Mathlib.Omega.{arith}
 use lib.Dec.{leb, ltb, eqb}
 use borrow.Author.Tests.{leb-true, ltb-true, le-leb, lt-ltb, ne-eqb, eqb-true}
-use Rattle.lists.proofs.Tests.{both}
+use Rattle.lists.proofs.Tests.{both, by-cases}
 use Rattle.lists.specs.Keyed.{allOf, anyOf}
 use Rattle.text.specs.Class.{classOf, isDigit, isLower, isCapital, isComma, isNewline}
 use Rattle.text.specs.Name.{isNameByte}
@@ -37,6 +37,35 @@ second false false true d e h = refl
 second false false false true e h = refl
 second false false false false true h = refl
 second false false false false false h = refl
+
+-- a byte that is no comma has another class, and so for a newline
+fourth : (a b c e : Bool) → eqb (cond a 1 (cond b 2 (cond c 3 (cond e 5 0)))) 4 ≡ false
+fourth true b c e = refl
+fourth false true c e = refl
+fourth false false true e = refl
+fourth false false false true = refl
+fourth false false false false = refl
+
+fifth : (a b c d : Bool) → eqb (cond a 1 (cond b 2 (cond c 3 (cond d 4 0)))) 5 ≡ false
+fifth true b c d = refl
+fifth false true c d = refl
+fifth false false true d = refl
+fifth false false false true = refl
+fifth false false false false = refl
+
+pub class-comma : (b : ℕ) → eqb (classOf b) 4 ≡ isComma b
+unfolding classOf isDigit isLower isCapital
+class-comma b =
+    by-cases (eqb b 44)
+    (λ e. let q : b ≡ 44 = eqb-true b 44 e in rw q)
+    (λ e. rw e (fourth (isDigit b) (isLower b) (isCapital b) (isNewline b)))
+
+pub class-newline : (b : ℕ) → eqb (classOf b) 5 ≡ isNewline b
+unfolding classOf isDigit isLower isCapital
+class-newline b =
+    by-cases (eqb b 10)
+    (λ e. let q : b ≡ 10 = eqb-true b 10 e in rw q)
+    (λ e. rw e (fifth (isDigit b) (isLower b) (isCapital b) (isComma b)))
 
 pub class-digit : (b : ℕ) → eqb (classOf b) 1 ≡ isDigit b
 unfolding classOf

@@ -12,7 +12,7 @@ use borrow.Author.Tests.{lt-ltb, le-leb, lt-leb, ltb-true, leb-true}
 use Rattle.lists.specs.Keyed.{allOf, anyOf}
 use Rattle.lists.proofs.Tests.{by-cases, both}
 use Rattle.ids.specs.declared.name.Name.{Name}
-use Rattle.ids.specs.Names.{nameOf}
+use Rattle.ids.specs.Names.{longestName, nameOf}
 use Rattle.text.specs.Class.{isComma, isNewline}
 use Rattle.text.specs.Name.{isNameByte, isName}
 use Rattle.text.proofs.Bytes.{name-bytes-newline, name-bytes-comma}
@@ -40,35 +40,35 @@ module _ (s : List ℕ) where
   unfolding isName
   name-empty h = rw h
 
-  pub name-long : 32 < length s → false ≡ isName s
+  pub name-long : longestName < length s → false ≡ isName s
   unfolding isName
-  name-long h = rw (lt-ltb 0 (length s) (omega arith), lt-leb (length s) 32 h)
+  name-long h = rw (lt-ltb 0 (length s) (omega arith), lt-leb (length s) longestName h)
 
-  pub name-all : (length s ≡ 0 → ⊥) → length s ≤ 32 → allNameFrom s 0 ≡ isName s
+  pub name-all : (length s ≡ 0 → ⊥) → length s ≤ longestName → allNameFrom s 0 ≡ isName s
   unfolding isName allNameFrom
-  name-all p h = rw (lt-ltb 0 (length s) (omega arith), le-leb (length s) 32 h)
+  name-all p h = rw (lt-ltb 0 (length s) (omega arith), le-leb (length s) longestName h)
 
   -- a name's length, and its bytes
-  pub name-length : isName s ≡ true → (0 < length s) × (length s ≤ 32)
+  pub name-length : isName s ≡ true → (0 < length s) × (length s ≤ longestName)
   unfolding isName
   name-length h =
-      let a = both (ltb 0 (length s) && leb (length s) 32) (allOf isNameByte s) h in
-      let b = both (ltb 0 (length s)) (leb (length s) 32) (a .0) in
-      (ltb-true 0 (length s) (b .0), leb-true (length s) 32 (b .1))
+      let a = both (ltb 0 (length s) && leb (length s) longestName) (allOf isNameByte s) h in
+      let b = both (ltb 0 (length s)) (leb (length s) longestName) (a .0) in
+      (ltb-true 0 (length s) (b .0), leb-true (length s) longestName (b .1))
 
   pub name-newline : isName s ≡ true → anyOf isNewline s ≡ false
   unfolding isName
-  name-newline h = name-bytes-newline s (both (ltb 0 (length s) && leb (length s) 32) (allOf isNameByte s) h .1)
+  name-newline h = name-bytes-newline s (both (ltb 0 (length s) && leb (length s) longestName) (allOf isNameByte s) h .1)
 
   pub name-comma : isName s ≡ true → anyOf isComma s ≡ false
   unfolding isName
-  name-comma h = name-bytes-comma s (both (ltb 0 (length s) && leb (length s) 32) (allOf isNameByte s) h .1)
+  name-comma h = name-bytes-comma s (both (ltb 0 (length s) && leb (length s) longestName) (allOf isNameByte s) h .1)
 
 -- the bytes of a name are the first of its array
-pub name-front : (n : Name) → length (n .bytes) ≡ 32 → take (length (nameOf n)) (n .bytes) ≡ nameOf n
+pub name-front : (n : Name) → length (n .bytes) ≡ longestName → take (length (nameOf n)) (n .bytes) ≡ nameOf n
 unfolding nameOf
 name-front n f =
-    by-cases (leb (n .len) 32)
-    (λ e. let l : length (take (n .len) (n .bytes)) ≡ n .len = let q = leb-true (n .len) 32 e in length-take-le (n .len) (n .bytes) (omega arith) in
+    by-cases (leb (n .len) longestName)
+    (λ e. let l : length (take (n .len) (n .bytes)) ≡ n .len = let q = leb-true (n .len) longestName e in length-take-le (n .len) (n .bytes) (omega arith) in
     rw (e, l))
     (λ e. rw e)

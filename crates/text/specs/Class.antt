@@ -1,7 +1,10 @@
 -- The class of a byte: digit 1, a-z or _ 2, capital 3, comma 4, newline 5, else 0. Assumes nothing.
-use Prim.Native.Nat.{ℕ}
+use Prim.Native.Nat.{ℕ, _<_}
+use mathlib.Core.Path.{_≡_}
 use mathlib.Core.Bool.{Bool, cond, _&&_, _||_}
+use mathlib.Core.List.{List}
 use lib.Dec.{leb, ltb, eqb}
+use lib.ListN.{getD}
 
 -- The classes.
 abbrev pub otherClass : ℕ
@@ -51,3 +54,7 @@ classOf b =
     (cond (isCapital b) capitalClass
     (cond (isComma b) commaClass
     (cond (isNewline b) newlineClass otherClass))))
+
+-- a table of classes, with an entry for each byte
+pub record Classes (table : List ℕ) : Type 0 where
+  pub rule : (b : ℕ) → b < 256 → getD table b 0 ≡ classOf b

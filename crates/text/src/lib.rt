@@ -1,4 +1,5 @@
 // Bytes by their class, names, and decimal numbers: read from a place of a slice and written to one.
+use ids::name::LONGEST_NAME;
 use ids::name::Name;
 ghost use mathlib.Core.Path.{_≡_};
 ghost use Prim.Native.Nat.{_+_, _≤_, _<_};
@@ -6,316 +7,74 @@ ghost use mathlib.Core.List.{[], _∷_};
 ghost use lib.ListN.{length};
 ghost use Rattle.lists.specs.Written.{Wrote};
 ghost use Rattle.ids.specs.Names.{nameOf};
-ghost use Rattle.text.specs.Class.{classOf, isDigit, isComma, isNewline};
+ghost use Rattle.text.specs.Class.{Classes, classOf, isDigit, isComma, isNewline};
 ghost use Rattle.text.specs.Name.{isNameByte, isName};
 ghost use Rattle.text.specs.Decimal.{digits, readAt};
 ghost use Rattle.text.specs.Laws.{NumbersAgree};
 
-// The class of each byte.
-const CLASS: [u8; 256] = [
-    0,
-    0,
-    0,
-    0,
-    0,
-    0,
-    0,
-    0,
-    0,
-    0,
-    5,
-    0,
-    0,
-    0,
-    0,
-    0,
-    0,
-    0,
-    0,
-    0,
-    0,
-    0,
-    0,
-    0,
-    0,
-    0,
-    0,
-    0,
-    0,
-    0,
-    0,
-    0,
-    0,
-    0,
-    0,
-    0,
-    0,
-    0,
-    0,
-    0,
-    0,
-    0,
-    0,
-    0,
-    4,
-    0,
-    0,
-    0,
-    1,
-    1,
-    1,
-    1,
-    1,
-    1,
-    1,
-    1,
-    1,
-    1,
-    0,
-    0,
-    0,
-    0,
-    0,
-    0,
-    0,
-    3,
-    3,
-    3,
-    3,
-    3,
-    3,
-    3,
-    3,
-    3,
-    3,
-    3,
-    3,
-    3,
-    3,
-    3,
-    3,
-    3,
-    3,
-    3,
-    3,
-    3,
-    3,
-    3,
-    3,
-    3,
-    3,
-    0,
-    0,
-    0,
-    0,
-    2,
-    0,
-    2,
-    2,
-    2,
-    2,
-    2,
-    2,
-    2,
-    2,
-    2,
-    2,
-    2,
-    2,
-    2,
-    2,
-    2,
-    2,
-    2,
-    2,
-    2,
-    2,
-    2,
-    2,
-    2,
-    2,
-    2,
-    2,
-    0,
-    0,
-    0,
-    0,
-    0,
-    0,
-    0,
-    0,
-    0,
-    0,
-    0,
-    0,
-    0,
-    0,
-    0,
-    0,
-    0,
-    0,
-    0,
-    0,
-    0,
-    0,
-    0,
-    0,
-    0,
-    0,
-    0,
-    0,
-    0,
-    0,
-    0,
-    0,
-    0,
-    0,
-    0,
-    0,
-    0,
-    0,
-    0,
-    0,
-    0,
-    0,
-    0,
-    0,
-    0,
-    0,
-    0,
-    0,
-    0,
-    0,
-    0,
-    0,
-    0,
-    0,
-    0,
-    0,
-    0,
-    0,
-    0,
-    0,
-    0,
-    0,
-    0,
-    0,
-    0,
-    0,
-    0,
-    0,
-    0,
-    0,
-    0,
-    0,
-    0,
-    0,
-    0,
-    0,
-    0,
-    0,
-    0,
-    0,
-    0,
-    0,
-    0,
-    0,
-    0,
-    0,
-    0,
-    0,
-    0,
-    0,
-    0,
-    0,
-    0,
-    0,
-    0,
-    0,
-    0,
-    0,
-    0,
-    0,
-    0,
-    0,
-    0,
-    0,
-    0,
-    0,
-    0,
-    0,
-    0,
-    0,
-    0,
-    0,
-    0,
-    0,
-    0,
-    0,
-    0,
-    0,
-    0,
-    0,
-    0,
-    0,
-    0,
-    0,
-    0,
-    0,
-    0,
-    0,
-    0,
-    0,
-    0,
-    0,
-    0,
-];
+pub mod class;
 
 // The classes that are asked for.
 const DIGIT: u8 = 1;
 
 const LOWER: u8 = 2;
 
-const LONGEST_NAME: usize = 32;
+const COMMA: u8 = 4;
 
-pub fn class_of(b: u8) -> u8
+const NEWLINE: u8 = 5;
+
+// The table of classes. The compiler copies a constant array wherever it is indexed, so a call takes the table into a local
+// once and lends it to all that looks at bytes.
+pub fn classes() -> [u8; 256]
+    ensures { λ r. ⌜ Classes r ⌝ }
+{
+    class::CLASS
+}
+
+// Internal, as is all that is lent the table.
+pub fn class_of(classes: &[u8; 256], b: u8) -> u8
+    requires { ⌜ Classes (now classes) ⌝ }
     ensures { λ r. ⌜ r ≡ classOf b ⌝ }
 {
     let i = b as usize;
-    CLASS[i]
+    classes[i]
 }
 
-pub fn is_digit(b: u8) -> bool
+pub fn is_digit(classes: &[u8; 256], b: u8) -> bool
+    requires { ⌜ Classes (now classes) ⌝ }
     ensures { λ r. ⌜ r ≡ isDigit b ⌝ }
 {
-    class_of(b) == DIGIT
+    class_of(classes, b) == DIGIT
 }
 
-// A class of one byte is told without the table, which the compiler copies wherever it is read.
-pub fn is_comma(b: u8) -> bool
+pub fn is_comma(classes: &[u8; 256], b: u8) -> bool
+    requires { ⌜ Classes (now classes) ⌝ }
     ensures { λ r. ⌜ r ≡ isComma b ⌝ }
 {
-    b == b','
+    class_of(classes, b) == COMMA
 }
 
-pub fn is_newline(b: u8) -> bool
+pub fn is_newline(classes: &[u8; 256], b: u8) -> bool
+    requires { ⌜ Classes (now classes) ⌝ }
     ensures { λ r. ⌜ r ≡ isNewline b ⌝ }
 {
-    b == b'\n'
+    class_of(classes, b) == NEWLINE
 }
 
 // a-z, 0-9 or `_`.
-pub fn is_name_byte(b: u8) -> bool
+pub fn is_name_byte(classes: &[u8; 256], b: u8) -> bool
+    requires { ⌜ Classes (now classes) ⌝ }
     ensures { λ r. ⌜ r ≡ isNameByte b ⌝ }
 {
-    let k = class_of(b);
+    let k = class_of(classes, b);
     if k == DIGIT {
         return true;
     }
     k == LOWER
 }
 
-pub fn is_name(s: &[u8]) -> bool
+pub fn is_name(classes: &[u8; 256], s: &[u8]) -> bool
+    requires { ⌜ Classes (now classes) ⌝ }
     ensures { λ r. ⌜ r ≡ isName (now (s .entry)) ⌝ }
 {
     if s.len() == 0 {
@@ -326,7 +85,7 @@ pub fn is_name(s: &[u8]) -> bool
     }
     let mut i = 0;
     while i < s.len() {
-        if !is_name_byte(s[i]) {
+        if !is_name_byte(classes, s[i]) {
             return false;
         }
         i += 1;
@@ -339,7 +98,8 @@ pub fn valid_name(n: Name) -> bool
 {
     let k = n.length();
     let bytes = n.bytes;
-    is_name(&bytes[..k])
+    let classes = classes();
+    is_name(&classes, &bytes[..k])
 }
 
 // A number and the place after it, or nothing.
@@ -355,14 +115,15 @@ fn wide(x: u8) -> u64
 }
 
 // The number that starts at `at`, without leading zeros and at most `limit`.
-pub fn read_number(s: &[u8], at: usize, limit: u64) -> Number
+pub fn read_number(classes: &[u8; 256], s: &[u8], at: usize, limit: u64) -> Number
+    requires { ⌜ Classes (now classes) ⌝ }
     ensures { λ r. ⌜ r ≡ readAt limit (now (s .entry)) at ⌝ }
 {
     if s.len() <= at {
         return Number::Nothing;
     }
     let first = s[at];
-    if !is_digit(first) {
+    if !is_digit(classes, first) {
         return Number::Nothing;
     }
     let mut n = wide(first - b'0');
@@ -372,7 +133,7 @@ pub fn read_number(s: &[u8], at: usize, limit: u64) -> Number
     let mut i = at + 1;
     while i < s.len() {
         let b = s[i];
-        if !is_digit(b) {
+        if !is_digit(classes, b) {
             return Number::At(n, i);
         }
         if n == 0 {

@@ -4,9 +4,13 @@ use libc::STDIN_FILENO;
 use libc::STDOUT_FILENO;
 use text::Number;
 ghost use Prim.Native.Nat.{_≤_};
+ghost use Rattle.text.specs.Class.{Classes};
 
-fn show_number(s: &[u8], limit: u64) {
-    match text::read_number(s, 0, limit) {
+// Internal, as is the next: it is lent the table of classes.
+fn show_number(classes: &[u8; 256], s: &[u8], limit: u64)
+    requires { ⌜ Classes (now classes) ⌝ }
+{
+    match text::read_number(classes, s, 0, limit) {
         Number::At(n, i) => {
             if i == s.len() {
                 let mut out = [0u8; 20];
@@ -26,17 +30,19 @@ fn show_number(s: &[u8], limit: u64) {
     }
 }
 
-fn show(s: &[u8]) {
+fn show(classes: &[u8; 256], s: &[u8])
+    requires { ⌜ Classes (now classes) ⌝ }
+{
     if 0 < s.len() {
-        io::print_decimal(STDOUT_FILENO, text::class_of(s[0]) as u64);
+        io::print_decimal(STDOUT_FILENO, text::class_of(classes, s[0]) as u64);
     } else {
         io::write_all(STDOUT_FILENO, b"-");
     }
     io::write_all(STDOUT_FILENO, b" ");
-    show_number(s, 18446744073709551615);
+    show_number(classes, s, 18446744073709551615);
     io::write_all(STDOUT_FILENO, b" ");
-    show_number(s, 4294967294);
-    if text::is_name(s) {
+    show_number(classes, s, 4294967294);
+    if text::is_name(classes, s) {
         io::write_all(STDOUT_FILENO, b" name\n");
     } else {
         io::write_all(STDOUT_FILENO, b" -\n");
@@ -44,11 +50,12 @@ fn show(s: &[u8]) {
 }
 
 fn show_all(s: &[u8]) {
+    let classes = text::classes();
     let mut from: usize = 0;
     let mut i: usize = 0;
     while i < s.len() {
-        if text::is_newline(s[i]) {
-            show(&s[from..i]);
+        if text::is_newline(&classes, s[i]) {
+            show(&classes, &s[from..i]);
             from = i + 1;
         }
         i += 1;

@@ -4,6 +4,7 @@ ghost use Prim.Native.Nat.{_≤_};
 
 // The numbers after the commas; 0 for each that is not there.
 pub fn fields(s: &[u8]) -> [u64; 6] {
+    let classes = text::classes();
     let mut f = [0u64; 6];
     let mut at: usize = 2;
     let mut k: usize = 0;
@@ -11,7 +12,7 @@ pub fn fields(s: &[u8]) -> [u64; 6] {
         if s.len() <= at {
             return f;
         }
-        match text::read_number(s, at + 1, 18446744073709551615) {
+        match text::read_number(&classes, s, at + 1, 18446744073709551615) {
             Number::At(n, i) => {
                 f[k] = n;
                 at = i;

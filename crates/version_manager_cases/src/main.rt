@@ -57,11 +57,12 @@ fn line(bench: Bench, s: &[u8]) -> Bench {
 }
 
 fn run(s: &[u8]) {
+    let classes = text::classes();
     let mut bench = Bench::fresh();
     let mut from: usize = 0;
     let mut i: usize = 0;
     while i < s.len() {
-        if text::is_newline(s[i]) {
+        if text::is_newline(&classes, s[i]) {
             bench = line(bench, &s[from..i]);
             from = i + 1;
         }

@@ -9,10 +9,13 @@ use Rattle.manifest_cases.proofs.show_all.Statement.{statement}
 use Rattle.manifest_cases.proofs.show_all.Tie as tie
 
 abbrev Inv-loop : tie.InvT-loop
-Inv-loop s at₀ at = at ≤ length s
+Inv-loop s classes at₀ at = at ≤ length s
 
 abbrev μ-loop : tie.MeasureT-loop
-μ-loop s at₀ at = length s - at
+μ-loop s classes at₀ at = length s - at
+
+classes-requires : tie.Need-classes-requires Inv-loop μ-loop
+classes-requires c κs = search needs
 
 loop-holds : tie.Need-loop-holds Inv-loop μ-loop
 loop-holds c = search needs
@@ -24,22 +27,22 @@ enum-known-start : tie.Need-enum-known-start Inv-loop μ-loop
 enum-known-start c = search needs
 
 sub-show : tie.Need-sub-show Inv-loop μ-loop
-sub-show c = let p = line-placed _ _ _ _ _ (sym (c .before .before .before .line-at .ensures) ∙ c .before .start .given .1) in omega arith
+sub-show c = let p = line-placed _ _ _ _ _ (sym (c .before .before .before .before .line-at .ensures) ∙ c .before .before .start .given .1) in omega arith
 
 part-show-start : tie.Need-part-show-start Inv-loop μ-loop
-part-show-start c = let p = line-placed _ _ _ _ _ (sym (c .before .before .before .line-at .ensures) ∙ c .before .start .given .1) in omega arith
+part-show-start c = let p = line-placed _ _ _ _ _ (sym (c .before .before .before .before .line-at .ensures) ∙ c .before .before .start .given .1) in omega arith
 
 part-show-end : tie.Need-part-show-end Inv-loop μ-loop
-part-show-end c = let p = line-placed _ _ _ _ _ (sym (c .before .before .before .line-at .ensures) ∙ c .before .start .given .1) in omega arith
+part-show-end c = let p = line-placed _ _ _ _ _ (sym (c .before .before .before .before .line-at .ensures) ∙ c .before .before .start .given .1) in omega arith
 
 show-requires : tie.Need-show-requires Inv-loop μ-loop
 show-requires c κs = search needs
 
 loop-less : tie.Need-loop-less Inv-loop μ-loop
-loop-less c = let p = line-placed _ _ _ _ _ (sym (c .before .before .before .before .before .line-at .ensures) ∙ c .before .before .before .start .given .1) in omega arith
+loop-less c = let p = line-placed _ _ _ _ _ (sym (c .before .before .before .before .before .before .line-at .ensures) ∙ c .before .before .before .before .start .given .1) in omega arith
 
 loop-again : tie.Need-loop-again Inv-loop μ-loop
-loop-again c = let p = line-placed _ _ _ _ _ (sym (c .before .before .before .before .before .line-at .ensures) ∙ c .before .before .before .start .given .1) in omega arith
+loop-again c = let p = line-placed _ _ _ _ _ (sym (c .before .before .before .before .before .before .line-at .ensures) ∙ c .before .before .before .before .start .given .1) in omega arith
 
 enum-told : tie.Need-enum-told Inv-loop μ-loop
 enum-told c = search needs
@@ -53,6 +56,7 @@ show-all-spec =
     (tie.spec
     Inv-loop
     μ-loop
+    classes-requires
     loop-holds
     line-at-requires
     enum-known-start

@@ -6,17 +6,17 @@ use native.Mathlib.Omega.{arith}
 use borrow.Author.Tests.{not-true}
 use lib.ListN.{length}
 use Rattle.lists.proofs.Places.{known}
-use Rattle.ids.specs.Names.{nameOf}
+use Rattle.ids.specs.Names.{longestName, nameOf}
 use Rattle.ids.proofs.Names.{name-room}
 use Rattle.replay.proofs.Endings.{short-line, no-comma, other-byte}
 use Rattle.replay.proofs.ends_in.Statement.{statement}
 use Rattle.replay.proofs.ends_in.Tie as tie
 
 abbrev Inv-loop : tie.InvT-loop
-Inv-loop line name k from i₀ i = (i ≤ k) × (k ≡ length (nameOf name)) × (from + k ≡ length line) × (k ≤ 32)
+Inv-loop classes line name k from i₀ i = (i ≤ k) × (k ≡ length (nameOf name)) × (from + k ≡ length line) × (k ≤ longestName)
 
 abbrev μ-loop : tie.MeasureT-loop
-μ-loop line name k from i₀ i = i
+μ-loop classes line name k from i₀ i = i
 
 length-requires : tie.Need-length-requires Inv-loop μ-loop
 length-requires c κs = search known
@@ -27,7 +27,7 @@ returns c = λ h. absurd (true≢false h)
 returns-2 : tie.Need-returns-2 Inv-loop μ-loop
 returns-2 c =
     let e = c .before .before .length .ensures in
-    λ h. short-line _ (c .before .before .before .before .args .t2) (omega (arith, e, c .before .if1 .left)) (omega (arith, e, c .if2 .taken))
+    λ h. short-line _ (c .before .before .before .before .args .t3) (omega (arith, e, c .before .if1 .left)) (omega (arith, e, c .if2 .taken))
 
 sub-from : tie.Need-sub-from Inv-loop μ-loop
 sub-from c = search known
@@ -44,12 +44,12 @@ is-comma-requires c κs = search known
 returns-3 : tie.Need-returns-3 Inv-loop μ-loop
 returns-3 c =
     let e = c .before .before .before .before .before .length .ensures in
-    λ h. no-comma _ (c .before .before .before .before .before .before .before .args .t2) _ (omega (arith, e, c .before .before .before .if2 .left)) (omega (arith, e, c .before .before .before .before .if1 .left)) (sym (c .before .is-comma .ensures) ∙ not-true _ (c .if3 .taken))
+    λ h. no-comma _ (c .before .before .before .before .before .before .before .args .t3) _ (omega (arith, e, c .before .before .before .if2 .left)) (omega (arith, e, c .before .before .before .before .if1 .left)) (sym (c .before .is-comma .ensures) ∙ not-true _ (c .if3 .taken))
 
 loop-holds : tie.Need-loop-holds Inv-loop μ-loop
 loop-holds c =
     let e = c .before .before .before .before .before .length .ensures in
-    let r = name-room (c .before .before .before .before .before .before .before .args .t2) in
+    let r = name-room (c .before .before .before .before .before .before .before .args .t3) in
     (omega arith, e, omega (arith, c .before .before .before .if2 .left), omega (arith, e, r))
 
 sub-i : tie.Need-sub-i Inv-loop μ-loop

@@ -7,6 +7,9 @@ use Rattle.replay.proofs.Working.{here-line, here-none}
 use Rattle.replay.proofs.named.Statement.{statement}
 use Rattle.replay.proofs.named.Tie as tie
 
+classes-requires : tie.Need-classes-requires
+classes-requires c κs = search known
+
 next-line-requires : tie.Need-next-line-requires
 next-line-requires c κs = search known
 
@@ -14,13 +17,13 @@ enum-known-start : tie.Need-enum-known-start
 enum-known-start c = search known
 
 sub-names : tie.Need-sub-names
-sub-names c = let p = line-placed _ _ _ _ _ (sym (c .before .before .before .next-line .ensures) ∙ c .before .start .given .1) in omega arith
+sub-names c = let p = line-placed _ _ _ _ _ (sym (c .before .before .before .before .next-line .ensures) ∙ c .before .before .start .given .1) in omega arith
 
 part-names-start : tie.Need-part-names-start
-part-names-start c = let p = line-placed _ _ _ _ _ (sym (c .before .before .before .next-line .ensures) ∙ c .before .start .given .1) in omega arith
+part-names-start c = let p = line-placed _ _ _ _ _ (sym (c .before .before .before .before .next-line .ensures) ∙ c .before .before .start .given .1) in omega arith
 
 part-names-end : tie.Need-part-names-end
-part-names-end c = let p = line-placed _ _ _ _ _ (sym (c .before .before .before .next-line .ensures) ∙ c .before .start .given .1) in omega arith
+part-names-end c = let p = line-placed _ _ _ _ _ (sym (c .before .before .before .before .next-line .ensures) ∙ c .before .before .start .given .1) in omega arith
 
 names-requires : tie.Need-names-requires
 names-requires c κs = search known
@@ -35,7 +38,7 @@ same-requires : tie.Need-same-requires
 same-requires c κs = search known
 
 returns : tie.Need-returns
-returns c = rw (here-line _ _ _ _ _ (sym (c .before .before .before .before .before .next-line .ensures) ∙ c .before .before .before .start .given .1)) (c .names .ensures)
+returns c = rw (here-line _ _ _ _ _ (sym (c .before .before .before .before .before .before .next-line .ensures) ∙ c .before .before .before .before .start .given .1)) (c .names .ensures)
 
 returns-2 : tie.Need-returns-2
 returns-2 c = rw (here-none _ _ (sym (c .before .before .before .before .next-line .ensures) ∙ c .before .before .enum-told .given .1)) (c .same .ensures ∙ rw (c .before .none .ensures))
@@ -44,6 +47,7 @@ pub named-spec : {M : Type 1} → statement M
 named-spec =
     tie.close
     (tie.spec
+    classes-requires
     next-line-requires
     enum-known-start
     sub-names

@@ -10,6 +10,9 @@ use borrow.Author.Needs.{needs}
 use Rattle.replay.proofs.operation_at.Statement.{statement}
 use Rattle.replay.proofs.operation_at.Tie as tie
 
+classes-requires : tie.Need-classes-requires
+classes-requires c κs = search needs
+
 next-line-requires : tie.Need-next-line-requires
 next-line-requires c κs = search known
 
@@ -17,13 +20,13 @@ enum-known-start : tie.Need-enum-known-start
 enum-known-start c = search known
 
 sub-parse : tie.Need-sub-parse
-sub-parse c = let p = line-placed _ _ _ _ _ (sym (c .before .before .before .next-line .ensures) ∙ c .before .start .given .1) in omega arith
+sub-parse c = let p = line-placed _ _ _ _ _ (sym (c .before .before .before .before .next-line .ensures) ∙ c .before .before .start .given .1) in omega arith
 
 part-parse-start : tie.Need-part-parse-start
-part-parse-start c = let p = line-placed _ _ _ _ _ (sym (c .before .before .before .next-line .ensures) ∙ c .before .start .given .1) in omega arith
+part-parse-start c = let p = line-placed _ _ _ _ _ (sym (c .before .before .before .before .next-line .ensures) ∙ c .before .before .start .given .1) in omega arith
 
 part-parse-end : tie.Need-part-parse-end
-part-parse-end c = let p = line-placed _ _ _ _ _ (sym (c .before .before .before .next-line .ensures) ∙ c .before .start .given .1) in omega arith
+part-parse-end c = let p = line-placed _ _ _ _ _ (sym (c .before .before .before .before .next-line .ensures) ∙ c .before .before .start .given .1) in omega arith
 
 parse-requires : tie.Need-parse-requires
 parse-requires c κs = search known
@@ -39,7 +42,7 @@ not-here-requires c κs = search known
 
 returns : tie.Need-returns
 returns c =
-    let at = sym (c .before .before .before .before .before .before .next-line .ensures) ∙ c .before .before .before .before .start .given .1 in
+    let at = sym (c .before .before .before .before .before .before .before .next-line .ensures) ∙ c .before .before .before .before .before .start .given .1 in
     let h = c .operation-of .ensures in
     let s = said-line _ _ _ _ _ at in
     let k = line-further _ _ _ _ _ at in
@@ -56,6 +59,7 @@ pub operation-at-spec : {M : Type 1} → statement M
 operation-at-spec =
     tie.close
     (tie.spec
+    classes-requires
     next-line-requires
     enum-known-start
     sub-parse

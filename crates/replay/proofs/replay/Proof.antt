@@ -14,6 +14,9 @@ returns : tie.Need-returns
 unfolding ReplayIs
 returns c = rw (lt-ltb _ _ (c .before .if1 .taken)) (c .no .ensures)
 
+classes-requires : tie.Need-classes-requires
+classes-requires c κs = search known
+
 slice-aggregate-run : tie.Need-slice-aggregate-run
 slice-aggregate-run c = search known
 
@@ -42,7 +45,7 @@ fresh-requires : tie.Need-fresh-requires
 fresh-requires c κs = search known
 
 returns-2 : tie.Need-returns-2
-returns-2 c = rw (le-ltb _ _ (c .before .before .before .before .before .before .before .before .before .before .before .before .before .before .before .before .if1 .left)) (run-stop _ _ _ _ _ (c .before .before .before .before .before .before .before .before .before .run .ensures) (sym (c .before .before .accepted .ensures) ∙ not-true _ (c .before .if2 .taken)) refl)
+returns-2 c = rw (le-ltb _ _ (c .before .before .before .before .before .before .before .before .before .before .before .before .before .before .before .before .before .before .if1 .left)) (run-stop _ _ _ _ _ (c .before .before .before .before .before .before .before .before .before .run .ensures) (sym (c .before .before .accepted .ensures) ∙ not-true _ (c .before .if2 .taken)) refl)
 
 slice-aggregate-finish : tie.Need-slice-aggregate-finish
 slice-aggregate-finish c = search known
@@ -66,7 +69,7 @@ finish-requires : tie.Need-finish-requires
 finish-requires c κs = let r = ran _ _ _ _ (c .before .before .before .before .before .before .before .before .before .before .before .before .before .before .before .run .ensures) (sym (c .before .before .before .before .before .before .before .before .accepted .ensures) ∙ not-false _ (c .before .before .before .before .before .before .before .if2 .left)) in (r .good, r .small)
 
 returns-3 : tie.Need-returns-3
-returns-3 c = rw (le-ltb _ _ (c .before .before .before .before .before .before .before .before .before .before .before .before .before .before .before .before .before .before .before .before .before .before .before .if1 .left)) (ran _ _ _ _ (c .before .before .before .before .before .before .before .before .before .before .before .before .before .before .before .before .run .ensures) (sym (c .before .before .before .before .before .before .before .before .before .accepted .ensures) ∙ not-false _ (c .before .before .before .before .before .before .before .before .if2 .left)) .on _ (c .finish .ensures))
+returns-3 c = rw (le-ltb _ _ (c .before .before .before .before .before .before .before .before .before .before .before .before .before .before .before .before .before .before .before .before .before .before .before .before .before .if1 .left)) (ran _ _ _ _ (c .before .before .before .before .before .before .before .before .before .before .before .before .before .before .before .before .run .ensures) (sym (c .before .before .before .before .before .before .before .before .before .accepted .ensures) ∙ not-false _ (c .before .before .before .before .before .before .before .before .if2 .left)) .on _ (c .finish .ensures))
 
 pub replay-spec : {M : Type 1} → statement M
 replay-spec =
@@ -74,6 +77,7 @@ replay-spec =
     (tie.spec
     no-requires
     returns
+    classes-requires
     slice-aggregate-run
     slice-aggregate-run-2
     slice-aggregate-run-3

@@ -12,10 +12,10 @@ use Rattle.replay.proofs.run.Statement.{statement}
 use Rattle.replay.proofs.run.Tie as tie
 
 abbrev Inv-loop : tie.InvT-loop
-Inv-loop src ids₀ places₀ tables₀ rowsets₀ pairs₀ vectors₀ sets₀ begun₀ at₀ n₀ ids places tables rowsets pairs vectors sets begun at n = Reading src (slices ids places tables rowsets pairs vectors) sets begun at n
+Inv-loop classes src ids₀ places₀ tables₀ rowsets₀ pairs₀ vectors₀ sets₀ begun₀ at₀ n₀ ids places tables rowsets pairs vectors sets begun at n = Reading src (slices ids places tables rowsets pairs vectors) sets begun at n
 
 abbrev μ-loop : tie.MeasureT-loop
-μ-loop src ids₀ places₀ tables₀ rowsets₀ pairs₀ vectors₀ sets₀ begun₀ at₀ n₀ ids places tables rowsets pairs vectors sets begun at n = length src - at
+μ-loop classes src ids₀ places₀ tables₀ rowsets₀ pairs₀ vectors₀ sets₀ begun₀ at₀ n₀ ids places tables rowsets pairs vectors sets begun at n = length src - at
 
 no-sets-requires : tie.Need-no-sets-requires Inv-loop μ-loop
 no-sets-requires c κs = search known

@@ -6,10 +6,13 @@ use Rattle.script.proofs.last_line.Statement.{statement}
 use Rattle.script.proofs.last_line.Tie as tie
 
 abbrev Inv-loop : tie.InvT-loop
-Inv-loop s to i₀ i = i ≤ length s
+Inv-loop s to classes i₀ i = i ≤ length s
 
 abbrev μ-loop : tie.MeasureT-loop
-μ-loop s to i₀ i = i
+μ-loop s to classes i₀ i = i
+
+classes-requires : tie.Need-classes-requires Inv-loop μ-loop
+classes-requires c κs = search needs
 
 least-requires : tie.Need-least-requires Inv-loop μ-loop
 least-requires c κs = search needs
@@ -47,6 +50,7 @@ last-line-spec =
     (tie.spec
     Inv-loop
     μ-loop
+    classes-requires
     least-requires
     loop-holds
     sub-is-newline

@@ -5,10 +5,13 @@ use Rattle.script.proofs.line_end.Statement.{statement}
 use Rattle.script.proofs.line_end.Tie as tie
 
 abbrev Inv-loop : tie.InvT-loop
-Inv-loop s at to i₀ i = (at ≤ i) × (i ≤ to)
+Inv-loop s at to classes i₀ i = (at ≤ i) × (i ≤ to)
 
 abbrev μ-loop : tie.MeasureT-loop
-μ-loop s at to i₀ i = to - i
+μ-loop s at to classes i₀ i = to - i
+
+classes-requires : tie.Need-classes-requires Inv-loop μ-loop
+classes-requires c κs = search needs
 
 loop-holds : tie.Need-loop-holds Inv-loop μ-loop
 loop-holds c = search needs
@@ -40,6 +43,7 @@ line-end-spec =
     (tie.spec
     Inv-loop
     μ-loop
+    classes-requires
     loop-holds
     shared-slice-read-is-newline
     is-newline-requires

@@ -7,10 +7,13 @@ use Rattle.script.proofs.rows.Statement.{statement}
 use Rattle.script.proofs.rows.Tie as tie
 
 abbrev Inv-loop : tie.InvT-loop
-Inv-loop s out₀ at₀ k₀ out at k = (at ≤ length s) × (k ≤ at) × (length out ≡ length out₀)
+Inv-loop s out₀ classes at₀ k₀ out at k = (at ≤ length s) × (k ≤ at) × (length out ≡ length out₀)
 
 abbrev μ-loop : tie.MeasureT-loop
-μ-loop s out₀ at₀ k₀ out at k = length s - at
+μ-loop s out₀ classes at₀ k₀ out at k = length s - at
+
+classes-requires : tie.Need-classes-requires Inv-loop μ-loop
+classes-requires c κs = search needs
 
 loop-holds : tie.Need-loop-holds Inv-loop μ-loop
 loop-holds c = search needs
@@ -21,17 +24,17 @@ add-from c = search needs
 word-end-requires : tie.Need-word-end-requires Inv-loop μ-loop
 word-end-requires c κs = search needs
 
-sub-number : tie.Need-sub-number Inv-loop μ-loop
-sub-number c = search needs
+sub-number-by : tie.Need-sub-number-by Inv-loop μ-loop
+sub-number-by c = search needs
 
-part-number-start : tie.Need-part-number-start Inv-loop μ-loop
-part-number-start c = search needs
+part-number-by-start : tie.Need-part-number-by-start Inv-loop μ-loop
+part-number-by-start c = search needs
 
-part-number-end : tie.Need-part-number-end Inv-loop μ-loop
-part-number-end c = search needs
+part-number-by-end : tie.Need-part-number-by-end Inv-loop μ-loop
+part-number-by-end c = search needs
 
-number-requires : tie.Need-number-requires Inv-loop μ-loop
-number-requires c κs = search needs
+number-by-requires : tie.Need-number-by-requires Inv-loop μ-loop
+number-by-requires c κs = search needs
 
 enum-known-n : tie.Need-enum-known-n Inv-loop μ-loop
 enum-known-n c = search needs
@@ -72,13 +75,14 @@ rows-spec =
     (tie.spec
     Inv-loop
     μ-loop
+    classes-requires
     loop-holds
     add-from
     word-end-requires
-    sub-number
-    part-number-start
-    part-number-end
-    number-requires
+    sub-number-by
+    part-number-by-start
+    part-number-by-end
+    number-by-requires
     enum-known-n
     narrow-requires
     put-requires

@@ -9,10 +9,13 @@ use Rattle.storage_cases.proofs.run.Statement.{statement}
 use Rattle.storage_cases.proofs.run.Tie as tie
 
 abbrev Inv-loop : tie.InvT-loop
-Inv-loop s src₀ case₀ at₀ src case at = (length src ≡ length src₀) × (at ≤ length s)
+Inv-loop s src₀ classes case₀ at₀ src case at = (length src ≡ length src₀) × (at ≤ length s)
 
 abbrev μ-loop : tie.MeasureT-loop
-μ-loop s src₀ case₀ at₀ src case at = length s - at
+μ-loop s src₀ classes case₀ at₀ src case at = length s - at
+
+classes-requires : tie.Need-classes-requires Inv-loop μ-loop
+classes-requires c κs = search needs
 
 none-requires : tie.Need-none-requires Inv-loop μ-loop
 none-requires c κs = search needs
@@ -62,6 +65,7 @@ run-spec =
     (tie.spec
     Inv-loop
     μ-loop
+    classes-requires
     none-requires
     loop-holds
     line-at-requires

@@ -1,17 +1,13 @@
--- `text::class_of` meets its contract: the table's rule is a test at each of its 256 entries, which antt computes.
--- Assumes nothing.
+-- `text::class_of` meets its contract: the lent table has its rule. Assumes nothing.
 use borrow.Author.Needs.{needs}
-use Rattle.text.specs.Class.{classOf, isDigit, isLower, isCapital}
-use Rattle.text.proofs.Table.{rule}
 use Rattle.text.proofs.class_of.Statement.{statement}
 use Rattle.text.proofs.class_of.Tie as tie
 
-array-read-result : tie.Need-array-read-result
-array-read-result c = search needs
+element-copy-out-result : tie.Need-element-copy-out-result
+element-copy-out-result c = search needs
 
 returns : tie.Need-returns
-unfolding classOf isDigit isLower isCapital
-returns c = rule classOf 256 (c .args .b) (c .fits .b .fits)
+returns c = c .before .pre .rule (c .before .args .b) (c .before .fits .b .fits)
 
 pub class-of-spec : {M : Type 1} → statement M
-class-of-spec = tie.close (tie.spec array-read-result returns)
+class-of-spec = tie.close (tie.spec element-copy-out-result returns)

@@ -11,10 +11,10 @@ use Rattle.text.proofs.is_name.Statement.{statement}
 use Rattle.text.proofs.is_name.Tie as tie
 
 abbrev Inv-loop : tie.InvT-loop
-Inv-loop s i₀ i = (i ≤ length s) × (allNameFrom s i ≡ isName s)
+Inv-loop classes s i₀ i = (i ≤ length s) × (allNameFrom s i ≡ isName s)
 
 abbrev μ-loop : tie.MeasureT-loop
-μ-loop s i₀ i = length s - i
+μ-loop classes s i₀ i = length s - i
 
 returns : tie.Need-returns Inv-loop μ-loop
 returns c = name-empty _ (c .if1 .taken)

@@ -15,10 +15,10 @@ use Rattle.text.proofs.read_number.Statement.{statement}
 use Rattle.text.proofs.read_number.Tie as tie
 
 abbrev Inv-loop : tie.InvT-loop
-Inv-loop s at limit first n₀ i₀ n i = (i ≤ length s) × (n ≤ limit) × (readFrom limit s n i ≡ readAt limit s at)
+Inv-loop classes s at limit first n₀ i₀ n i = (i ≤ length s) × (n ≤ limit) × (readFrom limit s n i ≡ readAt limit s at)
 
 abbrev μ-loop : tie.MeasureT-loop
-μ-loop s at limit first n₀ i₀ n i = length s - i
+μ-loop classes s at limit first n₀ i₀ n i = length s - i
 
 first-digit : (c : tie.Else2 Inv-loop μ-loop) → isDigit (getD (c .before .before .before .before .before .args .s .now) (c .before .before .before .before .before .args .at) 0) ≡ true
 first-digit c = sym (c .before .is-digit .ensures) ∙ not-false _ (c .if2 .left)

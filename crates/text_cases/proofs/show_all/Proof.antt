@@ -8,10 +8,13 @@ use Rattle.text_cases.proofs.show_all.Statement.{statement}
 use Rattle.text_cases.proofs.show_all.Tie as tie
 
 abbrev Inv-loop : tie.InvT-loop
-Inv-loop s from₀ i₀ from i = (from ≤ i) × (i ≤ length s)
+Inv-loop s classes from₀ i₀ from i = (from ≤ i) × (i ≤ length s)
 
 abbrev μ-loop : tie.MeasureT-loop
-μ-loop s from₀ i₀ from i = length s - i
+μ-loop s classes from₀ i₀ from i = length s - i
+
+classes-requires : tie.Need-classes-requires Inv-loop μ-loop
+classes-requires c κs = search needs
 
 loop-holds : tie.Need-loop-holds Inv-loop μ-loop
 loop-holds c = search needs
@@ -55,6 +58,7 @@ show-all-spec =
     (tie.spec
     Inv-loop
     μ-loop
+    classes-requires
     loop-holds
     shared-slice-read-is-newline
     is-newline-requires

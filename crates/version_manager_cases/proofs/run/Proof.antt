@@ -8,10 +8,13 @@ use Rattle.version_manager_cases.proofs.run.Statement.{statement}
 use Rattle.version_manager_cases.proofs.run.Tie as tie
 
 abbrev Inv-loop : tie.InvT-loop
-Inv-loop s bench₀ from₀ i₀ bench from i = (from ≤ i) × (i ≤ length s)
+Inv-loop s classes bench₀ from₀ i₀ bench from i = (from ≤ i) × (i ≤ length s)
 
 abbrev μ-loop : tie.MeasureT-loop
-μ-loop s bench₀ from₀ i₀ bench from i = length s - i
+μ-loop s classes bench₀ from₀ i₀ bench from i = length s - i
+
+classes-requires : tie.Need-classes-requires Inv-loop μ-loop
+classes-requires c κs = search needs
 
 fresh-requires : tie.Need-fresh-requires Inv-loop μ-loop
 fresh-requires c κs = search needs
@@ -58,6 +61,7 @@ run-spec =
     (tie.spec
     Inv-loop
     μ-loop
+    classes-requires
     fresh-requires
     loop-holds
     shared-slice-read-is-newline

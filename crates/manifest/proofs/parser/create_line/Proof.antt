@@ -25,8 +25,8 @@ field-requires-2 c κs = search needs
 enum-known-h : tie.Need-enum-known-h
 enum-known-h c = search needs
 
-cast-t12 : tie.Need-cast-t12
-cast-t12 c = omega (arith, field-small _ _ _ _ _ (sym (c .before .before .before .before .before .before .before .field .ensures) ∙ c .before .before .before .before .before .t .given .1))
+cast-t13 : tie.Need-cast-t13
+cast-t13 c = omega (arith, field-small _ _ _ _ _ (sym (c .before .before .before .before .before .before .before .field .ensures) ∙ c .before .before .before .before .before .t .given .1))
 
 cast-named-line : tie.Need-cast-named-line
 cast-named-line c = omega (arith, field-small _ _ _ _ _ (sym (c .before .before .before .field2 .ensures) ∙ c .before .h .given .1))
@@ -68,7 +68,7 @@ create-line-spec =
     cast-field-2
     field-requires-2
     enum-known-h
-    cast-t12
+    cast-t13
     cast-named-line
     named-line-requires
     enum-told

@@ -14,8 +14,8 @@ field-requires c κs = search needs
 enum-known-x : tie.Need-enum-known-x
 enum-known-x c = search needs
 
-cast-t11 : tie.Need-cast-t11
-cast-t11 c = omega (arith, field-small _ _ _ _ _ (sym (c .before .before .before .before .field .ensures) ∙ c .before .before .x .given .1))
+cast-t12 : tie.Need-cast-t12
+cast-t12 c = omega (arith, field-small _ _ _ _ _ (sym (c .before .before .before .before .field .ensures) ∙ c .before .before .x .given .1))
 
 enum-told : tie.Need-enum-told
 enum-told c = search needs
@@ -34,4 +34,4 @@ returns-3 c = λ f. rw (sym (c .before .before .field .ensures) ∙ c .enum-told
 
 pub one-field-spec : {M : Type 1} → statement M
 one-field-spec =
-    tie.close (tie.spec field-requires enum-known-x cast-t11 enum-told returns returns-2 returns-3)
+    tie.close (tie.spec field-requires enum-known-x cast-t12 enum-told returns returns-2 returns-3)

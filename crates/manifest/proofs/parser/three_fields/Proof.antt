@@ -26,11 +26,11 @@ field-requires-3 c κs = search needs
 enum-known-z : tie.Need-enum-known-z
 enum-known-z c = search needs
 
-cast-t22 : tie.Need-cast-t22
-cast-t22 c = omega (arith, field-small _ _ _ _ _ (sym (c .before .before .before .before .before .before .before .before .before .before .before .before .field .ensures) ∙ c .before .before .before .before .before .before .before .before .before .before .x .given .1))
-
 cast-t23 : tie.Need-cast-t23
-cast-t23 c = omega (arith, field-small _ _ _ _ _ (sym (c .before .before .before .before .before .before .before .before .field2 .ensures) ∙ c .before .before .before .before .before .before .y .given .1))
+cast-t23 c = omega (arith, field-small _ _ _ _ _ (sym (c .before .before .before .before .before .before .before .before .before .before .before .before .field .ensures) ∙ c .before .before .before .before .before .before .before .before .before .before .x .given .1))
+
+cast-t24 : tie.Need-cast-t24
+cast-t24 c = omega (arith, field-small _ _ _ _ _ (sym (c .before .before .before .before .before .before .before .before .field2 .ensures) ∙ c .before .before .before .before .before .before .y .given .1))
 
 enum-told : tie.Need-enum-told
 enum-told c = search needs
@@ -71,8 +71,8 @@ three-fields-spec =
     enum-known-y
     field-requires-3
     enum-known-z
-    cast-t22
     cast-t23
+    cast-t24
     enum-told
     enum-told-2
     enum-told-3

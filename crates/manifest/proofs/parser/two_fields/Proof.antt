@@ -20,11 +20,11 @@ field-requires-2 c κs = search needs
 enum-known-y : tie.Need-enum-known-y
 enum-known-y c = search needs
 
-cast-t17 : tie.Need-cast-t17
-cast-t17 c = omega (arith, field-small _ _ _ _ _ (sym (c .before .before .before .before .before .before .before .before .field .ensures) ∙ c .before .before .before .before .before .before .x .given .1))
-
 cast-t18 : tie.Need-cast-t18
-cast-t18 c = omega (arith, field-small _ _ _ _ _ (sym (c .before .before .before .before .field2 .ensures) ∙ c .before .before .y .given .1))
+cast-t18 c = omega (arith, field-small _ _ _ _ _ (sym (c .before .before .before .before .before .before .before .before .field .ensures) ∙ c .before .before .before .before .before .before .x .given .1))
+
+cast-t19 : tie.Need-cast-t19
+cast-t19 c = omega (arith, field-small _ _ _ _ _ (sym (c .before .before .before .before .field2 .ensures) ∙ c .before .before .y .given .1))
 
 enum-told : tie.Need-enum-told
 enum-told c = search needs
@@ -56,8 +56,8 @@ two-fields-spec =
     enum-known-x
     field-requires-2
     enum-known-y
-    cast-t17
     cast-t18
+    cast-t19
     enum-told
     enum-told-2
     returns

@@ -10,10 +10,10 @@ use Rattle.manifest.proofs.reader.line_at.Statement.{statement}
 use Rattle.manifest.proofs.reader.line_at.Tie as tie
 
 abbrev Inv-loop : tie.InvT-loop
-Inv-loop s at i₀ i = lineOn s at i ≡ lineAt s at
+Inv-loop classes s at i₀ i = lineOn s at i ≡ lineAt s at
 
 abbrev μ-loop : tie.MeasureT-loop
-μ-loop s at i₀ i = length s - i
+μ-loop classes s at i₀ i = length s - i
 
 loop-holds : tie.Need-loop-holds Inv-loop μ-loop
 loop-holds c = line-start _ _
@@ -24,8 +24,8 @@ shared-slice-read-is-newline c = search needs
 is-newline-requires : tie.Need-is-newline-requires Inv-loop μ-loop
 is-newline-requires c κs = search needs
 
-add-t9 : tie.Need-add-t9 Inv-loop μ-loop
-add-t9 c = search needs
+add-t10 : tie.Need-add-t10 Inv-loop μ-loop
+add-t10 c = search needs
 
 returns : tie.Need-returns Inv-loop μ-loop
 returns c = line-here _ _ _ _ (c .before .before .before .before .loop .inv) (omega arith) (sym (c .before .is-newline .ensures) ∙ c .if1 .taken)
@@ -51,7 +51,7 @@ line-at-spec =
     loop-holds
     shared-slice-read-is-newline
     is-newline-requires
-    add-t9
+    add-t10
     returns
     add-i
     loop-less

@@ -6,10 +6,13 @@ use Rattle.script.proofs.batches.batch.Statement.{statement}
 use Rattle.script.proofs.batches.batch.Tie as tie
 
 abbrev Inv-loop : tie.InvT-loop
-Inv-loop s batch₀ at₀ k₀ batch at k = (at ≤ length s) × (k ≤ at)
+Inv-loop s classes batch₀ at₀ k₀ batch at k = (at ≤ length s) × (k ≤ at)
 
 abbrev μ-loop : tie.MeasureT-loop
-μ-loop s batch₀ at₀ k₀ batch at k = length s - at
+μ-loop s classes batch₀ at₀ k₀ batch at k = length s - at
+
+classes-requires : tie.Need-classes-requires Inv-loop μ-loop
+classes-requires c κs = search needs
 
 no-change-requires : tie.Need-no-change-requires Inv-loop μ-loop
 no-change-requires c κs = search needs
@@ -35,8 +38,8 @@ part-change-end c = search needs
 change-requires : tie.Need-change-requires Inv-loop μ-loop
 change-requires c κs = search needs
 
-mul-t16 : tie.Need-mul-t16 Inv-loop μ-loop
-mul-t16 c = search needs
+mul-t19 : tie.Need-mul-t19 Inv-loop μ-loop
+mul-t19 c = search needs
 
 element-set-from-batch : tie.Need-element-set-from-batch Inv-loop μ-loop
 element-set-from-batch c = search needs
@@ -59,6 +62,7 @@ batch-spec =
     (tie.spec
     Inv-loop
     μ-loop
+    classes-requires
     no-change-requires
     loop-holds
     add-from
@@ -67,7 +71,7 @@ batch-spec =
     part-change-start
     part-change-end
     change-requires
-    mul-t16
+    mul-t19
     element-set-from-batch
     add-k
     loop-less

@@ -5,10 +5,13 @@ use Rattle.version_manager_cases.proofs.fields.fields.Statement.{statem
 use Rattle.version_manager_cases.proofs.fields.fields.Tie as tie
 
 abbrev Inv-loop : tie.InvT-loop
-Inv-loop s f₀ at₀ k₀ f at k = 0 ≤ k
+Inv-loop s classes f₀ at₀ k₀ f at k = 0 ≤ k
 
 abbrev μ-loop : tie.MeasureT-loop
-μ-loop s f₀ at₀ k₀ f at k = 6 - k
+μ-loop s classes f₀ at₀ k₀ f at k = 6 - k
+
+classes-requires : tie.Need-classes-requires Inv-loop μ-loop
+classes-requires c κs = search needs
 
 loop-holds : tie.Need-loop-holds Inv-loop μ-loop
 loop-holds c = search needs
@@ -55,6 +58,7 @@ fields-spec =
     (tie.spec
     Inv-loop
     μ-loop
+    classes-requires
     loop-holds
     returns
     add-read-number

@@ -7,13 +7,13 @@ use lib.ListN.{length, take, drop, length-take}
 use lib.Seq.{take-length}
 use Rattle.lists.specs.Order.{same}
 use Rattle.lists.proofs.Places.{known}
-use Rattle.ids.specs.Names.{nameOf}
+use Rattle.ids.specs.Names.{longestName, nameOf}
 use Rattle.ids.proofs.Names.{name-short, name-over, name-length, name-room, same-more, same-differ, same-short, same-both, same-long, copy-more}
 use Rattle.ids.proofs.name.Name.of.Statement.{statement}
 use Rattle.ids.proofs.name.Name.of.Tie as tie
 
 abbrev Inv-loop : tie.InvT-loop
-Inv-loop src n bytes₀ i₀ bytes i = (i ≤ n) × (length bytes ≡ 32) × (take i bytes ≡ take i src)
+Inv-loop src n bytes₀ i₀ bytes i = (i ≤ n) × (length bytes ≡ longestName) × (take i bytes ≡ take i src)
 
 abbrev μ-loop : tie.MeasureT-loop
 μ-loop src n bytes₀ i₀ bytes i = n - i

@@ -7,13 +7,13 @@ use lib.ListN.{length, take, drop, length-take}
 use lib.Seq.{take-length}
 use Rattle.lists.specs.Order.{same}
 use Rattle.lists.proofs.Places.{known}
-use Rattle.ids.specs.Names.{nameOf}
+use Rattle.ids.specs.Names.{longestName, nameOf}
 use Rattle.ids.proofs.Names.{name-short, name-over, name-length, name-room, same-more, same-differ, same-short, same-both, same-long, copy-more}
 use Rattle.ids.proofs.name.Name.same.Statement.{statement}
 use Rattle.ids.proofs.name.Name.same.Tie as tie
 
 abbrev Inv-loop : tie.InvT-loop
-Inv-loop self other n m i₀ i = (i ≤ n) × (n ≡ length (nameOf self)) × (m ≡ length (nameOf other)) × (n ≤ 32) × (m ≤ 32) × (same (nameOf self) (nameOf other) ≡ same (drop i (nameOf self)) (drop i (nameOf other)))
+Inv-loop self other n m i₀ i = (i ≤ n) × (n ≡ length (nameOf self)) × (m ≡ length (nameOf other)) × (n ≤ longestName) × (m ≤ longestName) × (same (nameOf self) (nameOf other) ≡ same (drop i (nameOf self)) (drop i (nameOf other)))
 
 abbrev μ-loop : tie.MeasureT-loop
 μ-loop self other n m i₀ i = n - i
