@@ -84,7 +84,7 @@ record-short row h =
     let b = varint-short row h in
     rw (record-more row p h) (omega arith, omega arith))
 
-pub row-of-bits : (row b : ℕ) → b ≤ 32 → Significant row b → row < rowLimit
+pub row-of-bits : (row b : ℕ) → b ≤ rowBits → Significant row b → row < rowLimit
 row-of-bits row b h s =
     let m : 2 ^ b ≤ 2 ^ 32 = pow-mono h in
     let w = s .within in
