@@ -17,44 +17,44 @@ use Rattle.delete_vector.specs.Records.{Records, Rows, Bad, recordsOf, r
 use Rattle.delete_vector.specs.Memory.{isIn, inMemory}
 use Rattle.delete_vector.specs.Mask.{masked}
 use Rattle.delete_vector.specs.Answers.{scannedOf}
-use Rattle.delete_vector.specs.Says.{WriteSays, ReadSays, MemorySays, MaskSays}
+use Rattle.delete_vector.specs.Says.{mostRecords, WriteSays, ReadSays, MemorySays, MaskSays}
 
 module _ (rows out : List ℕ) where
-  pub write-many : 4096 < length rows → WriteSays rows out (NotWritten WrongCount) out
-  write-many h = let t = lt-ltb 4096 (length rows) h in record { answer = rw t; bytes = rw t }
+  pub write-many : mostRecords < length rows → WriteSays rows out (NotWritten WrongCount) out
+  write-many h = let t = lt-ltb mostRecords (length rows) h in record { answer = rw t; bytes = rw t }
 
-  pub write-short : length rows ≤ 4096 → length out < length (recordsOf rows) → WriteSays rows out (NotWritten OutputTooShort) out
+  pub write-short : length rows ≤ mostRecords → length out < length (recordsOf rows) → WriteSays rows out (NotWritten OutputTooShort) out
   write-short h g =
-      let t = le-ltb 4096 (length rows) h in
+      let t = le-ltb mostRecords (length rows) h in
       let u = lt-ltb (length out) (length (recordsOf rows)) g in
       record { answer = rw (t, u); bytes = rw (t, u) }
 
-  pub write-done : (out′ : List ℕ) (n : ℕ) → length rows ≤ 4096 → length (recordsOf rows) ≤ length out → n ≡ length (recordsOf rows) → out′ ≡ over (recordsOf rows) out → WriteSays rows out (Bytes n) out′
+  pub write-done : (out′ : List ℕ) (n : ℕ) → length rows ≤ mostRecords → length (recordsOf rows) ≤ length out → n ≡ length (recordsOf rows) → out′ ≡ over (recordsOf rows) out → WriteSays rows out (Bytes n) out′
   write-done out′ n h g e w =
-      let t = le-ltb 4096 (length rows) h in
+      let t = le-ltb mostRecords (length rows) h in
       let u = le-ltb (length out) (length (recordsOf rows)) g in
       record { answer = rw (t, u, e); bytes = rw (t, u) w }
 
-  pub memory-many : 4096 < length rows → MemorySays rows out (NotHeld WrongCount) out
-  memory-many h = let t = lt-ltb 4096 (length rows) h in record { answer = rw t; numbers = rw t }
+  pub memory-many : mostRecords < length rows → MemorySays rows out (NotHeld WrongCount) out
+  memory-many h = let t = lt-ltb mostRecords (length rows) h in record { answer = rw t; numbers = rw t }
 
-  pub memory-short : length rows ≤ 4096 → length out < length (inMemory rows) → MemorySays rows out (NotHeld OutputTooShort) out
+  pub memory-short : length rows ≤ mostRecords → length out < length (inMemory rows) → MemorySays rows out (NotHeld OutputTooShort) out
   memory-short h g =
-      let t = le-ltb 4096 (length rows) h in
+      let t = le-ltb mostRecords (length rows) h in
       let u = lt-ltb (length out) (length (inMemory rows)) g in
       record { answer = rw (t, u); numbers = rw (t, u) }
 
-  pub memory-done : (out′ : List ℕ) (n : ℕ) → length rows ≤ 4096 → length (inMemory rows) ≤ length out → n ≡ length (inMemory rows) → out′ ≡ over (inMemory rows) out → MemorySays rows out (Holds n) out′
+  pub memory-done : (out′ : List ℕ) (n : ℕ) → length rows ≤ mostRecords → length (inMemory rows) ≤ length out → n ≡ length (inMemory rows) → out′ ≡ over (inMemory rows) out → MemorySays rows out (Holds n) out′
   memory-done out′ n h g e w =
-      let t = le-ltb 4096 (length rows) h in
+      let t = le-ltb mostRecords (length rows) h in
       let u = le-ltb (length out) (length (inMemory rows)) g in
       record { answer = rw (t, u, e); numbers = rw (t, u) w }
 
-  pub mask-many : (offset : ℕ) → 4096 < length rows → MaskSays rows out offset (NotMasked WrongCount) out
-  mask-many offset h = let t = lt-ltb 4096 (length rows) h in record { answer = rw t; mask = rw t }
+  pub mask-many : (offset : ℕ) → mostRecords < length rows → MaskSays rows out offset (NotMasked WrongCount) out
+  mask-many offset h = let t = lt-ltb mostRecords (length rows) h in record { answer = rw t; mask = rw t }
 
-  pub mask-done : (offset : ℕ) (out′ : List ℕ) → length rows ≤ 4096 → out′ ≡ masked (isIn rows) offset out → MaskSays rows out offset Cleared out′
-  mask-done offset out′ h w = let t = le-ltb 4096 (length rows) h in record { answer = rw t; mask = rw t w }
+  pub mask-done : (offset : ℕ) (out′ : List ℕ) → length rows ≤ mostRecords → out′ ≡ masked (isIn rows) offset out → MaskSays rows out offset Cleared out′
+  mask-done offset out′ h w = let t = le-ltb mostRecords (length rows) h in record { answer = rw t; mask = rw t w }
 
 -- what looking through a file told
 pub scanned-bad : (r : Records) (p : ℕ) → BadAt p ≡ scannedOf 0 r → (isBad r ≡ true) × (badPlace r ≡ p)
@@ -70,18 +70,18 @@ module _ (file rows : List ℕ) where
   read-bad p b e = record { answer = rw (b, e); numbers = rw b }
 
   module _ (b : isBad (recordsIn file) ≡ false) where
-    pub read-many : 4096 < length (rowsIn (recordsIn file)) → ReadSays file rows (NotLoaded WrongCount) rows
-    read-many h = let t = lt-ltb 4096 (length (rowsIn (recordsIn file))) h in record { answer = rw (b, t); numbers = rw (b, t) }
+    pub read-many : mostRecords < length (rowsIn (recordsIn file)) → ReadSays file rows (NotLoaded WrongCount) rows
+    read-many h = let t = lt-ltb mostRecords (length (rowsIn (recordsIn file))) h in record { answer = rw (b, t); numbers = rw (b, t) }
 
-    pub read-short : length (rowsIn (recordsIn file)) ≤ 4096 → length rows < length (rowsIn (recordsIn file)) → ReadSays file rows (NotLoaded OutputTooShort) rows
+    pub read-short : length (rowsIn (recordsIn file)) ≤ mostRecords → length rows < length (rowsIn (recordsIn file)) → ReadSays file rows (NotLoaded OutputTooShort) rows
     read-short h g =
-        let t = le-ltb 4096 (length (rowsIn (recordsIn file))) h in
+        let t = le-ltb mostRecords (length (rowsIn (recordsIn file))) h in
         let u = lt-ltb (length rows) (length (rowsIn (recordsIn file))) g in
         record { answer = rw (b, t, u); numbers = rw (b, t, u) }
 
-    pub read-done : (rows′ : List ℕ) (n : ℕ) → length (rowsIn (recordsIn file)) ≤ 4096 → length (rowsIn (recordsIn file)) ≤ length rows → n ≡ length (rowsIn (recordsIn file))
+    pub read-done : (rows′ : List ℕ) (n : ℕ) → length (rowsIn (recordsIn file)) ≤ mostRecords → length (rowsIn (recordsIn file)) ≤ length rows → n ≡ length (rowsIn (recordsIn file))
         → rows′ ≡ over (rowsIn (recordsIn file)) rows → ReadSays file rows (Loads n) rows′
     read-done rows′ n h g e w =
-        let t = le-ltb 4096 (length (rowsIn (recordsIn file))) h in
+        let t = le-ltb mostRecords (length (rowsIn (recordsIn file))) h in
         let u = le-ltb (length rows) (length (rowsIn (recordsIn file))) g in
         record { answer = rw (b, t, u, e); numbers = rw (b, t, u) w }

@@ -12,7 +12,7 @@ use borrow.Author.Tests.{ltb-true, ltb-false, leb-true, leb-false, eqb-true, eqb
 use Rattle.lists.proofs.Tests.{by-cases}
 use Rattle.delete_vector.specs.Encoding.{varint, uintField, delimited}
 use Rattle.delete_vector.specs.Records.{recordOf, rowLimit}
-use Rattle.delete_vector.specs.Sizes.{Significant, sizeOfBits}
+use Rattle.delete_vector.specs.Sizes.{rowBits, Significant, sizeOfBits, tabled, sizeTable}
 use Rattle.delete_vector.proofs.Encoding.{varint-small, varint-big}
 
 -- a varint has a byte for each seven bits begun
@@ -84,21 +84,21 @@ record-short row h =
     let b = varint-short row h in
     rw (record-more row p h) (omega arith, omega arith))
 
-pub row-of-bits : (row b : ℕ) → b ≤ 32 → Significant row b → row < rowLimit
+pub row-of-bits : (row b : ℕ) → b ≤ rowBits → Significant row b → row < rowLimit
 row-of-bits row b h s =
     let m : 2 ^ b ≤ 2 ^ 32 = pow-mono h in
     let w = s .within in
     omega arith
 
--- A table is the list of what its rule says at 0, 1, ..
-abbrev pub tabled : (ℕ → ℕ) → ℕ → ℕ → List ℕ
-tabled f i zero = []
-tabled f i (suc n) = f i ∷ tabled f (suc i) n
-
+-- a table's entry is what its rule says there
 from : (f : ℕ → ℕ) (i n k : ℕ) → k < n → getD (tabled f i n) k 0 ≡ f (i + k)
 from f i zero k h = absurd (not-suc-le-zero h)
 from f i (suc n) zero h = rw add-zero
 from f i (suc n) (suc k) h = from f (suc i) n k (le-of-suc-le-suc h) ∙ rw (suc-add, add-suc)
 
-pub rule : (f : ℕ → ℕ) (n k : ℕ) → k < n → getD (tabled f 0 n) k 0 ≡ f k
+rule : (f : ℕ → ℕ) (n k : ℕ) → k < n → getD (tabled f 0 n) k 0 ≡ f k
 rule f n k h = from f 0 n k h ∙ rw zero-add
+
+pub size-rule : (k : ℕ) → k ≤ rowBits → getD sizeTable k 0 ≡ sizeOfBits k
+unfolding sizeTable
+size-rule k h = rule sizeOfBits (rowBits + 1) k (omega arith)

@@ -34,5 +34,7 @@ pub record Laws : Type 0 where
   pub ascends : (rows : List ℕ) → ascending rowKey (inMemory rows) ≡ true
   -- and they are the same set
   pub sameSet : (rows : List ℕ) (row : ℕ) → isIn (inMemory rows) row ≡ isIn rows row
+  -- rows that rise strictly already are their own form
+  pub ownForm : (rows : List ℕ) → ascending rowKey rows ≡ true → inMemory rows ≡ rows
   -- a set of rows has one form in memory
   pub oneForm : (l m : List ℕ) → ((row : ℕ) → isIn l row ≡ isIn m row) → inMemory l ≡ inMemory m

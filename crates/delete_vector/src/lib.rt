@@ -2,12 +2,15 @@
 use file::Scanned;
 use ids::RowNo;
 use ids::refusal::Refusal;
+use record::ROW_BITS;
 ghost use mathlib.Core.Path.{_≡_};
 ghost use mathlib.Core.Bool.{false};
+ghost use Prim.Native.Nat.{_≤_};
 ghost use lib.ListN.{length};
 ghost use Rattle.delete_vector.specs.Records.{recordsIn, isBad, rowsIn};
+ghost use Rattle.delete_vector.specs.Sizes.{sizeTable};
 ghost use Rattle.delete_vector.specs.Laws.{Laws};
-ghost use Rattle.delete_vector.specs.Says.{WriteSays, ReadSays, MemorySays, MaskSays};
+ghost use Rattle.delete_vector.specs.Says.{mostRecords, WriteSays, ReadSays, MemorySays, MaskSays};
 
 pub mod file;
 pub mod mask;
@@ -48,17 +51,18 @@ pub fn write_all(rows: &[u32], out: &mut [u8]) -> Written
     if rows.len() > MOST_RECORDS {
         return Written::Refused(Refusal::WrongCount);
     }
-    let size = file::file_size(rows);
+    let sizes = record::SIZES;
+    let size = file::file_size(rows, &sizes);
     if out.len() < size {
         return Written::Refused(Refusal::OutputTooShort);
     }
-    file::put_records(rows, out, 0);
+    file::put_records(rows, out, 0, &sizes);
     Written::Bytes(size)
 }
 
-// A file without a bad record, of `count` records.
-fn read_good(bytes: &[u8], count: usize, rows: &mut [u32]) -> Loaded
-    requires { ⌜ (isBad (recordsIn (now bytes)) ≡ false) × (count ≡ length (rowsIn (recordsIn (now bytes)))) ⌝ }
+// Internal: a file without a bad record, of `count` records.
+fn read_good(bytes: &[u8], count: usize, rows: &mut [u32], sizes: &[usize; ROW_BITS + 1]) -> Loaded
+    requires { ⌜ (isBad (recordsIn (now bytes)) ≡ false) × (count ≡ length (rowsIn (recordsIn (now bytes)))) × (now sizes ≡ sizeTable) ⌝ }
     ensures { λ r. ⌜ ReadSays (now (bytes .entry)) (now (rows .entry)) r (now (rows .exit)) ⌝ }
 {
     if count > MOST_RECORDS {
@@ -67,7 +71,7 @@ fn read_good(bytes: &[u8], count: usize, rows: &mut [u32]) -> Loaded
     if rows.len() < count {
         return Loaded::Refused(Refusal::OutputTooShort);
     }
-    file::put_rows(bytes, rows);
+    file::put_rows(bytes, rows, sizes);
     Loaded::Rows(count)
 }
 
@@ -75,10 +79,26 @@ fn read_good(bytes: &[u8], count: usize, rows: &mut [u32]) -> Loaded
 pub fn read_all(bytes: &[u8], rows: &mut [u32]) -> Loaded
     ensures { λ r. ⌜ ReadSays (now (bytes .entry)) (now (rows .entry)) r (now (rows .exit)) ⌝ }
 {
-    match file::scan(bytes) {
+    let sizes = record::SIZES;
+    match file::scan(bytes, &sizes) {
         Scanned::Bad(place) => Loaded::Refused(Refusal::BadRecord(place)),
-        Scanned::Records(count) => read_good(bytes, count, rows),
+        Scanned::Records(count) => read_good(bytes, count, rows, &sizes),
     }
+}
+
+// Internal: rows that may fall or repeat. The two arrays are made here, so that rows which rise do not pay for them.
+fn sorted(rows: &[u32], out: &mut [u32]) -> Held
+    requires { ⌜ length (now rows) ≤ mostRecords ⌝ }
+    ensures { λ r. ⌜ MemorySays (now (rows .entry)) (now (out .entry)) r (now (out .exit)) ⌝ }
+{
+    let mut ascending = [0u32; MOST_RECORDS];
+    let mut spare = [0u32; MOST_RECORDS];
+    let count = memory::ascend(rows, &mut ascending, &mut spare);
+    if out.len() < count {
+        return Held::Refused(Refusal::OutputTooShort);
+    }
+    memory::copy(&ascending, 0, count, out, 0);
+    Held::Rows(count)
 }
 
 // The rows, lent in any order, go to the front of out ascending, each once.
@@ -88,14 +108,14 @@ pub fn in_memory(rows: &[u32], out: &mut [u32]) -> Held
     if rows.len() > MOST_RECORDS {
         return Held::Refused(Refusal::WrongCount);
     }
-    let mut ascending = [0u32; 4096];
-    let mut spare = [0u32; 4096];
-    let count = memory::ascend(rows, &mut ascending, &mut spare);
-    if out.len() < count {
+    if !memory::rises(rows) {
+        return sorted(rows, out);
+    }
+    if out.len() < rows.len() {
         return Held::Refused(Refusal::OutputTooShort);
     }
-    memory::copy(&ascending, 0, count, out, 0);
-    Held::Rows(count)
+    memory::copy(rows, 0, rows.len(), out, 0);
+    Held::Rows(rows.len())
 }
 
 // The bits of the rows are cleared; bit i stands for row offset + i.

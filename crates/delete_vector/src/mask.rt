@@ -1,4 +1,5 @@
 // A mask, one byte a bit, and what a vector's rows clear of it.
+use super::record::ROW_LIMIT;
 use ids::RowNo;
 ghost use mathlib.Core.Path.{_≡_};
 ghost use mathlib.Core.List.{[], _∷_};
@@ -11,7 +12,7 @@ ghost use Rattle.delete_vector.specs.Mask.{masked};
 pub fn row_at(offset: RowNo, i: usize) -> RowNo
     ensures { λ r. ⌜ r .0 ≡ (offset .0 + i) % rowLimit ⌝ }
 {
-    let low = (i % 4294967296) as u32;
+    let low = (i % ROW_LIMIT as usize) as u32;
     RowNo(std::num::wrapping_add_u32(offset.0, low))
 }
 

@@ -6,11 +6,17 @@ ghost use lib.ListN.{length, drop};
 ghost use lib.Seq.{slice};
 ghost use Rattle.lists.specs.Written.{Wrote};
 ghost use Rattle.delete_vector.specs.Encoding.{varint, valueOf};
-ghost use Rattle.delete_vector.specs.Sizes.{Significant, sizeOfBits};
+ghost use Rattle.delete_vector.specs.Sizes.{rowBits, Significant, sizeTable};
 ghost use Rattle.delete_vector.specs.Records.{rowLimit, recordOf, Sized, startsWith, rowIn};
 
-// The size of a record by the count of significant bits of its row, 0 to 32.
-const SIZES: [usize; 33] = [
+// The bits of a row number, and the number that it is below.
+pub const ROW_BITS: usize = 32;
+
+pub const ROW_LIMIT: u64 = 4294967296;
+
+// The size of a record by the count of significant bits of its row. An entry point takes it into a local and lends that:
+// a constant that is indexed is stored to the stack at each read.
+pub const SIZES: [usize; ROW_BITS + 1] = [
     1,
     3,
     3,
@@ -46,24 +52,18 @@ const SIZES: [usize; 33] = [
     7,
 ];
 
-fn size_of_bits(bits: usize) -> usize
-    requires { ⌜ bits ≤ 32 ⌝ }
-    ensures { λ r. ⌜ r ≡ sizeOfBits bits ⌝ }
+fn significant_bits(row: RowNo) -> usize
+    ensures { λ r. ⌜ (r ≤ rowBits) × Significant (row .0) r ⌝ }
 {
-    SIZES[bits]
+    ROW_BITS - u32::leading_zeros(row.0) as usize
 }
 
-fn significant_bits(row: RowNo) -> u32
-    ensures { λ r. ⌜ (r ≤ 32) × Significant (row .0) r ⌝ }
-{
-    32 - u32::leading_zeros(row.0)
-}
-
-// The one place that says how long a record is.
-pub fn record_size(row: RowNo) -> usize
+// The one place that says how long a record is. Internal: the table is lent.
+pub fn record_size(row: RowNo, sizes: &[usize; ROW_BITS + 1]) -> usize
+    requires { ⌜ now sizes ≡ sizeTable ⌝ }
     ensures { λ r. ⌜ Sized (row .0) r ⌝ }
 {
-    size_of_bits(significant_bits(row) as usize)
+    sizes[significant_bits(row)]
 }
 
 fn put_varint(n: u32, out: &mut [u8], at: usize) -> usize
@@ -82,11 +82,11 @@ fn put_varint(n: u32, out: &mut [u8], at: usize) -> usize
 }
 
 // Internal: the caller has looked at the room.
-pub fn put_record(row: RowNo, out: &mut [u8], at: usize) -> usize
-    requires { ⌜ at + length (recordOf (row .0)) ≤ length (now out) ⌝ }
+pub fn put_record(row: RowNo, out: &mut [u8], at: usize, sizes: &[usize; ROW_BITS + 1]) -> usize
+    requires { ⌜ (at + length (recordOf (row .0)) ≤ length (now out)) × (now sizes ≡ sizeTable) ⌝ }
     ensures { λ r. ⌜ Wrote (now (out .entry)) at (recordOf (row .0)) (now (out .exit)) r ⌝ }
 {
-    let size = record_size(row);
+    let size = record_size(row, sizes);
     out[at] = (size - 1) as u8;
     if row.0 == 0 {
         return at + 1;
@@ -121,11 +121,11 @@ fn holds_varint(file: &[u8], at: usize, n: u32) -> bool
 }
 
 // Whether the file has at `at` what the writer makes of the row.
-pub fn holds_record(file: &[u8], at: usize, row: RowNo) -> bool
-    requires { ⌜ at < length (now file) ⌝ }
+pub fn holds_record(file: &[u8], at: usize, row: RowNo, sizes: &[usize; ROW_BITS + 1]) -> bool
+    requires { ⌜ (at < length (now file)) × (now sizes ≡ sizeTable) ⌝ }
     ensures { λ r. ⌜ r ≡ startsWith (recordOf (row .0)) (drop at (now (file .entry))) ⌝ }
 {
-    let size = record_size(row);
+    let size = record_size(row, sizes);
     if file[at] as usize != size - 1 {
         return false;
     }
@@ -151,7 +151,7 @@ fn smaller(a: u64, b: u64) -> u64
     b
 }
 
-// The number that the groups from `first` to before `end` stand for, or 4,294,967,296 where that is smaller.
+// The number that the groups from `first` to before `end` stand for, or ROW_LIMIT where that is smaller.
 fn value_between(file: &[u8], first: usize, end: usize) -> u64
     requires { ⌜ end ≤ length (now file) ⌝ }
     ensures { λ r. ⌜ r ≡ min (valueOf (slice first end (now (file .entry)))) rowLimit ⌝ }
@@ -160,12 +160,12 @@ fn value_between(file: &[u8], first: usize, end: usize) -> u64
     let mut i = end;
     while i > first {
         i -= 1;
-        value = smaller(value * 128 + (file[i] % 128) as u64, 4294967296);
+        value = smaller(value * 128 + (file[i] % 128) as u64, ROW_LIMIT);
     }
     value
 }
 
-// The row that the record at `at` has room for, or 4,294,967,296 where that is smaller.
+// The row that the record at `at` has room for, or ROW_LIMIT where that is smaller.
 pub fn row_in(file: &[u8], at: usize) -> u64
     requires { ⌜ at < length (now file) ⌝ }
     ensures { λ r. ⌜ r ≡ min (rowIn (drop at (now (file .entry)))) rowLimit ⌝ }
