@@ -1,12 +1,10 @@
+use crate::limits::LONGEST_NAME;
 ghost use mathlib.Core.Path.{_≡_};
 ghost use Prim.Native.Nat.{_≤_};
 ghost use mathlib.Core.List.{[]};
 ghost use lib.ListN.{length};
 ghost use Rattle.lists.specs.Order.{same};
 ghost use Rattle.ids.specs.Names.{longestName, nameOf};
-
-// The most bytes that a name may have.
-pub const LONGEST_NAME: usize = 32;
 
 // A table's name: the first `len` bytes. A greater length is no name's.
 pub struct Name {

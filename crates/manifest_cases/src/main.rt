@@ -3,7 +3,7 @@
 use ids::RowsetNo;
 use ids::TableNo;
 use ids::VectorNo;
-use ids::name::LONGEST_NAME;
+use ids::limits::LONGEST_NAME;
 use ids::name::Name;
 use libc::STDIN_FILENO;
 use libc::STDOUT_FILENO;

@@ -1,5 +1,5 @@
 // Bytes by their class, names, and decimal numbers: read from a place of a slice and written to one.
-use ids::name::LONGEST_NAME;
+use ids::limits::LONGEST_NAME;
 use ids::name::Name;
 ghost use mathlib.Core.Path.{_≡_};
 ghost use Prim.Native.Nat.{_+_, _≤_, _<_};
