@@ -7,7 +7,6 @@ ghost use mathlib.Core.Bool.{not};
 ghost use mathlib.Core.List.{map};
 ghost use Prim.Native.Nat.{ℕ, _≤_, _<_};
 ghost use lib.ListN.{length};
-ghost use Rattle.lists.specs.Keyed.{keep};
 ghost use Rattle.lists.specs.Written.{over};
 ghost use Rattle.ids.specs.Limits.{mostHeld};
 ghost use Rattle.columns.specs.Rows.{rows, column, marks};
@@ -52,24 +51,6 @@ pub fn left(deleted: &[u32; MOST_HELD], count: usize, epoch: u32) -> [bool; MOST
         i += 1;
     }
     kept
-}
-
-// How many of the first `count` are gone by the epoch.
-pub fn gone_count(deleted: &[u32; MOST_HELD], count: usize, epoch: u32) -> usize
-    requires { ⌜ count ≤ mostHeld ⌝ }
-    ensures { λ r. ⌜ r ≡ length (keep (goneAt epoch) (rows (column (now (deleted .entry))) count)) ⌝ }
-{
-    let mut k: usize = 0;
-    let mut i = 0;
-    while i < count {
-        if gone(deleted[i], epoch) {
-            k += 1;
-            i += 1;
-        } else {
-            i += 1;
-        }
-    }
-    k
 }
 
 // The numbers of a column at `count` places, written to the front of a slice.

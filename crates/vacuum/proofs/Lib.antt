@@ -1,2 +1,2 @@
-pub mod Says
+pub mod Arranged
 pub mod Laws

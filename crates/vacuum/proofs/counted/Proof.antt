@@ -1,13 +1,13 @@
--- `snapshot::held::gone_count` meets its contract. Assumes nothing.
+-- `vacuum::counted` meets its contract. Assumes nothing.
 use mathlib.Core.Path.{sym, _∙_}
 use Prim.Native.Nat.{_-_, _≤_}
 use Rattle.ids.specs.Limits.{mostHeld}
 use Rattle.lists.proofs.Places.{known}
 use Rattle.columns.specs.Rows.{column}
 use Rattle.snapshot.specs.Entries.{goneAt}
 use Rattle.snapshot.proofs.Picked.{Counting, count-start, count-one, count-none, count-done}
-use Rattle.snapshot.proofs.held.gone_count.Statement.{statement}
-use Rattle.snapshot.proofs.held.gone_count.Tie as tie
+use Rattle.vacuum.proofs.counted.Statement.{statement}
+use Rattle.vacuum.proofs.counted.Tie as tie
 
 abbrev Inv-loop : tie.InvT-loop
 Inv-loop deleted count epoch k₀ i₀ k i = (count ≤ mostHeld) × Counting (goneAt epoch) (column deleted) count i k
@@ -55,8 +55,8 @@ loop-again-2 c =
 returns : tie.Need-returns Inv-loop μ-loop
 returns c = count-done _ _ _ _ _ (c .loop-test .left) (c .before .loop .inv .1)
 
-pub gone-count-spec : {M : Type 1} → statement M
-gone-count-spec =
+pub counted-spec : {M : Type 1} → statement M
+counted-spec =
     tie.close
     (tie.spec
     Inv-loop
