@@ -161,10 +161,10 @@ pub fn vacuum(
     }
     held::write(&inner.rowsets.tables, &places, count, tables);
     held::write(&inner.rowsets.rowsets, &places, count, rowsets);
-    let inner = let_go(inner, bound);
+    let left = let_go(inner, bound);
     Released {
         verdict: Verdict::Accepted,
         count,
-        inner,
+        inner: left,
     }
 }
