@@ -1,6 +1,6 @@
 -- Laws of padded names, and of their writing. Assumes nothing.
 use mathlib.Core.Path.{_≡_, refl, sym, ap, _∙_}
-use mathlib.Core.Bool.{Bool, true, false, cond, _&&_}
+use mathlib.Core.Bool.{Bool, true, false}
 use mathlib.Core.List.{List, [], _∷_, _++_, append-assoc, append-nil, map}
 use Prim.Native.Nat.{ℕ, zero, suc, _+_, _-_, _*_, _≤_, _<_}
 use native.Mathlib.Omega.{arith}
@@ -15,7 +15,7 @@ use Rattle.lists.specs.Written.{written, over}
 use Rattle.lists.proofs.Tests.{by-cases, both, clash}
 use Rattle.lists.proofs.Written.{written-none, written-length, written-turn, written-on, written-over}
 use Rattle.ids.specs.Limits.{mostTables}
-use Rattle.ids.specs.Names.{longestName, nameIn}
+use Rattle.ids.specs.Names.{longestName}
 use Rattle.text.specs.Name.{isName}
 use Rattle.columns.specs.Rows.{rows, column}
 use Rattle.columns.proofs.Rows.{rows-length, rows-at, rows-map, rows-same}
@@ -140,6 +140,9 @@ all-at p (x ∷ l) (suc i) d h q = all-at p l i d (both (p x) (allOf p l) h .1) 
 nameless : (w : List ℕ) → isName w ≡ true → w ≡ [] → ⊥
 unfolding isName
 nameless w h e = clash {b = false} (rw e at h) refl
+
+pub table-count : (m : Tables) → m .count ≡ length (tablesOf m)
+table-count m = sym (rows-length (tableAt (m .ids) (m .shapes) (m .lengths) (m .names) (m .locked)) (m .count))
 
 module _ (m : Tables) (named : allOf (λ t. isName (t .name)) (tablesOf m) ≡ true) where
   abbrev at : ℕ → TableEntry

@@ -7,7 +7,6 @@ use lib.Dec.{ltb, eqb}
 use lib.ListN.{length, getD}
 use Rattle.lists.specs.Written.{over}
 use Rattle.ids.specs.declared.refusal.Refusal.the-variants.{BadPinBook, EpochNotPinned, OutputTooShort}
-use Rattle.ids.specs.declared.refusal.Verdict.{Verdict}
 use Rattle.ids.specs.declared.refusal.Verdict.the-variants.{Accepted, Refused}
 use Rattle.ids.specs.Names.{longestName}
 use Rattle.ids.specs.Verdicts.{Rule, _⇒_, judged}

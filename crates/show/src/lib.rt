@@ -125,12 +125,12 @@ fn write_name(names: &[u8; NAME_BYTES], at: usize, n: usize, out: &mut [u8])
 {
     let mut i: usize = 0;
     while i < LONGEST_NAME {
-        let at_i = at + i;
+        let place = at + i;
         if i < n {
-            out[at_i] = names[at_i];
+            out[place] = names[place];
             i += 1;
         } else {
-            out[at_i] = 0;
+            out[place] = 0;
             i += 1;
         }
     }

@@ -6,20 +6,20 @@ use Prim.Native.Nat.{ℕ, zero, suc, _+_, _-_, _≤_, _<_}
 use native.Mathlib.Omega.{arith}
 use native.Mathlib.Nat.{not-suc-le-zero, le-of-suc-le-suc}
 use native.Mathlib.Numerals.{add-one}
-use lib.ListN.{length, getD, take, drop}
+use lib.ListN.{length, getD, take}
 use lib.Seq.{take-suc, take-all}
-use Rattle.lists.specs.Order.{lex, less, same}
+use Rattle.lists.specs.Order.{lex, less}
 use Rattle.lists.specs.Keyed.{keep, isAt, has, placed, arranged, ascending, rank}
 use Rattle.lists.specs.Places.{insertAt}
 use Rattle.lists.proofs.Tests.{by-cases, tri}
 use Rattle.lists.proofs.Order.{lex-lt, lex-eq, lex-gt, less-irrefl, less-asym, same-ne}
-use Rattle.lists.proofs.Keyed.{All, all-map, all-keep, all-placed, Ascending, ascend-from, ascending-put, put-new, none-anyOf, keep-append, placed-swap, length-arranged}
+use Rattle.lists.proofs.Keyed.{All, all-map, all-keep, all-placed, Ascending, ascend-from, ascending-put, put-new, none-anyOf, keep-append, placed-swap}
 use Rattle.lists.proofs.Places.{placed-at}
 use Rattle.lists.proofs.Views.{map-insert}
 use Rattle.columns.specs.Rows.{rowsFrom, rows, column, across, plain, PutIn}
 use Rattle.columns.proofs.Rows.{rows-length, rows-at, rows-map, ascending-map, rank-map, halve-start, halve-up, halve-done}
 use Rattle.snapshot.specs.Entries.{Entry, goneAt, goneBy, byIds, byDeletion, entryAt, entries}
-use Rattle.snapshot.specs.Picked.{placesOf, Inside, Stand}
+use Rattle.snapshot.specs.Picked.{placesOf, Stand}
 use Rattle.snapshot.proofs.Entries.{AllPutIn, insert-entry}
 use Rattle.snapshot.proofs.Picked.{placed-rows}
 use Rattle.vacuum.specs.Listed.{byEpochAt, listPlaces}

@@ -4,7 +4,7 @@ use mathlib.Core.Bool.{Bool, true, false}
 use mathlib.Core.List.{List, [], _∷_, map}
 use Prim.Native.Nat.{ℕ, _≤_, _<_}
 use native.Mathlib.Omega.{arith}
-use lib.ListN.{length, getD, length-map}
+use lib.ListN.{length, length-map}
 use borrow.Author.Tests.{lt-ltb, le-ltb}
 use Rattle.lists.specs.Keyed.{ascending}
 use Rattle.lists.specs.Written.{over}

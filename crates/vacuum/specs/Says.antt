@@ -7,7 +7,6 @@ use lib.Dec.{ltb}
 use lib.ListN.{length}
 use Rattle.lists.specs.Written.{over}
 use Rattle.ids.specs.declared.refusal.Refusal.the-variants.{BadPinBook, OutputTooShort}
-use Rattle.ids.specs.declared.refusal.Verdict.{Verdict}
 use Rattle.ids.specs.declared.refusal.Verdict.the-variants.{Accepted}
 use Rattle.ids.specs.Verdicts.{Rule, _⇒_, judged}
 use Rattle.ids.specs.Answers.{after}

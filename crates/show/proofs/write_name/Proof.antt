@@ -19,8 +19,8 @@ abbrev μ-loop : tie.MeasureT-loop
 loop-holds : tie.Need-loop-holds Inv-loop μ-loop
 loop-holds c = (c .pre .2, omega (arith, c .pre .1, c .pre .3), c .pre .0, c .pre .3, pad-start _ _ _ _)
 
-add-at-i : tie.Need-add-at-i Inv-loop μ-loop
-add-at-i c = search known
+add-place : tie.Need-add-place Inv-loop μ-loop
+add-place c = search known
 
 element-copy-out-out : tie.Need-element-copy-out-out Inv-loop μ-loop
 element-copy-out-out c = search known
@@ -66,7 +66,7 @@ write-name-spec =
     Inv-loop
     μ-loop
     loop-holds
-    add-at-i
+    add-place
     element-copy-out-out
     slice-write-out
     add-i
