@@ -5,7 +5,10 @@ ghost use mathlib.Core.List.{[], _∷_};
 ghost use Prim.Native.Nat.{_≤_};
 ghost use Rattle.lists.specs.Order.{less};
 ghost use Rattle.lists.specs.Keyed.{allOf, isAt, ascending};
-ghost use Rattle.pins.specs.Book.{pinEntry, pinsOf, byEpoch, validPin, badBook, GoodBook, pinned, mayShow, bound};
+ghost use Rattle.pins.specs.Book.{pinEntry, pinsOf, byEpoch, mostPinned, validPin, badBook, GoodBook, pinned, mayShow, bound};
+
+// Document 01's limit: epochs that are pinned at a time.
+pub const MOST_PINNED: usize = 64;
 
 pub struct Pin {
     pub epoch: u32,
@@ -14,7 +17,7 @@ pub struct Pin {
 
 // Pinned epochs with their counts, ascending.
 pub struct PinBook {
-    pub items: [Pin; 64],
+    pub items: [Pin; MOST_PINNED],
     pub count: usize,
 }
 
@@ -51,13 +54,13 @@ impl PinBook {
     {
         let none = Pin { epoch: 0, count: 0 };
         PinBook {
-            items: [none; 64],
+            items: [none; MOST_PINNED],
             count: 0,
         }
     }
 
     fn all_valid(self, current: u32) -> bool
-        requires { ⌜ self .count ≤ 64 ⌝ }
+        requires { ⌜ self .count ≤ mostPinned ⌝ }
         ensures { λ r. ⌜ r ≡ allOf (validPin current) (pinsOf self) ⌝ }
     {
         let count = self.count;
@@ -73,7 +76,7 @@ impl PinBook {
     }
 
     fn ordered(self) -> bool
-        requires { ⌜ self .count ≤ 64 ⌝ }
+        requires { ⌜ self .count ≤ mostPinned ⌝ }
         ensures { λ r. ⌜ r ≡ ascending byEpoch (pinsOf self) ⌝ }
     {
         let count = self.count;
@@ -93,7 +96,7 @@ impl PinBook {
     pub fn bad(self, current: u32) -> bool
         ensures { λ r. ⌜ r ≡ badBook current self ⌝ }
     {
-        if 64 < self.count {
+        if MOST_PINNED < self.count {
             return true;
         }
         if !self.all_valid(current) {
@@ -104,7 +107,7 @@ impl PinBook {
 
     // Internal, as is what follows: the count is within the array. Whether the epoch is pinned.
     pub fn holds(self, epoch: u32) -> bool
-        requires { ⌜ self .count ≤ 64 ⌝ }
+        requires { ⌜ self .count ≤ mostPinned ⌝ }
         ensures { λ r. ⌜ r ≡ pinned epoch (pinsOf self) ⌝ }
     {
         let count = self.count;
@@ -121,7 +124,7 @@ impl PinBook {
 
     // Whether pairs and vectors of the epoch may be shown.
     pub fn may_show(self, current: u32, epoch: u32) -> bool
-        requires { ⌜ self .count ≤ 64 ⌝ }
+        requires { ⌜ self .count ≤ mostPinned ⌝ }
         ensures { λ r. ⌜ r ≡ mayShow current (pinsOf self) epoch ⌝ }
     {
         if epoch == current {

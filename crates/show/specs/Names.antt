@@ -1,5 +1,5 @@
--- Names as they are written into a lent slice: 32 bytes for each table. Assumes nothing.
-use mathlib.Core.List.{List, [], _∷_, _++_}
+-- Names as they are written into a lent slice: room for the longest name for each table. Assumes nothing.
+use mathlib.Core.List.{List, [], _∷_, _++_, map}
 use Prim.Native.Nat.{ℕ, zero, suc, _-_}
 use lib.ListN.{length}
 use Rattle.ids.specs.Names.{longestName}
@@ -13,7 +13,11 @@ zeros (suc n) = 0 ∷ zeros n
 abbrev pub padded : List ℕ → List ℕ
 padded n = n ++ zeros (longestName - length n)
 
--- the padded names of tables, one after another
+-- padded names, one after another
+abbrev pub paddedRun : List (List ℕ) → List ℕ
+paddedRun [] = []
+paddedRun (n ∷ l) = padded n ++ paddedRun l
+
+-- those of tables
 abbrev pub namesRun : List TableEntry → List ℕ
-namesRun [] = []
-namesRun (t ∷ l) = padded (t .name) ++ namesRun l
+namesRun l = paddedRun (map (λ (t : TableEntry). t .name) l)

@@ -1,25 +1,24 @@
 // Show: the tables of the current epoch, and the pairs and vectors of the current or a pinned one, into lent slices.
-use ids::name::Name;
+use ids::limits::LONGEST_NAME;
+use ids::limits::MOST_HELD;
+use ids::limits::MOST_TABLES;
+use ids::limits::NAME_BYTES;
 use ids::refusal::Refusal;
 use pins::PinBook;
-use snapshot::Pick;
-use snapshot::rowsets::Rowsets;
-use snapshot::tables::Tables;
-use snapshot::vectors::Vectors;
+use snapshot::held;
 use version_state::VersionManagerInner;
 ghost use mathlib.Core.Path.{_≡_};
-ghost use mathlib.Core.List.{map};
-ghost use Prim.Native.Nat.{_+_, _*_, _≤_, _<_};
-ghost use lib.ListN.{length, getD};
-ghost use Rattle.lists.specs.Keyed.{keep};
-ghost use Rattle.lists.specs.Written.{over, Wrote};
-ghost use Rattle.ids.specs.Names.{nameOf};
-ghost use Rattle.snapshot.specs.Entries.{shownBy};
-ghost use Rattle.snapshot.specs.Tables.{TableEntry};
-ghost use Rattle.snapshot.specs.Views.{rowsetsOf, vectorsOf, tablesOf};
-ghost use Rattle.version_state.specs.State.{stateOf, Fit, pairsAt, vectorsAt};
-ghost use Rattle.show.specs.Names.{padded, namesRun};
-ghost use Rattle.show.specs.Says.{ShowPairsSays, ShowVectorsSays, ShowTablesSays};
+ghost use mathlib.Core.Bool.{false};
+ghost use Prim.Native.Nat.{ℕ, _+_, _*_, _≤_, _<_};
+ghost use lib.ListN.{length, take, drop};
+ghost use Rattle.lists.specs.Written.{written, over};
+ghost use Rattle.ids.specs.Limits.{mostTables};
+ghost use Rattle.ids.specs.Names.{longestName};
+ghost use Rattle.columns.specs.Rows.{rows, column};
+ghost use Rattle.version_state.specs.State.{stateOf};
+ghost use Rattle.version_state.specs.Sound.{badInner};
+ghost use Rattle.show.specs.Names.{padded, paddedRun};
+ghost use Rattle.show.specs.Says.{ShowPairsIs, ShowVectorsIs, ShowTablesIs};
 
 pub enum ShowAnswer {
     // How many are shown.
@@ -27,30 +26,7 @@ pub enum ShowAnswer {
     Refused(Refusal),
 }
 
-// Internal, as are the next two: the counts are within the limits. What an epoch shows, and the live tables.
-pub fn pairs_at(inner: VersionManagerInner, epoch: u32) -> Rowsets
-    requires { ⌜ Fit inner ⌝ }
-    ensures { λ r. ⌜ (r .count ≤ 856) × (r .count ≡ length (pairsAt epoch (stateOf inner))) × (rowsetsOf r ≡ keep (shownBy epoch) (stateOf inner .pairs)) ⌝ }
-{
-    let held = inner.rowsets;
-    held.picked(Pick::Shown, epoch)
-}
-
-pub fn vectors_at(inner: VersionManagerInner, epoch: u32) -> Vectors
-    requires { ⌜ Fit inner ⌝ }
-    ensures { λ r. ⌜ (r .count ≤ 856) × (r .count ≡ length (vectorsAt epoch (stateOf inner))) × (vectorsOf r ≡ keep (shownBy epoch) (stateOf inner .vectors)) ⌝ }
-{
-    let held = inner.vectors;
-    held.picked(Pick::Shown, epoch)
-}
-
-pub fn tables_now(inner: VersionManagerInner) -> Tables
-    requires { ⌜ Fit inner ⌝ }
-    ensures { λ r. ⌜ (r .count ≤ 16) × (r .count ≡ length (stateOf inner .tables)) × (tablesOf r ≡ stateOf inner .tables) ⌝ }
-{
-    inner.tables
-}
-
+// Internal, as are all that follow: the state has passed 29.
 pub fn show_pairs(
     inner: VersionManagerInner,
     book: PinBook,
@@ -58,28 +34,33 @@ pub fn show_pairs(
     tables: &mut [u32],
     rowsets: &mut [u32],
 ) -> ShowAnswer
-    ensures { λ r. ⌜ ShowPairsSays inner book epoch (now (tables .entry)) (now (rowsets .entry)) r (now (tables .exit)) (now (rowsets .exit)) ⌝ }
+    requires { ⌜ badInner inner ≡ false ⌝ }
+    ensures { λ r. ⌜ ShowPairsIs (stateOf inner) book epoch (now (tables .entry)) (now (rowsets .entry)) r (now (tables .exit)) (now (rowsets .exit)) ⌝ }
 {
     let current = inner.epoch;
-    if inner.bad() {
-        return ShowAnswer::Refused(Refusal::BadManager);
-    }
     if book.bad(current) {
         return ShowAnswer::Refused(Refusal::BadPinBook);
     }
     if !book.may_show(current, epoch) {
         return ShowAnswer::Refused(Refusal::EpochNotPinned);
     }
-    let list = pairs_at(inner, epoch);
-    let count = list.count;
+    let n = inner.rowsets.count;
+    let mut places = [0; MOST_HELD];
+    let count = held::shown_places(
+        &inner.rowsets.added,
+        &inner.rowsets.deleted,
+        n,
+        epoch,
+        &mut places,
+    );
     if tables.len() < count {
         return ShowAnswer::Refused(Refusal::OutputTooShort);
     }
     if rowsets.len() < count {
         return ShowAnswer::Refused(Refusal::OutputTooShort);
     }
-    list.write_tables(tables);
-    list.write_rowsets(rowsets);
+    held::write(&inner.rowsets.tables, &places, count, tables);
+    held::write(&inner.rowsets.rowsets, &places, count, rowsets);
     ShowAnswer::Shown(count)
 }
 
@@ -91,20 +72,25 @@ pub fn show_vectors(
     rowsets: &mut [u32],
     vectors: &mut [u64],
 ) -> ShowAnswer
-    ensures { λ r. ⌜ ShowVectorsSays inner book epoch (now (tables .entry)) (now (rowsets .entry)) (now (vectors .entry)) r (now (tables .exit)) (now (rowsets .exit)) (now (vectors .exit)) ⌝ }
+    requires { ⌜ badInner inner ≡ false ⌝ }
+    ensures { λ r. ⌜ ShowVectorsIs (stateOf inner) book epoch (now (tables .entry)) (now (rowsets .entry)) (now (vectors .entry)) r (now (tables .exit)) (now (rowsets .exit)) (now (vectors .exit)) ⌝ }
 {
     let current = inner.epoch;
-    if inner.bad() {
-        return ShowAnswer::Refused(Refusal::BadManager);
-    }
     if book.bad(current) {
         return ShowAnswer::Refused(Refusal::BadPinBook);
     }
     if !book.may_show(current, epoch) {
         return ShowAnswer::Refused(Refusal::EpochNotPinned);
     }
-    let list = vectors_at(inner, epoch);
-    let count = list.count;
+    let n = inner.vectors.count;
+    let mut places = [0; MOST_HELD];
+    let count = held::shown_places(
+        &inner.vectors.added,
+        &inner.vectors.deleted,
+        n,
+        epoch,
+        &mut places,
+    );
     if tables.len() < count {
         return ShowAnswer::Refused(Refusal::OutputTooShort);
     }
@@ -114,63 +100,56 @@ pub fn show_vectors(
     if vectors.len() < count {
         return ShowAnswer::Refused(Refusal::OutputTooShort);
     }
-    list.write_tables(tables);
-    list.write_rowsets(rowsets);
-    list.write_vectors(vectors);
+    held::write(&inner.vectors.tables, &places, count, tables);
+    held::write(&inner.vectors.rowsets, &places, count, rowsets);
+    held::write_wide(&inner.vectors.vectors, &places, count, vectors);
     ShowAnswer::Shown(count)
 }
 
-// A byte of a name, or 0 past its end.
-fn padded_at(name: Name, i: usize) -> u8
-    requires { ⌜ i < 32 ⌝ }
-    ensures { λ r. ⌜ r ≡ getD (padded (nameOf name)) i 0 ⌝ }
+// The first `count` numbers of a column, written to the front of a slice.
+fn write_first(numbers: &[u32; MOST_TABLES], count: usize, out: &mut [u32])
+    requires { ⌜ (count ≤ length (now out)) × (count ≤ mostTables) ⌝ }
+    ensures { λ _. ⌜ now (out .exit) ≡ over (rows (column (now (numbers .entry))) count) (now (out .entry)) ⌝ }
 {
-    let n = name.length();
-    if n <= i {
-        return 0;
-    }
-    name.bytes[i]
-}
-
-fn put_padded(out: &mut [u8], at: usize, name: Name) -> usize
-    requires { ⌜ at + 32 ≤ length (now out) ⌝ }
-    ensures { λ r. ⌜ Wrote (now (out .entry)) at (padded (nameOf name)) (now (out .exit)) r ⌝ }
-{
-    let mut i = 0;
-    while i < 32 {
-        out[at + i] = padded_at(name, i);
-        i += 1;
-    }
-    at + i
-}
-
-// Internal, as is what follows: the count is within the array, and there is room.
-pub fn write_names(tables: Tables, out: &mut [u8])
-    requires { ⌜ (tables .count ≤ 16) × (32 * tables .count ≤ length (now out)) ⌝ }
-    ensures { λ _. ⌜ now (out .exit) ≡ over (namesRun (tablesOf tables)) (now (out .entry)) ⌝ }
-{
-    let count = tables.count;
-    let mut at: usize = 0;
     let mut i = 0;
     while i < count {
-        let x = tables.items[i];
-        let name = x.name;
-        at = put_padded(out, at, name);
+        out[i] = numbers[i];
         i += 1;
     }
 }
 
-pub fn write_lengths(tables: Tables, out: &mut [u32])
-    requires { ⌜ (tables .count ≤ 16) × (tables .count ≤ length (now out)) ⌝ }
-    ensures { λ _. ⌜ now (out .exit) ≡ over (map (λ (t : TableEntry). length (t .name)) (tablesOf tables)) (now (out .entry)) ⌝ }
+// The n bytes of a name from `at` on, and zeros after them, written at the same place of a slice.
+fn write_name(names: &[u8; NAME_BYTES], at: usize, n: usize, out: &mut [u8])
+    requires { ⌜ (at + longestName ≤ length (now out)) × (at + longestName ≤ longestName * mostTables) × (n ≤ longestName) × (length (now names) ≡ longestName * mostTables) ⌝ }
+    ensures { λ _. ⌜ now (out .exit) ≡ written (now (out .entry)) at (padded (take n (drop at (now (names .entry))))) ⌝ }
 {
-    let count = tables.count;
-    let mut i = 0;
+    let mut i: usize = 0;
+    while i < LONGEST_NAME {
+        let place = at + i;
+        if i < n {
+            out[place] = names[place];
+            i += 1;
+        } else {
+            out[place] = 0;
+            i += 1;
+        }
+    }
+}
+
+// The names of the first `count` tables, padded, written to the front of a slice.
+fn write_names<'a>(
+    lengths: &'a [u32; MOST_TABLES],
+    names: &'a [u8; NAME_BYTES],
+    count: usize,
+    out: &mut [u8],
+)
+    requires { ⌜ (count ≤ mostTables) × (longestName * count ≤ length (now out)) × (length (now names) ≡ longestName * mostTables) × ((i : ℕ) → i < count → column (now lengths) i ≤ longestName) ⌝ }
+    ensures { λ _. ⌜ now (out .exit) ≡ over (paddedRun (rows (λ i. take (column (now (lengths .entry)) i) (drop (longestName * i) (now (names .entry)))) count)) (now (out .entry)) ⌝ }
+{
+    let mut i: usize = 0;
     while i < count {
-        let x = tables.items[i];
-        let name = x.name;
-        let n = name.length();
-        out[i] = n as u32;
+        let n = lengths[i] as usize;
+        write_name(names, LONGEST_NAME * i, n, out);
         i += 1;
     }
 }
@@ -184,20 +163,17 @@ pub fn show_tables(
     lengths: &mut [u32],
     names: &mut [u8],
 ) -> ShowAnswer
-    ensures { λ r. ⌜ ShowTablesSays inner book epoch (now (ids .entry)) (now (shapes .entry)) (now (lengths .entry)) (now (names .entry)) r (now (ids .exit)) (now (shapes .exit)) (now (lengths .exit)) (now (names .exit)) ⌝ }
+    requires { ⌜ badInner inner ≡ false ⌝ }
+    ensures { λ r. ⌜ ShowTablesIs (stateOf inner) book epoch (now (ids .entry)) (now (shapes .entry)) (now (lengths .entry)) (now (names .entry)) r (now (ids .exit)) (now (shapes .exit)) (now (lengths .exit)) (now (names .exit)) ⌝ }
 {
     let current = inner.epoch;
-    if inner.bad() {
-        return ShowAnswer::Refused(Refusal::BadManager);
-    }
     if book.bad(current) {
         return ShowAnswer::Refused(Refusal::BadPinBook);
     }
     if epoch != current {
         return ShowAnswer::Refused(Refusal::EpochNotPinned);
     }
-    let list = tables_now(inner);
-    let count = list.count;
+    let count = inner.tables.count;
     if ids.len() < count {
         return ShowAnswer::Refused(Refusal::OutputTooShort);
     }
@@ -207,12 +183,12 @@ pub fn show_tables(
     if lengths.len() < count {
         return ShowAnswer::Refused(Refusal::OutputTooShort);
     }
-    if names.len() < 32 * count {
+    if names.len() < LONGEST_NAME * count {
         return ShowAnswer::Refused(Refusal::OutputTooShort);
     }
-    list.write_ids(ids);
-    list.write_shapes(shapes);
-    write_lengths(list, lengths);
-    write_names(list, names);
+    write_first(&inner.tables.ids, count, ids);
+    write_first(&inner.tables.shapes, count, shapes);
+    write_first(&inner.tables.lengths, count, lengths);
+    write_names(&inner.tables.lengths, &inner.tables.names, count, names);
     ShowAnswer::Shown(count)
 }

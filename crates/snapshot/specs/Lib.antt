@@ -1,3 +1,4 @@
 pub mod Entries
+pub mod Picked
 pub mod Tables
 pub mod Views

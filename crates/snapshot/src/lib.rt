@@ -2,6 +2,7 @@
 ghost use mathlib.Core.Path.{_≡_};
 ghost use Rattle.snapshot.specs.Entries.{goneAt, shownAt};
 
+pub mod held;
 pub mod rowsets;
 pub mod tables;
 pub mod vectors;

@@ -1,32 +1,50 @@
--- What a vacuum leaves: older epochs from the bound on show what they showed, and the manager passes 29. Assumes nothing.
-use mathlib.Core.Path.{_≡_, refl, ap, _∙_}
+-- What a vacuum leaves: older epochs from the bound on show what they showed, and the state passes 29. Assumes nothing.
+use mathlib.Core.Path.{_≡_, refl, sym, ap, _∙_}
 use mathlib.Core.Bool.{Bool, true, false, not, _&&_, _||_}
 use mathlib.Core.List.{List, [], _∷_, map}
 use Prim.Native.Nat.{ℕ, _≤_}
 use native.Mathlib.Omega.{arith}
 use lib.Dec.{leb, ltb, eqb}
-use lib.ListN.{length}
+use lib.ListN.{length, length-map}
 use borrow.Author.Tests.{leb-true, le-leb, not-false}
 use Rattle.lists.specs.Order.{less}
 use Rattle.lists.specs.Keyed.{keep, allOf, arranged, notBelow, sorted}
 use Rattle.lists.proofs.Tests.{by-cases, both, neither}
-use Rattle.lists.proofs.Keyed.{All, all-any, allOf-all, all-allOf, all-keep, keep-same, keep-keep, ascend-to, ascend-from, ascending-keep, Sorted, sorted-arranged}
+use Rattle.lists.proofs.Keyed.{All, all-any, allOf-all, all-allOf, all-keep, keep-same, keep-keep, ascend-to, ascend-from, ascending-keep, Sorted, sorted-arranged, keep-map, length-arranged}
+use Rattle.lists.proofs.Places.{length-mapped}
+use Rattle.columns.specs.Rows.{rows, column}
+use Rattle.columns.proofs.Rows.{rows-map}
 use Rattle.text.specs.Name.{isName}
-use Rattle.snapshot.specs.Entries.{Entry, goneAt, shownAt, goneBy, shownBy, shown, byIds, byDeletion, within}
+use Rattle.snapshot.specs.Entries.{Entry, goneAt, shownAt, goneBy, shownBy, shown, byIds, byDeletion, within, entryAt}
+use Rattle.snapshot.specs.Views.{rowsetsOf}
 use Rattle.snapshot.specs.Tables.{TableEntry}
 use Rattle.version_state.specs.declared.VersionManagerInner.{VersionManagerInner}
-use Rattle.ids.specs.Limits.{longestManifest}
-use Rattle.version_state.specs.State.{State, stateOf, countsFit, Hands, pairsAt, vectorsAt, HandsBack}
-use Rattle.version_state.specs.Sound.{leftBehind, beyondLimits, outOfOrder, aboveOwn, badManager}
+use Rattle.ids.specs.Limits.{mostHeld, longestManifest}
+use Rattle.version_state.specs.State.{State, stateOf, countsFit, Hands, pairsAt, vectorsAt}
+use Rattle.version_state.specs.Sound.{leftBehind, beyondLimits, outOfOrder, aboveOwn, badInner}
 use Rattle.version_state.proofs.Facts.{fit-counts, in-order, order-in}
 use Rattle.pins.specs.declared.PinBook.{PinBook}
 use Rattle.pins.specs.Book.{pinsOf, mayShow}
 use Rattle.pins.proofs.Bound.{bound-le, bound-shows}
-use Rattle.ids.specs.declared.refusal.Verdict.{Verdict}
-use Rattle.ids.specs.declared.refusal.Verdict.the-variants.{Accepted, Refused}
-use Rattle.vacuum.specs.declared.Vacuumed.{Vacuumed}
-use Rattle.vacuum.specs.Says.{boundOf, vacuumVerdict, VacuumSays}
+use Rattle.ids.specs.declared.refusal.Verdict.the-variants.{Accepted}
+use Rattle.vacuum.specs.declared.Released.{Released}
+use Rattle.vacuum.specs.Says.{boundOf, VacuumIs}
 use Rattle.vacuum.specs.LetGo.{vacuumList, staysBy, vacuumed}
+
+-- a column that came with the state has its length, as the facts of a parameter have it
+pub sized : (c : List ℕ) → length (map (λ v. v) c) ≡ mostHeld → length c ≡ mostHeld
+sized c p = length-mapped ℕ ℕ (λ v. v) c mostHeld p
+
+-- how many are gone is how many are listed
+pub counted-list : (b : ℕ) (m : VersionManagerInner) → length (keep (goneAt b) (rows (column (m .rowsets .deleted)) (m .rowsets .count))) ≡ length (vacuumList b (stateOf m))
+counted-list b m =
+    let p = m .rowsets in
+    let f = entryAt (p .tables ∷ p .rowsets ∷ []) (p .added) (p .deleted) in
+    let l = rowsetsOf p in
+    ap (λ (c : List ℕ). length (keep (goneAt b) c)) (sym (rows-map f (λ (x : Entry). x .deleted) (p .count)))
+    ∙ ap length (keep-map (λ (x : Entry). x .deleted) (goneAt b) l)
+    ∙ length-map (keep (goneBy b) l) (λ (x : Entry). x .deleted)
+    ∙ sym (length-arranged byDeletion (keep (goneBy b) l))
 
 -- what is gone by b is gone by every later epoch
 pub gone-later : (b e d : ℕ) → b ≤ e → goneAt b d ≡ true → goneAt e d ≡ true
@@ -115,7 +133,7 @@ none : {w x y z : Bool} → w ≡ false → x ≡ false → y ≡ false → z �
 none p q r t = rw (p, q, r, t)
 
 -- what is handed back passes 29 where the manager did: b is not above its epoch
-pub vacuum-sound : (m n : VersionManagerInner) (b : ℕ) → b ≤ m .epoch → badManager m ≡ false → Hands n (vacuumed b (stateOf m)) → badManager n ≡ false
+pub vacuum-sound : (m n : VersionManagerInner) (b : ℕ) → b ≤ m .epoch → badInner m ≡ false → Hands n (vacuumed b (stateOf m)) → badInner n ≡ false
 vacuum-sound m n b k h d =
     let s = stateOf m in
     let x = neither (beyondLimits m) (outOfOrder s || (aboveOwn s || leftBehind (s .epoch) s)) h in
@@ -126,27 +144,14 @@ vacuum-sound m n b k h d =
     ∙ ap (badBy true) (d .state)
     ∙ none (l .1) (order-left b s (y .0)) (below-left b s (z .0)) (behind-left b s (s .epoch) k ∙ z .1)
 
-module _ (m n : VersionManagerInner) (b : ℕ) where
-  passes : (d : Verdict) → HandsBack d m (vacuumed b (stateOf m)) n → b ≤ m .epoch → badManager m ≡ false → badManager n ≡ false
-  passes Accepted h k g = vacuum-sound m n b k g h
-  passes (Refused q) h k g = rw h g
-
-  pairs-same : (d : Verdict) (e : ℕ) → HandsBack d m (vacuumed b (stateOf m)) n → b ≤ e → pairsAt e (stateOf n) ≡ pairsAt e (stateOf m)
-  pairs-same Accepted e h k = ap (pairsAt e) (h .state) ∙ pairs-after b e (stateOf m) k
-  pairs-same (Refused q) e h k = rw h
-
-  vectors-same : (d : Verdict) (e : ℕ) → HandsBack d m (vacuumed b (stateOf m)) n → b ≤ e → vectorsAt e (stateOf n) ≡ vectorsAt e (stateOf m)
-  vectors-same Accepted e h k = ap (vectorsAt e) (h .state) ∙ vectors-after b e (stateOf m) k
-  vectors-same (Refused q) e h k = rw h
-
 -- the same of the call
-module _ (m : VersionManagerInner) (b : PinBook) (ts rs : List ℕ) (v : Vacuumed) (ts′ rs′ : List ℕ) (says : VacuumSays m b ts rs v ts′ rs′) where
-  pub vacuum-passes : badManager m ≡ false → badManager (v .inner) ≡ false
-  vacuum-passes h = passes m (v .inner) (boundOf m b) (vacuumVerdict m b (length ts) (length rs)) (says .inner) (bound-le (m .epoch) (pinsOf b)) h
+module _ (m : VersionManagerInner) (b : PinBook) (ts rs : List ℕ) (v : Released) (ts′ rs′ : List ℕ) (is : VacuumIs (stateOf m) b ts rs v ts′ rs′) (yes : v .verdict ≡ Accepted) where
+  pub vacuum-passes : badInner m ≡ false → badInner (v .inner) ≡ false
+  vacuum-passes h = vacuum-sound m (v .inner) (boundOf (stateOf m) b) (bound-le (m .epoch) (pinsOf b)) h (is .inner yes)
 
   -- what may be shown shows the same pairs and vectors afterwards
   pub vacuum-keeps-pairs : (e : ℕ) → mayShow (m .epoch) (pinsOf b) e ≡ true → pairsAt e (stateOf (v .inner)) ≡ pairsAt e (stateOf m)
-  vacuum-keeps-pairs e h = pairs-same m (v .inner) (boundOf m b) (vacuumVerdict m b (length ts) (length rs)) e (says .inner) (bound-shows (m .epoch) e (pinsOf b) h)
+  vacuum-keeps-pairs e h = ap (pairsAt e) (is .inner yes .state) ∙ pairs-after (boundOf (stateOf m) b) e (stateOf m) (bound-shows (m .epoch) e (pinsOf b) h)
 
   pub vacuum-keeps-vectors : (e : ℕ) → mayShow (m .epoch) (pinsOf b) e ≡ true → vectorsAt e (stateOf (v .inner)) ≡ vectorsAt e (stateOf m)
-  vacuum-keeps-vectors e h = vectors-same m (v .inner) (boundOf m b) (vacuumVerdict m b (length ts) (length rs)) e (says .inner) (bound-shows (m .epoch) e (pinsOf b) h)
+  vacuum-keeps-vectors e h = ap (vectorsAt e) (is .inner yes .state) ∙ vectors-after (boundOf (stateOf m) b) e (stateOf m) (bound-shows (m .epoch) e (pinsOf b) h)

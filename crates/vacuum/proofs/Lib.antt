@@ -1,2 +1,3 @@
-pub mod Says
+pub mod Arranged
 pub mod Laws
+pub mod Says

@@ -1,69 +1,89 @@
--- What a vacuum says where it refuses and where it accepts. Assumes nothing.
-use mathlib.Core.Path.{_≡_}
-use mathlib.Core.Bool.{Bool, true, false, not, _||_}
-use mathlib.Core.List.{List, [], _∷_}
+-- What a vacuum is where it refuses and where it accepts. Assumes nothing.
+use mathlib.Core.Path.{_≡_, refl, sym, ap, _∙_}
+use mathlib.Core.Bool.{Bool, true, false}
+use mathlib.Core.List.{List, [], _∷_, map}
 use Prim.Native.Nat.{ℕ, _≤_, _<_}
-use lib.ListN.{length}
+use native.Mathlib.Omega.{arith}
+use lib.ListN.{length, length-map}
 use borrow.Author.Tests.{lt-ltb, le-ltb}
+use Rattle.lists.specs.Keyed.{ascending}
 use Rattle.lists.specs.Written.{over}
+use Rattle.lists.proofs.Keyed.{ascend-to}
 use Rattle.ids.specs.declared.refusal.Refusal.{Refusal}
-use Rattle.ids.specs.declared.refusal.Refusal.the-variants.{BadManager, BadPinBook, OutputTooShort}
+use Rattle.ids.specs.declared.refusal.Refusal.the-variants.{BadPinBook, OutputTooShort}
 use Rattle.ids.specs.declared.refusal.Verdict.{Verdict}
 use Rattle.ids.specs.declared.refusal.Verdict.the-variants.{Accepted, Refused}
 use Rattle.ids.specs.Verdicts.{_⇒_, judged}
-use Rattle.snapshot.specs.Entries.{field}
+use Rattle.columns.specs.Rows.{rows, column}
+use Rattle.columns.proofs.Rows.{rows-length}
+use Rattle.snapshot.specs.Entries.{Entry, byIds, entryAt, field}
+use Rattle.snapshot.specs.Picked.{Stand}
 use Rattle.version_state.specs.declared.VersionManagerInner.{VersionManagerInner}
-use Rattle.version_state.specs.State.{stateOf, Hands}
-use Rattle.version_state.specs.Sound.{badManager}
+use Rattle.version_state.specs.State.{State, stateOf, Hands}
 use Rattle.pins.specs.declared.PinBook.{PinBook}
 use Rattle.pins.specs.Book.{badBook}
-use Rattle.vacuum.specs.declared.VacuumAnswer.the-variants.{Listed, Refused as NotListed}
-use Rattle.vacuum.specs.declared.Vacuumed.{Vacuumed}
+use Rattle.vacuum.specs.declared.Released.{Released}
 use Rattle.vacuum.specs.LetGo.{vacuumList, vacuumed}
-use Rattle.vacuum.specs.Says.{boundOf, listOf, tooShort, vacuumVerdict, VacuumSays}
+use Rattle.vacuum.specs.Listed.{listPlaces}
+use Rattle.vacuum.specs.Says.{boundOf, listOf, tooShort, vacuumRules, VacuumIs}
+use Rattle.vacuum.proofs.Arranged.{listed-entries}
 
-module _ (x y z : Bool) where
+-- What stands at the listed places.
+module _ (m : VersionManagerInner) (up : ascending byIds (stateOf m .pairs) ≡ true) (e r : ℕ) (ps : List ℕ) (s : Stand (m .rowsets .count) (listPlaces e (m .rowsets .deleted) (m .rowsets .count)) r ps) where
+  abbrev at : ℕ → Entry
+  at = entryAt (m .rowsets .tables ∷ m .rowsets .rowsets ∷ []) (m .rowsets .added) (m .rowsets .deleted)
+
+  abbrev places : List ℕ
+  places = listPlaces e (m .rowsets .deleted) (m .rowsets .count)
+
+  are-listed : map at places ≡ vacuumList e (stateOf m)
+  are-listed = listed-entries (m .rowsets .tables ∷ m .rowsets .rowsets ∷ []) (m .rowsets .added) (m .rowsets .deleted) (m .rowsets .count) (ascend-to byIds (stateOf m .pairs) up) e
+
+  pub listed-numbers : (g : Entry → ℕ) → map (λ i. g (at i)) (rows (column ps) r) ≡ map g (vacuumList e (stateOf m))
+  listed-numbers g = ap (map (λ i. g (at i))) (s .told) ∙ again places ∙ ap (map g) are-listed
+    where
+      again : (l : List ℕ) → map (λ i. g (at i)) l ≡ map g (map at l)
+      again [] = refl
+      again (i ∷ l) = ap (λ (t : List ℕ). g (at i) ∷ t) (again l)
+
+  pub listed-count : r ≡ length (vacuumList e (stateOf m))
+  listed-count = sym (rows-length (column ps) r) ∙ ap length (s .told) ∙ sym (length-map places at) ∙ ap length are-listed
+
+module _ (x y : Bool) where
   abbrev verdict : Verdict
-  verdict = judged ((x ⇒ BadManager) ∷ (y ⇒ BadPinBook) ∷ (z ⇒ OutputTooShort) ∷ [])
+  verdict = judged ((x ⇒ BadPinBook) ∷ (y ⇒ OutputTooShort) ∷ [])
 
-  first : x ≡ true → verdict ≡ Refused BadManager
+  first : x ≡ true → Refused BadPinBook ≡ verdict
   first h = rw h
 
-  second : x ≡ false → y ≡ true → verdict ≡ Refused BadPinBook
+  second : x ≡ false → y ≡ true → Refused OutputTooShort ≡ verdict
   second h k = rw (h, k)
 
-  third : x ≡ false → y ≡ false → z ≡ true → verdict ≡ Refused OutputTooShort
-  third h k l = rw (h, k, l)
+  passed : x ≡ false → y ≡ false → Accepted ≡ verdict
+  passed h k = rw (h, k)
 
-  passed : x ≡ false → y ≡ false → z ≡ false → verdict ≡ Accepted
-  passed h k l = rw (h, k, l)
+module _ (s : State) (b : PinBook) (ts rs : List ℕ) where
+  pub book-bad : badBook (s .epoch) b ≡ true → Refused BadPinBook ≡ judged (vacuumRules s b (length ts) (length rs))
+  book-bad h = first (badBook (s .epoch) b) (tooShort s b (length ts) (length rs)) h
 
-module _ (m : VersionManagerInner) (b : PinBook) (ts rs : List ℕ) where
-  pub manager-bad : badManager m ≡ true → vacuumVerdict m b (length ts) (length rs) ≡ Refused BadManager
-  manager-bad h = first (badManager m) (badBook (m .epoch) b) (tooShort m b (length ts) (length rs)) h
+  module _ (n : ℕ) (counted : n ≡ length (listOf s b)) (h : badBook (s .epoch) b ≡ false) where
+    pub tables-short : length ts < n → Refused OutputTooShort ≡ judged (vacuumRules s b (length ts) (length rs))
+    tables-short l = second (badBook (s .epoch) b) (tooShort s b (length ts) (length rs)) h (rw (← counted, lt-ltb _ _ l))
 
-  pub book-bad : badManager m ≡ false → badBook (m .epoch) b ≡ true → vacuumVerdict m b (length ts) (length rs) ≡ Refused BadPinBook
-  book-bad h k = second (badManager m) (badBook (m .epoch) b) (tooShort m b (length ts) (length rs)) h k
+    pub rowsets-short : n ≤ length ts → length rs < n → Refused OutputTooShort ≡ judged (vacuumRules s b (length ts) (length rs))
+    rowsets-short l r = second (badBook (s .epoch) b) (tooShort s b (length ts) (length rs)) h (rw (← counted, le-ltb _ _ l, lt-ltb _ _ r))
 
-  module _ (n : ℕ) (counted : n ≡ length (listOf m b)) where
-    pub tables-short : badManager m ≡ false → badBook (m .epoch) b ≡ false → length ts < n → vacuumVerdict m b (length ts) (length rs) ≡ Refused OutputTooShort
-    tables-short h k l =
-        third (badManager m) (badBook (m .epoch) b) (tooShort m b (length ts) (length rs)) h k (rw (← counted, lt-ltb _ _ l))
+    pub room-for-all : n ≤ length ts → n ≤ length rs → Accepted ≡ judged (vacuumRules s b (length ts) (length rs))
+    room-for-all l r = passed (badBook (s .epoch) b) (tooShort s b (length ts) (length rs)) h (rw (← counted, le-ltb _ _ l, le-ltb _ _ r))
 
-    pub rowsets-short : badManager m ≡ false → badBook (m .epoch) b ≡ false → n ≤ length ts → length rs < n → vacuumVerdict m b (length ts) (length rs) ≡ Refused OutputTooShort
-    rowsets-short h k l r =
-        third (badManager m) (badBook (m .epoch) b) (tooShort m b (length ts) (length rs)) h k (rw (← counted, le-ltb _ _ l, lt-ltb _ _ r))
+  never : {P : Type 0} (v : Released) (q : Refusal) → v .verdict ≡ Refused q → v .verdict ≡ Accepted → P
+  never v q a e = let z : _≡_ {A = ℕ} 0 1 = cc in absurd (omega arith)
 
-    pub room-for-all : badManager m ≡ false → badBook (m .epoch) b ≡ false → n ≤ length ts → n ≤ length rs → vacuumVerdict m b (length ts) (length rs) ≡ Accepted
-    room-for-all h k l r =
-        passed (badManager m) (badBook (m .epoch) b) (tooShort m b (length ts) (length rs)) h k (rw (← counted, le-ltb _ _ l, le-ltb _ _ r))
+  pub refuses : (v : Released) (q : Refusal) → v .verdict ≡ Refused q → Refused q ≡ judged (vacuumRules s b (length ts) (length rs)) → VacuumIs s b ts rs v ts rs
+  refuses v q a d = record { verdict = a ∙ d; tables = rw a; rowsets = rw a; count = never v q a; inner = never v q a }
 
-  pub refuses : (v : Vacuumed) (q : Refusal) → vacuumVerdict m b (length ts) (length rs) ≡ Refused q → (v .inner ≡ m) × (v .answer ≡ NotListed q) → VacuumSays m b ts rs v ts rs
-  refuses v q d a =
-      record { answer = rw (d, a .1); tables = rw d; rowsets = rw d; inner = rw d (a .0) }
-
-  pub accepts : (v : Vacuumed) (ts′ rs′ : List ℕ) (e : ℕ) → e ≡ boundOf m b → vacuumVerdict m b (length ts) (length rs) ≡ Accepted
-      → v .answer ≡ Listed (length (vacuumList e (stateOf m))) → ts′ ≡ over (field 0 (vacuumList e (stateOf m))) ts → rs′ ≡ over (field 1 (vacuumList e (stateOf m))) rs
-      → Hands (v .inner) (vacuumed e (stateOf m)) → VacuumSays m b ts rs v ts′ rs′
-  accepts v ts′ rs′ e g d a x y n =
-      record { answer = rw (d, a, g); tables = rw d (rw g at x); rowsets = rw d (rw g at y); inner = rw d (rw g at n) }
+  pub accepts : (v : Released) (ts′ rs′ : List ℕ) (e : ℕ) → e ≡ boundOf s b → v .verdict ≡ Accepted → Accepted ≡ judged (vacuumRules s b (length ts) (length rs))
+      → v .count ≡ length (vacuumList e s) → ts′ ≡ over (field 0 (vacuumList e s)) ts → rs′ ≡ over (field 1 (vacuumList e s)) rs
+      → Hands (v .inner) (vacuumed e s) → VacuumIs s b ts rs v ts′ rs′
+  accepts v ts′ rs′ e g a d n x y h =
+      record { verdict = a ∙ d; tables = rw a (rw g at x); rowsets = rw a (rw g at y); count = λ _. rw g at n; inner = λ _. rw g at h }

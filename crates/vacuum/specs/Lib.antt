@@ -1,2 +1,3 @@
 pub mod LetGo
+pub mod Listed
 pub mod Says

@@ -1,14 +1,18 @@
 -- `show::show_pairs` meets its contract. Assumes nothing.
-use mathlib.Core.Path.{sym, ap, _∙_}
+use mathlib.Core.Path.{refl, sym, ap, _∙_}
 use mathlib.Core.Bool.{not, _||_}
+use mathlib.Core.List.{List, [], _∷_}
+use Prim.Native.Nat.{ℕ}
+use native.Mathlib.Omega.{arith}
 use lib.Dec.{ltb}
 use lib.ListN.{length}
+use Rattle.lists.specs.Written.{over}
 use Rattle.lists.proofs.Places.{known}
-use Rattle.pins.proofs.Facts.{good-book}
-use Rattle.show.specs.Says.{unseen, shownPairs}
+use Rattle.version_state.specs.State.{stateOf, pairsAt}
 use Rattle.version_state.proofs.Facts.{sound-of}
-use Rattle.show.proofs.Says.{manager-bad, book-bad, not-seen, pairs-short-1, pairs-short-2, pairs-room, pairs-refuse, pairs-accept}
-use borrow.Author.Needs.{needs}
+use Rattle.pins.proofs.Facts.{good-book}
+use Rattle.show.specs.Says.{unseen}
+use Rattle.show.proofs.Says.{shown-count, shown-numbers, book-bad, not-seen, pairs-short-1, pairs-short-2, pairs-room, pairs-refuse, pairs-accept}
 use Rattle.show.proofs.show_pairs.Statement.{statement}
 use Rattle.show.proofs.show_pairs.Tie as tie
 
@@ -18,44 +22,44 @@ bad-requires c κs = search known
 returns : tie.Need-returns
 returns c =
     let a = c .before .before .before .before .args in
-    pairs-refuse (a .inner) (a .book) (a .epoch) (a .tables .now) (a .rowsets .now) _ (manager-bad (a .inner) (a .book) (unseen (a .inner) (a .book) (a .epoch)) (ltb (length (a .tables .now)) (length (shownPairs (a .inner) (a .book) (a .epoch))) || ltb (length (a .rowsets .now)) (length (shownPairs (a .inner) (a .book) (a .epoch)))) (sym (c .before .bad .ensures) ∙ c .if1 .taken))
+    pairs-refuse (stateOf (a .t1)) (a .book) (a .epoch) (a .tables .now) (a .rowsets .now) _ (book-bad (stateOf (a .t1)) (a .book) (unseen (stateOf (a .t1)) (a .book) (a .epoch)) (ltb (length (a .tables .now)) (length (pairsAt (a .epoch) (stateOf (a .t1)))) || ltb (length (a .rowsets .now)) (length (pairsAt (a .epoch) (stateOf (a .t1))))) (sym (c .before .bad .ensures) ∙ c .if1 .taken))
 
-bad-requires-2 : tie.Need-bad-requires-2
-bad-requires-2 c κs = search known
+may-show-requires : tie.Need-may-show-requires
+may-show-requires c κs = good-book _ _ (sym (c .before .bad .ensures) ∙ c .if1 .left) .fits
 
 returns-2 : tie.Need-returns-2
 returns-2 c =
     let a = c .before .before .before .before .before .before .args in
-    pairs-refuse (a .inner) (a .book) (a .epoch) (a .tables .now) (a .rowsets .now) _ (book-bad (a .inner) (a .book) (unseen (a .inner) (a .book) (a .epoch)) (ltb (length (a .tables .now)) (length (shownPairs (a .inner) (a .book) (a .epoch))) || ltb (length (a .rowsets .now)) (length (shownPairs (a .inner) (a .book) (a .epoch)))) (sym (c .before .before .before .bad .ensures) ∙ c .before .before .if1 .left) (sym (c .before .bad2 .ensures) ∙ c .if2 .taken))
+    pairs-refuse (stateOf (a .t1)) (a .book) (a .epoch) (a .tables .now) (a .rowsets .now) _ (not-seen (stateOf (a .t1)) (a .book) (unseen (stateOf (a .t1)) (a .book) (a .epoch)) (ltb (length (a .tables .now)) (length (pairsAt (a .epoch) (stateOf (a .t1)))) || ltb (length (a .rowsets .now)) (length (pairsAt (a .epoch) (stateOf (a .t1))))) (sym (c .before .before .before .bad .ensures) ∙ c .before .before .if1 .left) (ap not (sym (c .before .may-show .ensures)) ∙ c .if2 .taken))
 
-may-show-requires : tie.Need-may-show-requires
-may-show-requires c κs = good-book _ _ (sym (c .before .bad2 .ensures) ∙ c .if2 .left) .fits
+shown-places-requires : tie.Need-shown-places-requires
+shown-places-requires c κs = (sound-of (c .before .before .before .before .before .before .before .before .before .before .args .t1) (c .before .before .before .before .before .before .before .before .before .before .pre) .fits .rowsets, refl)
 
 returns-3 : tie.Need-returns-3
 returns-3 c =
-    let a = c .before .before .before .before .before .before .before .before .args in
-    pairs-refuse (a .inner) (a .book) (a .epoch) (a .tables .now) (a .rowsets .now) _ (not-seen (a .inner) (a .book) (unseen (a .inner) (a .book) (a .epoch)) (ltb (length (a .tables .now)) (length (shownPairs (a .inner) (a .book) (a .epoch))) || ltb (length (a .rowsets .now)) (length (shownPairs (a .inner) (a .book) (a .epoch)))) (sym (c .before .before .before .before .before .bad .ensures) ∙ c .before .before .before .before .if1 .left) (sym (c .before .before .before .bad2 .ensures) ∙ c .before .before .if2 .left) (ap not (sym (c .before .may-show .ensures)) ∙ c .if3 .taken))
-
-pairs-at-requires : tie.Need-pairs-at-requires
-pairs-at-requires c κs =
-    let a = c .before .before .before .before .before .before .before .before .args in
-    sound-of (a .inner) (sym (c .before .before .before .before .before .bad .ensures) ∙ c .before .before .before .before .if1 .left) .fits
+    let a = c .before .before .before .before .before .before .before .before .before .before .before .before .args in
+    let l = c .before .shown-places in
+    let n = shown-count (a .t1 .rowsets .tables ∷ a .t1 .rowsets .rowsets ∷ []) (a .t1 .rowsets .added) (a .t1 .rowsets .deleted) (a .t1 .rowsets .count) (a .epoch) (l .result) _ (l .ensures) in
+    pairs-refuse (stateOf (a .t1)) (a .book) (a .epoch) (a .tables .now) (a .rowsets .now) _ (pairs-short-1 (stateOf (a .t1)) (a .book) (a .epoch) (a .tables .now) (a .rowsets .now) (l .result) n (sym (c .before .before .before .before .before .before .before .before .before .bad .ensures) ∙ c .before .before .before .before .before .before .before .before .if1 .left) (ap not (sym (c .before .before .before .before .before .before .before .may-show .ensures)) ∙ c .before .before .before .before .before .before .if2 .left) (c .if3 .taken))
 
 returns-4 : tie.Need-returns-4
 returns-4 c =
-    let a = c .before .before .before .before .before .before .before .before .before .before .args in
-    pairs-refuse (a .inner) (a .book) (a .epoch) (a .tables .now) (a .rowsets .now) _ (pairs-short-1 (a .inner) (a .book) (a .epoch) (a .tables .now) (a .rowsets .now) (c .before .pairs-at .result .count) (c .before .pairs-at .ensures .1) (sym (c .before .before .before .before .before .before .before .bad .ensures) ∙ c .before .before .before .before .before .before .if1 .left) (sym (c .before .before .before .before .before .bad2 .ensures) ∙ c .before .before .before .before .if2 .left) (ap not (sym (c .before .before .before .may-show .ensures)) ∙ c .before .before .if3 .left) (c .if4 .taken))
+    let a = c .before .before .before .before .before .before .before .before .before .before .before .before .before .args in
+    let l = c .before .before .shown-places in
+    let n = shown-count (a .t1 .rowsets .tables ∷ a .t1 .rowsets .rowsets ∷ []) (a .t1 .rowsets .added) (a .t1 .rowsets .deleted) (a .t1 .rowsets .count) (a .epoch) (l .result) _ (l .ensures) in
+    pairs-refuse (stateOf (a .t1)) (a .book) (a .epoch) (a .tables .now) (a .rowsets .now) _ (pairs-short-2 (stateOf (a .t1)) (a .book) (a .epoch) (a .tables .now) (a .rowsets .now) (l .result) n (sym (c .before .before .before .before .before .before .before .before .before .before .bad .ensures) ∙ c .before .before .before .before .before .before .before .before .before .if1 .left) (ap not (sym (c .before .before .before .before .before .before .before .before .may-show .ensures)) ∙ c .before .before .before .before .before .before .before .if2 .left) (c .before .if3 .left) (c .if4 .taken))
 
-returns-5 : tie.Need-returns-5
-returns-5 c =
-    let a = c .before .before .before .before .before .before .before .before .before .before .before .args in
-    pairs-refuse (a .inner) (a .book) (a .epoch) (a .tables .now) (a .rowsets .now) _ (pairs-short-2 (a .inner) (a .book) (a .epoch) (a .tables .now) (a .rowsets .now) (c .before .before .pairs-at .result .count) (c .before .before .pairs-at .ensures .1) (sym (c .before .before .before .before .before .before .before .before .bad .ensures) ∙ c .before .before .before .before .before .before .before .if1 .left) (sym (c .before .before .before .before .before .before .bad2 .ensures) ∙ c .before .before .before .before .before .if2 .left) (ap not (sym (c .before .before .before .before .may-show .ensures)) ∙ c .before .before .before .if3 .left) (c .before .if4 .left) (c .if5 .taken))
+write-requires : tie.Need-write-requires
+write-requires c κs =
+    let l = c .before .before .before .before .before .before .shown-places .ensures in
+    let f = sound-of (c .before .before .before .before .before .before .before .before .before .before .before .before .before .before .before .before .before .args .t1) (c .before .before .before .before .before .before .before .before .before .before .before .before .before .before .before .before .before .pre) .fits .rowsets in
+    (c .before .before .before .before .before .if3 .left, omega (arith, l .fewer), λ i h. omega (arith, l .inside i h))
 
-write-tables-requires : tie.Need-write-tables-requires
-write-tables-requires c κs = (c .before .before .before .pairs-at .ensures .0, c .before .before .if4 .left)
-
-write-rowsets-requires : tie.Need-write-rowsets-requires
-write-rowsets-requires c κs = (c .before .before .before .before .before .before .before .pairs-at .ensures .0, c .before .before .before .before .before .if5 .left)
+write-requires-2 : tie.Need-write-requires-2
+write-requires-2 c κs =
+    let l = c .before .before .before .before .before .before .before .before .before .before .before .before .before .shown-places .ensures in
+    let f = sound-of (c .before .before .before .before .before .before .before .before .before .before .before .before .before .before .before .before .before .before .before .before .before .before .before .before .args .t1) (c .before .before .before .before .before .before .before .before .before .before .before .before .before .before .before .before .before .before .before .before .before .before .before .before .pre) .fits .rowsets in
+    (c .before .before .before .before .before .before .before .before .before .before .before .if4 .left, omega (arith, l .fewer), λ i h. omega (arith, l .inside i h))
 
 same-length : tie.Need-same-length
 same-length c = search known
@@ -63,10 +67,14 @@ same-length c = search known
 same-length-2 : tie.Need-same-length-2
 same-length-2 c = search known
 
-returns-6 : tie.Need-returns-6
-returns-6 c =
-    let a = c .before .before .before .before .before .before .before .before .before .before .before .before .before .before .before .before .before .before .before .args in
-    pairs-accept (a .inner) (a .book) (a .epoch) (a .tables .now) (a .rowsets .now) _ _ _ _ (pairs-room (a .inner) (a .book) (a .epoch) (a .tables .now) (a .rowsets .now) (c .before .before .before .before .before .before .before .before .before .before .pairs-at .result .count) (c .before .before .before .before .before .before .before .before .before .before .pairs-at .ensures .1) (sym (c .before .before .before .before .before .before .before .before .before .before .before .before .before .before .before .before .bad .ensures) ∙ c .before .before .before .before .before .before .before .before .before .before .before .before .before .before .before .if1 .left) (sym (c .before .before .before .before .before .before .before .before .before .before .before .before .before .before .bad2 .ensures) ∙ c .before .before .before .before .before .before .before .before .before .before .before .before .before .if2 .left) (ap not (sym (c .before .before .before .before .before .before .before .before .before .before .before .before .may-show .ensures)) ∙ c .before .before .before .before .before .before .before .before .before .before .before .if3 .left) (c .before .before .before .before .before .before .before .before .before .if4 .left) (c .before .before .before .before .before .before .before .before .if5 .left)) (c .before .before .before .before .before .before .before .before .before .before .pairs-at .ensures .1) (c .before .before .before .before .before .before .before .before .before .before .pairs-at .ensures .2) (c .before .before .before .before .before .before .write-tables .ensures) (c .before .before .write-rowsets .ensures)
+returns-5 : tie.Need-returns-5
+returns-5 c =
+    let a = c .before .before .before .before .before .before .before .before .before .before .before .before .before .before .before .before .before .before .before .before .before .before .before .before .before .before .before .args in
+    let l = c .before .before .before .before .before .before .before .before .before .before .before .before .before .before .before .before .shown-places in
+    let n = shown-count (a .t1 .rowsets .tables ∷ a .t1 .rowsets .rowsets ∷ []) (a .t1 .rowsets .added) (a .t1 .rowsets .deleted) (a .t1 .rowsets .count) (a .epoch) (l .result) _ (l .ensures) in
+    let x = c .before .before .before .before .before .before .before .before .before .write .ensures ∙ ap (λ (t : List ℕ). over t (a .tables .now)) (shown-numbers (a .t1 .rowsets .tables ∷ a .t1 .rowsets .rowsets ∷ []) (a .t1 .rowsets .added) (a .t1 .rowsets .deleted) (a .t1 .rowsets .count) (a .epoch) (l .result) _ (l .ensures) 0) in
+    let y = c .before .before .write2 .ensures ∙ ap (λ (t : List ℕ). over t (a .rowsets .now)) (shown-numbers (a .t1 .rowsets .tables ∷ a .t1 .rowsets .rowsets ∷ []) (a .t1 .rowsets .added) (a .t1 .rowsets .deleted) (a .t1 .rowsets .count) (a .epoch) (l .result) _ (l .ensures) 1) in
+    pairs-accept (stateOf (a .t1)) (a .book) (a .epoch) (a .tables .now) (a .rowsets .now) (l .result) _ _ (pairs-room (stateOf (a .t1)) (a .book) (a .epoch) (a .tables .now) (a .rowsets .now) (l .result) n (sym (c .before .before .before .before .before .before .before .before .before .before .before .before .before .before .before .before .before .before .before .before .before .before .before .before .bad .ensures) ∙ c .before .before .before .before .before .before .before .before .before .before .before .before .before .before .before .before .before .before .before .before .before .before .before .if1 .left) (ap not (sym (c .before .before .before .before .before .before .before .before .before .before .before .before .before .before .before .before .before .before .before .before .before .before .may-show .ensures)) ∙ c .before .before .before .before .before .before .before .before .before .before .before .before .before .before .before .before .before .before .before .before .before .if2 .left) (c .before .before .before .before .before .before .before .before .before .before .before .before .before .before .before .if3 .left) (c .before .before .before .before .before .before .before .before .before .before .before .before .before .before .if4 .left)) n x y
 
 pub show-pairs-spec : {M : Type 1} → statement M
 show-pairs-spec =
@@ -74,15 +82,13 @@ show-pairs-spec =
     (tie.spec
     bad-requires
     returns
-    bad-requires-2
-    returns-2
     may-show-requires
+    returns-2
+    shown-places-requires
     returns-3
-    pairs-at-requires
     returns-4
-    returns-5
-    write-tables-requires
-    write-rowsets-requires
+    write-requires
+    write-requires-2
     same-length
     same-length-2
-    returns-6)
+    returns-5)

@@ -1,47 +1,60 @@
 -- `show::write_names` meets its contract. Assumes nothing.
 use mathlib.Core.Path.{_≡_}
-use Prim.Native.Nat.{_-_}
+use Prim.Native.Nat.{ℕ, _-_, _*_, _≤_, _<_}
 use native.Mathlib.Omega.{arith}
-use lib.ListN.{length}
+use lib.ListN.{length, take, drop, length-take}
+use Rattle.ids.specs.Limits.{mostTables}
+use Rattle.ids.specs.Names.{longestName}
 use Rattle.lists.proofs.Places.{known}
-use Rattle.show.proofs.Names.{Naming, naming-start, naming-length, naming-room, naming-more, naming-done}
+use Rattle.columns.specs.Rows.{column}
+use Rattle.show.proofs.Names.{Naming, naming-start, naming-more, naming-done}
 use Rattle.show.proofs.write_names.Statement.{statement}
 use Rattle.show.proofs.write_names.Tie as tie
 
 abbrev Inv-loop : tie.InvT-loop
-Inv-loop out₀ tables count at₀ i₀ out at i = Naming (tables .items) count out₀ i out at
+Inv-loop lengths names count out₀ i₀ out i = (count ≤ mostTables) × (length names ≡ longestName * mostTables) × ((j : ℕ) → j < count → column lengths j ≤ longestName) × Naming (λ j. take (column lengths j) (drop (longestName * j) names)) count out₀ i out
 
 abbrev μ-loop : tie.MeasureT-loop
-μ-loop out₀ tables count at₀ i₀ out at i = count - i
+μ-loop lengths names count out₀ i₀ out i = count - i
 
 loop-holds : tie.Need-loop-holds Inv-loop μ-loop
-loop-holds c =
-    let full : length (c .before .args .t1 .items) ≡ 16 = search known in
-    naming-start (c .before .args .t1 .items) (c .before .args .t1 .count) _ (omega (arith, c .before .pre .0)) (c .before .pre .1)
+loop-holds c = let p = c .before .pre in (p .0, p .2, p .3, naming-start _ _ _ (p .1))
 
-mul-x : tie.Need-mul-x Inv-loop μ-loop
-mul-x c = search known
+mul-n : tie.Need-mul-n Inv-loop μ-loop
+mul-n c = search known
 
-element-copy-out-x : tie.Need-element-copy-out-x Inv-loop μ-loop
-element-copy-out-x c = let inv = c .before .loop .inv in omega (arith, inv .fits, c .loop-test .taken)
+element-copy-out-n : tie.Need-element-copy-out-n Inv-loop μ-loop
+element-copy-out-n c = search known
 
-put-padded-requires : tie.Need-put-padded-requires Inv-loop μ-loop
-put-padded-requires c κs = naming-room (c .before .before .before .before .before .before .args .t1 .items) (c .before .before .before .before .before .before .args .t1 .count) _ (c .before .before .before .before .loop .i) _ (c .before .before .before .before .loop .at) (c .before .before .before .before .loop .inv) (c .before .before .before .loop-test .taken)
+cast-n : tie.Need-cast-n Inv-loop μ-loop
+cast-n c = let f = c .before .before .loop .inv .2 _ (c .before .loop-test .taken) in omega arith
+
+mul-write-name : tie.Need-mul-write-name Inv-loop μ-loop
+mul-write-name c = omega (arith, c .before .before .loop .inv .0, c .before .loop-test .taken)
+
+write-name-requires : tie.Need-write-name-requires Inv-loop μ-loop
+write-name-requires c κs =
+    let inv = c .before .before .before .loop .inv in
+    let t = c .before .before .loop-test .taken in
+    (omega (arith, inv .0, inv .3 .room, inv .3 .size), omega (arith, inv .0), inv .2 _ t, inv .1)
 
 add-i : tie.Need-add-i Inv-loop μ-loop
-add-i c = let inv = c .before .before .before .before .before .before .before .loop .inv in omega (arith, inv .fits, inv .room, c .before .before .before .before .before .before .loop-test .taken)
+add-i c = omega (arith, c .before .before .before .before .before .before .loop .inv .0, c .before .before .before .before .before .loop-test .taken)
 
 loop-less : tie.Need-loop-less Inv-loop μ-loop
 loop-less c = search known
 
 loop-again : tie.Need-loop-again Inv-loop μ-loop
-loop-again c = naming-more (c .before .before .before .before .before .before .before .before .before .args .t1 .items) (c .before .before .before .before .before .before .before .before .before .args .t1 .count) _ (c .before .before .before .before .before .before .before .loop .i) _ (c .before .before .before .before .before .before .before .loop .at) (c .before .before .before .before .before .before .before .loop .inv) _ _ _ (c .before .before .before .before .before .before .loop-test .taken) (c .before .before .put-padded .ensures)
+loop-again c =
+    let inv = c .before .before .before .before .before .before .loop .inv in
+    let t = c .before .before .before .before .before .loop-test .taken in
+    (inv .0, inv .1, inv .2, naming-more _ _ _ _ _ (inv .3) _ t (simp length-take (omega (arith, inv .2 _ t))) (c .before .before .write-name .ensures))
 
 same-length : tie.Need-same-length Inv-loop μ-loop
-same-length c = naming-length (c .before .before .before .args .t1 .items) (c .before .before .before .args .t1 .count) _ (c .before .loop .i) _ (c .before .loop .at) (c .before .loop .inv)
+same-length c = c .before .loop .inv .3 .size
 
 returns : tie.Need-returns Inv-loop μ-loop
-returns c = naming-done (c .before .before .before .args .t1 .items) (c .before .before .before .args .t1 .count) _ (c .before .loop .i) _ (c .before .loop .at) (c .before .loop .inv) (c .loop-test .left)
+returns c = naming-done _ _ _ _ _ (c .before .loop .inv .3) (c .loop-test .left)
 
 pub write-names-spec : {M : Type 1} → statement M
 write-names-spec =
@@ -50,9 +63,11 @@ write-names-spec =
     Inv-loop
     μ-loop
     loop-holds
-    mul-x
-    element-copy-out-x
-    put-padded-requires
+    mul-n
+    element-copy-out-n
+    cast-n
+    mul-write-name
+    write-name-requires
     add-i
     loop-less
     loop-again

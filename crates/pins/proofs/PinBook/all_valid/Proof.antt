@@ -8,7 +8,7 @@ use lib.ListN.{length, drop}
 use Rattle.lists.specs.Keyed.{allOf}
 use Rattle.lists.proofs.Places.{known}
 use Rattle.lists.proofs.Views.{seen-end, all-fails, all-next}
-use Rattle.pins.specs.Book.{pinEntry, pinsOf, validPin}
+use Rattle.pins.specs.Book.{mostPinned, pinEntry, pinsOf, validPin}
 use Rattle.pins.proofs.PinBook.all_valid.Statement.{statement}
 use Rattle.pins.proofs.PinBook.all_valid.Tie as tie
 
@@ -20,7 +20,7 @@ abbrev μ-loop : tie.MeasureT-loop
 
 loop-holds : tie.Need-loop-holds Inv-loop μ-loop
 loop-holds c =
-    let full : length (c .args .t1 .items) ≡ 64 = search known in
+    let full : length (c .args .t1 .items) ≡ mostPinned = search known in
     (search known, omega (arith, c .pre), refl)
 
 mul-x : tie.Need-mul-x Inv-loop μ-loop

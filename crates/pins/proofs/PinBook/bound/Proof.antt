@@ -4,7 +4,7 @@ use native.Mathlib.Omega.{arith}
 use lib.ListN.{length}
 use Rattle.lists.proofs.Places.{known}
 use Rattle.lists.proofs.Views.{seen}
-use Rattle.pins.specs.Book.{pinEntry, pinsOf, bound}
+use Rattle.pins.specs.Book.{mostPinned, pinEntry, pinsOf, bound}
 use Rattle.pins.proofs.Bound.{bound-read}
 use borrow.Author.Needs.{needs}
 use Rattle.pins.proofs.PinBook.bound.Statement.{statement}
@@ -18,7 +18,7 @@ element-copy-out-first c = search known
 
 returns-2 : tie.Need-returns-2
 returns-2 c =
-    let full : length (c .before .before .args .t1 .items) ≡ 64 = search known in
+    let full : length (c .before .before .args .t1 .items) ≡ mostPinned = search known in
     let b = c .before .before .args .t1 in
     let v = seen pinEntry (c .before .before .args .t1 .items) (c .before .before .args .t1 .count) 0 _ (omega (arith, c .before .if1 .left)) (omega (arith, c .before .before .pre .fits)) in
     bound-read (c .before .before .args .current) (pinsOf b) _ _ v (c .before .before .pre .valid) (c .before .before .pre .ordered)

@@ -7,7 +7,7 @@ use lib.ListN.{length, drop}
 use Rattle.lists.specs.Keyed.{anyOf, isAt}
 use Rattle.lists.proofs.Places.{known}
 use Rattle.lists.proofs.Views.{seen-end, any-here, any-next}
-use Rattle.pins.specs.Book.{pinEntry, pinsOf, byEpoch}
+use Rattle.pins.specs.Book.{mostPinned, pinEntry, pinsOf, byEpoch}
 use Rattle.pins.proofs.PinBook.holds.Statement.{statement}
 use Rattle.pins.proofs.PinBook.holds.Tie as tie
 
@@ -19,7 +19,7 @@ abbrev μ-loop : tie.MeasureT-loop
 
 loop-holds : tie.Need-loop-holds Inv-loop μ-loop
 loop-holds c =
-    let full : length (c .args .t1 .items) ≡ 64 = search known in
+    let full : length (c .args .t1 .items) ≡ mostPinned = search known in
     (search known, omega (arith, c .pre), refl)
 
 mul-x : tie.Need-mul-x Inv-loop μ-loop

@@ -7,19 +7,19 @@ use lib.ListN.{length, drop}
 use Rattle.lists.specs.Keyed.{ascending}
 use Rattle.lists.proofs.Places.{known}
 use Rattle.lists.proofs.Views.{ascending-fails, ascending-next, ascending-end}
-use Rattle.pins.specs.Book.{pinEntry, pinsOf, byEpoch}
+use Rattle.pins.specs.Book.{mostPinned, pinEntry, pinsOf, byEpoch}
 use Rattle.pins.proofs.PinBook.ordered.Statement.{statement}
 use Rattle.pins.proofs.PinBook.ordered.Tie as tie
 
 abbrev Inv-loop : tie.InvT-loop
-Inv-loop self count i₀ i = (count ≤ length (self .items)) × (i ≤ count) × (count ≤ 64) × (ascending byEpoch (pinsOf self) ≡ ascending byEpoch (drop i (pinsOf self)))
+Inv-loop self count i₀ i = (count ≤ length (self .items)) × (i ≤ count) × (count ≤ mostPinned) × (ascending byEpoch (pinsOf self) ≡ ascending byEpoch (drop i (pinsOf self)))
 
 abbrev μ-loop : tie.MeasureT-loop
 μ-loop self count i₀ i = count - i
 
 loop-holds : tie.Need-loop-holds Inv-loop μ-loop
 loop-holds c =
-    let full : length (c .args .t1 .items) ≡ 64 = search known in
+    let full : length (c .args .t1 .items) ≡ mostPinned = search known in
     (omega (arith, c .pre), omega arith, c .pre, refl)
 
 add-loop : tie.Need-add-loop Inv-loop μ-loop
