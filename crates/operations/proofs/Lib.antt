@@ -1,2 +1,4 @@
-pub mod Tables
+pub mod Entries
 pub mod Local
+pub mod Tables
+pub mod Turns
