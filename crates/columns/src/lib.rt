@@ -27,7 +27,13 @@ pub fn before(a: u32, b: u32, x: u32, y: u32) -> bool
 }
 
 // The place of the first row that is not before (x, y), by halves.
-pub fn place<'a>(a: &'a [u32; MOST_HELD], b: &'a [u32; MOST_HELD], count: usize, x: u32, y: u32) -> usize
+pub fn place<'a>(
+    a: &'a [u32; MOST_HELD],
+    b: &'a [u32; MOST_HELD],
+    count: usize,
+    x: u32,
+    y: u32,
+) -> usize
     requires { ⌜ (count ≤ mostHeld) × (ascending plain (rows (across (now a ∷ now b ∷ [])) count) ≡ true) ⌝ }
     ensures { λ r. ⌜ (r ≡ rank plain (x ∷ y ∷ []) (rows (across (now (a .entry) ∷ now (b .entry) ∷ [])) count)) × (r ≤ count) ⌝ }
 {

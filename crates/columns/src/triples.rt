@@ -114,7 +114,12 @@ pub fn stands<'a>(
 }
 
 // The rows rise strictly.
-pub fn ordered<'a>(a: &'a [u32; MOST_HELD], b: &'a [u32; MOST_HELD], c: &'a [u64; MOST_HELD], count: usize) -> bool
+pub fn ordered<'a>(
+    a: &'a [u32; MOST_HELD],
+    b: &'a [u32; MOST_HELD],
+    c: &'a [u64; MOST_HELD],
+    count: usize,
+) -> bool
     requires { ⌜ count ≤ mostHeld ⌝ }
     ensures { λ r. ⌜ r ≡ ascending plain (rows (across (now (a .entry) ∷ now (b .entry) ∷ now (c .entry) ∷ [])) count) ⌝ }
 {

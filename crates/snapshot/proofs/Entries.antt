@@ -44,7 +44,7 @@ belowAll (k ∷ ks) [] n = allOf (λ x. false) (rows (column k) n)
 belowAll (k ∷ ks) (m ∷ ns) n = allOf (λ x. ltb x m) (rows (column k) n) && belowAll ks ns n
 
 module _ {A : Type 0} (f : ℕ → A) (n : ℕ) where
-  all-rows : {B : Type 0} (e : A → B) (p : B → Bool) → allOf (λ x. p (e x)) (rows f n) ≡ allOf p (rows (λ i. e (f i)) n)
+  pub all-rows : {B : Type 0} (e : A → B) (p : B → Bool) → allOf (λ x. p (e x)) (rows f n) ≡ allOf p (rows (λ i. e (f i)) n)
   all-rows e p = all-map e p (rows f n) ∙ ap (allOf p) (rows-map f e n)
 
 all-true : {A : Type 0} (l : List A) → allOf (λ x. true) l ≡ true
