@@ -6,7 +6,7 @@ use Prim.Native.Nat.{ℕ, _+_, _≤_, _<_}
 use native.Mathlib.Omega.{arith}
 use native.Mathlib.Numerals.{add-one}
 use lib.Dec.{ltb, eqb}
-use lib.ListN.{length, getD, drop, set}
+use lib.ListN.{length, getD, set}
 use borrow.Author.Tests.{ltb-true, eqb-false}
 use Rattle.ids.specs.Limits.{mostHeld}
 use Rattle.lists.specs.Order.{less, same}
@@ -16,7 +16,7 @@ use Rattle.lists.proofs.Order.{same-true, less-same}
 use Rattle.lists.proofs.Keyed.{anyOf-map, Ascending, ascend-to, after-absent}
 use Rattle.lists.proofs.Places.{has-here}
 use Rattle.columns.specs.Rows.{rows, column, across, plain}
-use Rattle.columns.proofs.Rows.{rows-at, rows-map, rows-seen, rows-end}
+use Rattle.columns.proofs.Rows.{rows-at, rows-map}
 use Rattle.snapshot.specs.Entries.{Entry, byIds, deletedAt, shownAt, shownBy, entryAt, entries}
 use Rattle.snapshot.proofs.Entries.{rank-ids, ascending-ids, held-ids, delete-held}
 use Rattle.operations.specs.Judge.{isShown, vectorHeld}
@@ -96,22 +96,3 @@ pub new-id : (x y z a d : List ℕ) (n at t r v : ℕ) → Rising (x ∷ y ∷ z
 new-id x y z a d n at t r v g p h =
     let ks = x ∷ y ∷ z ∷ [] in
     sym (held-ids ks a d n (t ∷ r ∷ v ∷ []) at (g .rises) p) ∙ not-held t r v (entries ks a d n) (vector-ids x y z a d n v ∙ h)
-
--- Looking for a number in a column: of those from i on it is not known yet.
-pub record Looking (p : ℕ → Bool) (c : List ℕ) (n i : ℕ) : Type 0 where
-  pub within : i ≤ n
-  pub same : anyOf p (rows (column c) n) ≡ anyOf p (drop i (rows (column c) n))
-
-module _ (p : ℕ → Bool) (c : List ℕ) (n : ℕ) where
-  pub look-start : Looking p c n 0
-  look-start = record { within = omega arith; same = refl }
-
-  module _ (i : ℕ) (s : Looking p c n i) where
-    pub look-stop : i < n → p (column c i) ≡ true → true ≡ anyOf p (rows (column c) n)
-    look-stop h t = sym (s .same ∙ rw (rows-seen (column c) n i h, t))
-
-    pub look-more : i < n → p (column c i) ≡ false → Looking p c n (i + 1)
-    look-more h t = record { within = omega arith; same = s .same ∙ rw (rows-seen (column c) n i h, t) }
-
-    pub look-done : n ≤ i → false ≡ anyOf p (rows (column c) n)
-    look-done h = sym (s .same ∙ rw (rows-end (column c) n i h))

@@ -1,4 +1,3 @@
 pub mod Entries
 pub mod Local
-pub mod Tables
 pub mod Turns

@@ -1,21 +1,32 @@
 -- What the tests of an operation say: where it is refused, and what it leaves. Assumes nothing.
-use mathlib.Core.Path.{_≡_}
+use mathlib.Core.Path.{_≡_, _∙_}
 use mathlib.Core.Bool.{true, false}
-use mathlib.Core.List.{[], _∷_}
+use mathlib.Core.List.{List, [], _∷_, _++_}
 use Prim.Native.Nat.{ℕ, _+_, _≤_, _<_, max}
 use native.Mathlib.Omega.{arith}
+use lib.Dec.{ltb}
 use lib.ListN.{length}
-use borrow.Author.Tests.{le-leb, lt-leb}
-use Rattle.lists.specs.Keyed.{has, put, without, changed}
+use borrow.Author.Tests.{le-leb, lt-leb, eq-eqb, ne-eqb}
+use Rattle.lists.specs.Keyed.{allOf, has, put, without, changed}
+use Rattle.lists.proofs.Order.{lex-last}
+use Rattle.lists.proofs.Keyed.{all-map, allOf-all, put-last}
 use Rattle.ids.specs.Limits.{mostTables, mostHeld}
 use Rattle.ids.specs.declared.refusal.Refusal.the-variants.{TableNotLive, PairNotShown, VectorNotShown, IdNotDrawn, NameTaken, StillHeld, TablesFull, HeldFull}
 use Rattle.ids.specs.declared.refusal.Verdict.the-variants.{Accepted, Refused}
-use Rattle.manifest.specs.Operations.{addRowset, deleteRowset, addVector, deleteVector}
+use Rattle.manifest.specs.Operations.{createTable, dropTable, addRowset, deleteRowset, addVector, deleteVector}
 use Rattle.snapshot.specs.Entries.{byIds, addedAt, deletedAt}
-use Rattle.version_state.specs.State.{State, withPairs, withVectors}
+use Rattle.snapshot.specs.Tables.{TableEntry, created, byTable, nameTaken}
+use Rattle.version_state.specs.State.{State, withTables, withPairs, withVectors, withNext}
 use Rattle.operations.specs.declared.Stepped.{Stepped}
 use Rattle.operations.specs.Judge.{isLive, isShown, vectorHeld}
 use Rattle.operations.specs.Steps.{Turned, StepIs}
+
+-- a table with the next id stands after all others
+create-last : (l : List TableEntry) (n t h : ℕ) (name : List ℕ) → allOf (λ x. ltb (x .table) n) l ≡ true → t ≡ n
+    → put byTable (created t h name) l ≡ l ++ (created t h name ∷ [])
+create-last l n t h name b e =
+    put-last byTable (created t h name) l
+    (all-map l (λ x k. lex-last (x .table) t ∙ rw e k) (allOf-all (λ x. ltb (x .table) n) l b))
 
 -- x is the answer to an operation at place i and epoch e on the state s, and u what stands in the columns after it
 module _ (i e : ℕ) (s : State) (x : Stepped) (u : State) where
@@ -86,3 +97,34 @@ module _ (i e : ℕ) (s : State) (x : Stepped) (u : State) where
           vector-in d k h =
               let m : max (s .nextVector) (v + 1) ≡ s .nextVector = omega arith in
               rw (a, lt-leb _ _ b, c, l, lt-leb _ _ d, m) (k, h)
+
+  module _ (t : ℕ) where
+    pub table-not-live : isLive t s ≡ false → x .verdict ≡ Refused (TableNotLive i) → Turned i e (dropTable t) s x u
+    unfolding Turned StepIs
+    table-not-live a k = rw a k
+
+    pub table-out : isLive t s ≡ true → x .verdict ≡ Accepted → u ≡ withTables s (without byTable (t ∷ []) (s .tables)) → Turned i e (dropTable t) s x u
+    unfolding Turned StepIs
+    table-out a k h = rw a (k, h)
+
+    module _ (f : ℕ) (n : List ℕ) where
+      pub table-undrawn : (t ≡ s .nextTable → ⊥) → x .verdict ≡ Refused (IdNotDrawn i) → Turned i e (createTable t f n) s x u
+      unfolding Turned StepIs
+      table-undrawn a k = rw (ne-eqb _ _ a) k
+
+      module _ (a : t ≡ s .nextTable) where
+        pub table-taken : nameTaken n (s .tables) ≡ true → x .verdict ≡ Refused (NameTaken i) → Turned i e (createTable t f n) s x u
+        unfolding Turned StepIs
+        table-taken b k = rw (eq-eqb _ _ a, b) k
+
+        module _ (b : nameTaken n (s .tables) ≡ false) (m : ℕ) (l : length (s .tables) ≡ m) where
+          pub table-full : mostTables ≤ m → x .verdict ≡ Refused (TablesFull i) → Turned i e (createTable t f n) s x u
+          unfolding Turned StepIs
+          table-full d k = rw (eq-eqb _ _ a, b, l, le-leb _ _ d) k
+
+          pub table-in : m < mostTables → allOf (λ y. ltb (y .table) (s .nextTable)) (s .tables) ≡ true → x .verdict ≡ Accepted
+              → u ≡ withNext (withTables s (s .tables ++ (created t f n ∷ []))) (t + 1) (s .nextRowset) (s .nextVector) → Turned i e (createTable t f n) s x u
+          unfolding Turned StepIs
+          table-in d w k h =
+              let z : max (s .nextTable) (t + 1) ≡ t + 1 = omega arith in
+              rw (eq-eqb _ _ a, b, l, lt-leb _ _ d, z, create-last (s .tables) (s .nextTable) t f n w a) (k, h)

@@ -6,6 +6,7 @@ ghost use mathlib.Core.Path.{_≡_};
 ghost use Rattle.operations.specs.Laws.{JudgedAlike};
 
 pub mod pairs;
+pub mod tables;
 pub mod vectors;
 
 // The numbers of a state, beside its columns: `tables`, `rowsets` and `vectors` are the counts.

@@ -53,7 +53,16 @@ fn shown_at<'a>(
     requires { ⌜ count ≤ mostHeld ⌝ }
     ensures { λ r. ⌜ r ≡ (ltb at count && same (across (now (tables .entry) ∷ now (rowsets .entry) ∷ now (vectors .entry) ∷ []) at) (table .0 ∷ rowset .0 ∷ vector .0 ∷ [])) && shownAt epoch (column (now (added .entry)) at) (column (now (deleted .entry)) at) ⌝ }
 {
-    if !columns::triples::stands(tables, rowsets, vectors, count, at, table.0, rowset.0, vector.0) {
+    if !columns::triples::stands(
+        tables,
+        rowsets,
+        vectors,
+        count,
+        at,
+        table.0,
+        rowset.0,
+        vector.0,
+    ) {
         return false;
     }
     snapshot::shown(added[at], deleted[at], epoch)
@@ -104,7 +113,16 @@ pub fn add<'a>(
     requires { ⌜ Rising (now «pair_tables» ∷ now «pair_rowsets» ∷ []) (held .rowsets) × Rising (now tables ∷ now rowsets ∷ now vectors ∷ []) (held .vectors) × Sized (now tables ∷ now rowsets ∷ now vectors ∷ now added ∷ now deleted ∷ []) ⌝ }
     ensures { λ r. ⌜ ((ts : ℕ → List TableEntry) → Turned place epoch (addVector (table .0) (rowset .0) (vector .0)) (stateHeld held ts (entries (now («pair_tables» .entry) ∷ now («pair_rowsets» .entry) ∷ []) (now («pair_added» .entry)) (now («pair_deleted» .entry))) (entries (now (tables .entry) ∷ now (rowsets .entry) ∷ now (vectors .entry) ∷ []) (now (added .entry)) (now (deleted .entry)))) r (stateHeld (r .held) ts (entries (now («pair_tables» .entry) ∷ now («pair_rowsets» .entry) ∷ []) (now («pair_added» .entry)) (now («pair_deleted» .entry))) (entries (now (tables .exit) ∷ now (rowsets .exit) ∷ now (vectors .exit) ∷ []) (now (added .exit)) (now (deleted .exit))))) × Sized (now (tables .exit) ∷ now (rowsets .exit) ∷ now (vectors .exit) ∷ now (added .exit) ∷ now (deleted .exit) ∷ []) ⌝ }
 {
-    if !crate::pairs::shows(pair_tables, pair_rowsets, pair_added, pair_deleted, held.rowsets, table, rowset, epoch) {
+    if !crate::pairs::shows(
+        pair_tables,
+        pair_rowsets,
+        pair_added,
+        pair_deleted,
+        held.rowsets,
+        table,
+        rowset,
+        epoch,
+    ) {
         return crate::refused(held, Refusal::PairNotShown(place));
     }
     if held.next.vector.0 <= vector.0 {
@@ -117,7 +135,18 @@ pub fn add<'a>(
     if MOST_HELD <= count {
         return crate::refused(held, Refusal::HeldFull(place));
     }
-    put(tables, rowsets, vectors, added, deleted, count, epoch, table, rowset, vector);
+    put(
+        tables,
+        rowsets,
+        vectors,
+        added,
+        deleted,
+        count,
+        epoch,
+        table,
+        rowset,
+        vector,
+    );
     let mut held = held;
     held.vectors = count + 1;
     crate::accepted(held)
@@ -142,7 +171,19 @@ pub fn delete<'a>(
 {
     let count = held.vectors;
     let at = columns::triples::place(tables, rowsets, vectors, count, table.0, rowset.0, vector.0);
-    if !shown_at(tables, rowsets, vectors, added, deleted, count, at, table, rowset, vector, epoch) {
+    if !shown_at(
+        tables,
+        rowsets,
+        vectors,
+        added,
+        deleted,
+        count,
+        at,
+        table,
+        rowset,
+        vector,
+        epoch,
+    ) {
         return crate::refused(held, Refusal::VectorNotShown(place));
     }
     columns::store(deleted, at, epoch);

@@ -1,5 +1,5 @@
 -- `operations::vectors::add` meets its contract. Assumes nothing.
-use mathlib.Core.Path.{refl, sym, _∙_}
+use mathlib.Core.Path.{sym, _∙_}
 use denote.Ref.{now}
 use borrow.Author.Tests.{not-true, not-false}
 use Rattle.lists.proofs.Places.{known}
@@ -33,17 +33,20 @@ refused-requires-3 c κs = search known
 returns-3 : tie.Need-returns-3
 returns-3 c =
     let a = c .before .before .before .before .before .before .before .before .before .args in
-    let h = vector-ids _ _ _ (now (a .added)) (now (a .deleted)) _ _ ∙ sym (c .before .before .numbered .ensures) ∙ c .before .if3 .taken in
+    let h = vector-ids (now (a .tables)) (now (a .rowsets)) (now (a .vectors)) (now (a .added)) (now (a .deleted)) (a .held .vectors) (a .vector .0) ∙ sym (c .before .before .numbered .ensures) ∙ c .before .if3 .taken in
     (λ ts. vector-still _ _ _ _ _ _ _ _ (sym (c .before .before .before .before .before .before .before .before .shows .ensures) ∙ not-false _ (c .before .before .before .before .before .before .before .if1 .left)) (c .before .before .before .before .if2 .left) h (c .refused3 .ensures), c .before .before .before .before .before .before .before .before .before .pre .2)
 
 refused-requires-4 : tie.Need-refused-requires-4
 refused-requires-4 c κs = search known
 
 returns-4 : tie.Need-returns-4
-returns-4 c = ?
+returns-4 c =
+    let a = c .before .before .before .before .before .before .before .before .before .before .args in
+    let h = vector-ids (now (a .tables)) (now (a .rowsets)) (now (a .vectors)) (now (a .added)) (now (a .deleted)) (a .held .vectors) (a .vector .0) ∙ sym (c .before .before .before .numbered .ensures) ∙ c .before .before .if3 .left in
+    (λ ts. vector-full _ _ _ _ _ _ _ _ (sym (c .before .before .before .before .before .before .before .before .before .shows .ensures) ∙ not-false _ (c .before .before .before .before .before .before .before .before .if1 .left)) (c .before .before .before .before .before .if2 .left) h _ (rows-length _ _) (c .before .if4 .taken) (c .refused4 .ensures), c .before .before .before .before .before .before .before .before .before .before .pre .2)
 
 put-requires : tie.Need-put-requires
-put-requires c κs = ?
+put-requires c κs = (c .before .before .before .before .before .before .before .before .before .before .before .before .before .before .pre .1, c .before .before .before .before .before .if4 .left, c .before .before .before .before .before .before .before .before .before .before .before .before .before .before .pre .2, sym (c .before .before .before .before .before .before .before .numbered .ensures) ∙ c .before .before .before .before .before .before .if3 .left)
 
 add-held : tie.Need-add-held
 add-held c = search known
@@ -52,7 +55,10 @@ accepted-requires : tie.Need-accepted-requires
 accepted-requires c κs = search known
 
 returns-5 : tie.Need-returns-5
-returns-5 c = ?
+returns-5 c =
+    let a = c .before .before .before .before .before .before .before .before .before .before .before .before .before .before .before .before .args in
+    let h = vector-ids (now (a .tables)) (now (a .rowsets)) (now (a .vectors)) (now (a .added)) (now (a .deleted)) (a .held .vectors) (a .vector .0) ∙ sym (c .before .before .before .before .before .before .before .before .before .numbered .ensures) ∙ c .before .before .before .before .before .before .before .before .if3 .left in
+    (λ ts. vector-in _ _ _ _ _ _ _ _ (sym (c .before .before .before .before .before .before .before .before .before .before .before .before .before .before .before .shows .ensures) ∙ not-false _ (c .before .before .before .before .before .before .before .before .before .before .before .before .before .before .if1 .left)) (c .before .before .before .before .before .before .before .before .before .before .before .if2 .left) h _ (rows-length _ _) (c .before .before .before .before .before .before .before .if4 .left) (c .accepted .ensures .0) (rw (c .accepted .ensures .1, c .before .put .ensures .0)), c .before .put .ensures .1)
 
 pub add-spec : {M : Type 1} → statement M
 add-spec =
