@@ -1,3 +1,4 @@
 pub mod Entries
+pub mod Keeps
 pub mod Local
 pub mod Turns
