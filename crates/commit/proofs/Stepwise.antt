@@ -76,10 +76,10 @@ module _ (i e : ℕ) (o : Operation) (os : List Operation) (s : State) (r : Step
   pub turn-off : isAccepted (r .verdict) ≡ false → Halts (stepsOf i e (o ∷ os) s) (r .verdict)
   turn-off a =
       let h = halted (stepOf i e o s) r c told a in
-      record { why = h .why; told = h .told; here = rw (h .here) }
+      record { why = h .why; told = h .told; here = ap (λ (x : Outcome). andThen x (λ t. stepsOf (i + 1) e os t)) (h .here) }
 
   pub turn-on : isAccepted (r .verdict) ≡ true → stepsOf i e (o ∷ os) s ≡ stepsOf (i + 1) e os (stateIn (r .held) c)
-  turn-on a = rw (went (stepOf i e o s) r c told a .0)
+  turn-on a = ap (λ (x : Outcome). andThen x (λ t. stepsOf (i + 1) e os t)) (went (stepOf i e o s) r c told a .0)
 
 pub steps-ordered : (e : ℕ) (os : List Operation) (s t : State) → Ordered s → stepsOf 0 e os s ≡ left t → Ordered t
 steps-ordered e os s t = steps-keep Ordered e (λ i o u p a. ordered-applied e o u p) 0 os s t
