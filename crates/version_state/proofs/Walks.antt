@@ -237,13 +237,27 @@ module _ {A : Type 0} (p : A → Bool) (f : ℕ → A) (n i : ℕ) (s : Seeking 
   each-done h = ap not (seek-done (λ x. not (p x)) f n i s h) ∙ sym (all-none p (rows f n))
 
 -- 17 on the columns: the last id of a vector, and all but the ids of tables, have no part in it.
-pub left-lists : (e : ℕ) (ids shapes lengths names : List ℕ) (locked : List Bool) (n : ℕ) (pt pr pa pd : List ℕ) (m : ℕ) (vt vr v va vd : List ℕ) (k : ℕ)
-    → leftOf e (tableRows ids shapes lengths names locked n) (entries (pt ∷ pr ∷ []) pa pd m) (entries (vt ∷ vr ∷ v ∷ []) va vd k)
-    ≡ not (allOf (λ x. has byIds (byIds x) (keep (shownBy e) (entries (pt ∷ pr ∷ []) pa pd m))) (keep (shownBy e) (entries (vt ∷ vr ∷ []) va vd k))
-    && allOf (λ x. has plain (byIds x) (rows (across (ids ∷ [])) n)) (keep (shownBy e) (entries (pt ∷ []) pa pd m)))
-left-lists e ids shapes lengths names locked n pt pr pa pd m vt vr v va vd k =
-    let ts = tableRows ids shapes lengths names locked n in
-    let ps = keep (shownBy e) (entries (pt ∷ pr ∷ []) pa pd m) in
-    ap not (ap₂ _&&_ (sym (shown-prefix (vt ∷ vr ∷ v ∷ []) k 2 e va vd (λ i. has byIds i ps)))
-    (all-same (hasTable ts) (λ x. has plain (take 1 (byIds x)) (rows (across (ids ∷ [])) n)) ps (λ x. has-tables ids shapes lengths names locked n (take 1 (byIds x)))
-    ∙ sym (shown-prefix (pt ∷ pr ∷ []) m 1 e pa pd (λ i. has plain i (rows (across (ids ∷ [])) n)))))
+module _ (e : ℕ) (ids : List ℕ) (n : ℕ) (pt pr pa pd : List ℕ) (m : ℕ) (vt vr va vd : List ℕ) (k : ℕ) where
+  abbrev vectorsStand : Bool
+  vectorsStand = allOf (λ x. has byIds (byIds x) (keep (shownBy e) (entries (pt ∷ pr ∷ []) pa pd m))) (keep (shownBy e) (entries (vt ∷ vr ∷ []) va vd k))
+
+  abbrev rowsetsStand : Bool
+  rowsetsStand = allOf (λ x. has plain (byIds x) (rows (across (ids ∷ [])) n)) (keep (shownBy e) (entries (pt ∷ []) pa pd m))
+
+  module _ (shapes lengths names : List ℕ) (locked : List Bool) (v : List ℕ) where
+    abbrev leftHere : Bool
+    leftHere = leftOf e (tableRows ids shapes lengths names locked n) (entries (pt ∷ pr ∷ []) pa pd m) (entries (vt ∷ vr ∷ v ∷ []) va vd k)
+
+    left-columns : leftHere ≡ not (vectorsStand && rowsetsStand)
+    left-columns =
+        let ts = tableRows ids shapes lengths names locked n in
+        let ps = keep (shownBy e) (entries (pt ∷ pr ∷ []) pa pd m) in
+        ap not (ap₂ _&&_ (sym (shown-prefix (vt ∷ vr ∷ v ∷ []) k 2 e va vd (λ i. has byIds i ps)))
+        (all-same (hasTable ts) (λ x. has plain (take 1 (byIds x)) (rows (across (ids ∷ [])) n)) ps (λ x. has-tables ids shapes lengths names locked n (take 1 (byIds x)))
+        ∙ sym (shown-prefix (pt ∷ pr ∷ []) m 1 e pa pd (λ i. has plain i (rows (across (ids ∷ [])) n)))))
+
+    pub left-first : vectorsStand ≡ false → true ≡ leftHere
+    left-first h = sym (left-columns ∙ ap (λ (b : Bool). not (b && rowsetsStand)) h)
+
+    pub left-second : (r : Bool) → vectorsStand ≡ true → r ≡ rowsetsStand → not r ≡ leftHere
+    left-second r h o = ap not o ∙ sym (left-columns ∙ ap (λ (b : Bool). not (b && rowsetsStand)) h)

@@ -44,7 +44,11 @@ pub struct VersionManagerInner {
 }
 
 // Internal, as is all but `fresh` and `bad`: whether each live table's name is a name.
-fn names_valid<'a>(lengths: &'a [u32; MOST_TABLES], names: &'a [u8; NAME_BYTES], count: usize) -> bool
+fn names_valid<'a>(
+    lengths: &'a [u32; MOST_TABLES],
+    names: &'a [u8; NAME_BYTES],
+    count: usize,
+) -> bool
     requires { ⌜ (count ≤ mostTables) × (length (now names) ≡ nameBytes) ⌝ }
     ensures { λ r. ⌜ r ≡ allOf isName (rows (nameAt (now (lengths .entry)) (now (names .entry))) count) ⌝ }
 {
@@ -182,7 +186,173 @@ pub fn left_behind<'a>(
     ) {
         return true;
     }
-    !rowsets_stand(ids, tables, rowset_tables, rowset_added, rowset_deleted, rowsets, epoch)
+    !rowsets_stand(
+        ids,
+        tables,
+        rowset_tables,
+        rowset_added,
+        rowset_deleted,
+        rowsets,
+        epoch,
+    )
+}
+
+// A list too long, a manifest too long, or a name that is none.
+fn beyond_limits<'a>(
+    lengths: &'a [u32; MOST_TABLES],
+    names: &'a [u8; NAME_BYTES],
+    tables: usize,
+    rowsets: usize,
+    vectors: usize,
+    manifest: usize,
+) -> bool
+    requires { ⌜ length (now names) ≡ nameBytes ⌝ }
+    ensures { λ r. ⌜ r ≡ not (leb tables mostTables && (leb rowsets mostHeld && leb vectors mostHeld))
+        || (ltb longestManifest manifest || not (allOf isName (rows (nameAt (now (lengths .entry)) (now (names .entry))) tables))) ⌝ }
+{
+    if MOST_TABLES < tables {
+        return true;
+    }
+    if MOST_HELD < rowsets {
+        return true;
+    }
+    if MOST_HELD < vectors {
+        return true;
+    }
+    if LONGEST_MANIFEST < manifest {
+        return true;
+    }
+    !names_valid(lengths, names, tables)
+}
+
+// A list that does not rise strictly by its ids.
+fn out_of_order<'a>(
+    ids: &'a [u32; MOST_TABLES],
+    tables: usize,
+    rowset_tables: &'a [u32; MOST_HELD],
+    rowset_ids: &'a [u32; MOST_HELD],
+    rowsets: usize,
+    vector_tables: &'a [u32; MOST_HELD],
+    vector_rowsets: &'a [u32; MOST_HELD],
+    vector_ids: &'a [u64; MOST_HELD],
+    vectors: usize,
+) -> bool
+    requires { ⌜ (tables ≤ mostTables) × (rowsets ≤ mostHeld) × (vectors ≤ mostHeld) ⌝ }
+    ensures { λ r. ⌜ r ≡ not (ascending plain (rows (across (now (ids .entry) ∷ [])) tables)
+        && (ascending plain (rows (across (now («rowset_tables» .entry) ∷ now («rowset_ids» .entry) ∷ [])) rowsets)
+        && ascending plain (rows (across (now («vector_tables» .entry) ∷ now («vector_rowsets» .entry) ∷ now («vector_ids» .entry) ∷ [])) vectors))) ⌝ }
+{
+    if !snapshot::tables::ordered(ids, tables) {
+        return true;
+    }
+    if !columns::ordered(rowset_tables, rowset_ids, rowsets) {
+        return true;
+    }
+    !columns::triples::ordered(vector_tables, vector_rowsets, vector_ids, vectors)
+}
+
+// Each rowset's epochs are at most the epoch, and its ids below the next ones.
+fn rowsets_within<'a>(
+    tables: &'a [u32; MOST_HELD],
+    ids: &'a [u32; MOST_HELD],
+    added: &'a [u32; MOST_HELD],
+    deleted: &'a [u32; MOST_HELD],
+    count: usize,
+    epoch: u32,
+    next: NextIds,
+) -> bool
+    requires { ⌜ count ≤ mostHeld ⌝ }
+    ensures { λ r. ⌜ r ≡ allOf (within epoch (next .table .0 ∷ next .rowset .0 ∷ [])) (entries (now (tables .entry) ∷ now (ids .entry) ∷ []) (now (added .entry)) (now (deleted .entry)) count) ⌝ }
+{
+    if !columns::at_most(added, count, epoch) {
+        return false;
+    }
+    if !columns::at_most(deleted, count, epoch) {
+        return false;
+    }
+    if !columns::below(tables, count, next.table.0) {
+        return false;
+    }
+    columns::below(ids, count, next.rowset.0)
+}
+
+// The same of each vector.
+fn vectors_within<'a>(
+    tables: &'a [u32; MOST_HELD],
+    rowsets: &'a [u32; MOST_HELD],
+    ids: &'a [u64; MOST_HELD],
+    added: &'a [u32; MOST_HELD],
+    deleted: &'a [u32; MOST_HELD],
+    count: usize,
+    epoch: u32,
+    next: NextIds,
+) -> bool
+    requires { ⌜ count ≤ mostHeld ⌝ }
+    ensures { λ r. ⌜ r ≡ allOf (within epoch (next .table .0 ∷ next .rowset .0 ∷ next .vector .0 ∷ []))
+        (entries (now (tables .entry) ∷ now (rowsets .entry) ∷ now (ids .entry) ∷ []) (now (added .entry)) (now (deleted .entry)) count) ⌝ }
+{
+    if !columns::at_most(added, count, epoch) {
+        return false;
+    }
+    if !columns::at_most(deleted, count, epoch) {
+        return false;
+    }
+    if !columns::below(tables, count, next.table.0) {
+        return false;
+    }
+    if !columns::below(rowsets, count, next.rowset.0) {
+        return false;
+    }
+    columns::triples::below(ids, count, next.vector.0)
+}
+
+// An epoch above the state's own, or an id that is not below the next one.
+fn above_own<'a>(
+    ids: &'a [u32; MOST_TABLES],
+    tables: usize,
+    rowset_tables: &'a [u32; MOST_HELD],
+    rowset_ids: &'a [u32; MOST_HELD],
+    rowset_added: &'a [u32; MOST_HELD],
+    rowset_deleted: &'a [u32; MOST_HELD],
+    rowsets: usize,
+    vector_tables: &'a [u32; MOST_HELD],
+    vector_rowsets: &'a [u32; MOST_HELD],
+    vector_ids: &'a [u64; MOST_HELD],
+    vector_added: &'a [u32; MOST_HELD],
+    vector_deleted: &'a [u32; MOST_HELD],
+    vectors: usize,
+    epoch: u32,
+    next: NextIds,
+) -> bool
+    requires { ⌜ (tables ≤ mostTables) × (rowsets ≤ mostHeld) × (vectors ≤ mostHeld) ⌝ }
+    ensures { λ r. ⌜ r ≡ not (allOf (λ x. ltb x (next .table .0)) (rows (column (now (ids .entry))) tables)
+        && (allOf (within epoch (next .table .0 ∷ next .rowset .0 ∷ [])) (entries (now («rowset_tables» .entry) ∷ now («rowset_ids» .entry) ∷ []) (now («rowset_added» .entry)) (now («rowset_deleted» .entry)) rowsets)
+        && allOf (within epoch (next .table .0 ∷ next .rowset .0 ∷ next .vector .0 ∷ [])) (entries (now («vector_tables» .entry) ∷ now («vector_rowsets» .entry) ∷ now («vector_ids» .entry) ∷ []) (now («vector_added» .entry)) (now («vector_deleted» .entry)) vectors))) ⌝ }
+{
+    if !snapshot::tables::below(ids, tables, next.table) {
+        return true;
+    }
+    if !rowsets_within(
+        rowset_tables,
+        rowset_ids,
+        rowset_added,
+        rowset_deleted,
+        rowsets,
+        epoch,
+        next,
+    ) {
+        return true;
+    }
+    !vectors_within(
+        vector_tables,
+        vector_rowsets,
+        vector_ids,
+        vector_added,
+        vector_deleted,
+        vectors,
+        epoch,
+        next,
+    )
 }
 
 impl VersionManagerInner {
@@ -205,5 +375,72 @@ impl VersionManagerInner {
             vectors,
             manifest: 0,
         }
+    }
+    // 29
+    pub fn bad(self) -> bool
+        ensures { λ r. ⌜ r ≡ badInner self ⌝ }
+    {
+        let tables = self.tables.count;
+        let rowsets = self.rowsets.count;
+        let vectors = self.vectors.count;
+        if beyond_limits(
+            &self.tables.lengths,
+            &self.tables.names,
+            tables,
+            rowsets,
+            vectors,
+            self.manifest,
+        ) {
+            return true;
+        }
+        if out_of_order(
+            &self.tables.ids,
+            tables,
+            &self.rowsets.tables,
+            &self.rowsets.rowsets,
+            rowsets,
+            &self.vectors.tables,
+            &self.vectors.rowsets,
+            &self.vectors.vectors,
+            vectors,
+        ) {
+            return true;
+        }
+        let epoch = self.epoch;
+        let next = self.next;
+        if above_own(
+            &self.tables.ids,
+            tables,
+            &self.rowsets.tables,
+            &self.rowsets.rowsets,
+            &self.rowsets.added,
+            &self.rowsets.deleted,
+            rowsets,
+            &self.vectors.tables,
+            &self.vectors.rowsets,
+            &self.vectors.vectors,
+            &self.vectors.added,
+            &self.vectors.deleted,
+            vectors,
+            epoch,
+            next,
+        ) {
+            return true;
+        }
+        left_behind(
+            &self.tables.ids,
+            tables,
+            &self.rowsets.tables,
+            &self.rowsets.rowsets,
+            &self.rowsets.added,
+            &self.rowsets.deleted,
+            rowsets,
+            &self.vectors.tables,
+            &self.vectors.rowsets,
+            &self.vectors.added,
+            &self.vectors.deleted,
+            vectors,
+            epoch,
+        )
     }
 }

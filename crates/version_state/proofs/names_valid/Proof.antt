@@ -3,6 +3,7 @@ use mathlib.Core.Path.{_≡_, sym, ap, _∙_}
 use mathlib.Core.Bool.{not}
 use Prim.Native.Nat.{_-_, _≤_}
 use lib.ListN.{length}
+use borrow.Author.Tests.{not-true, not-false}
 use Rattle.ids.specs.Limits.{mostTables}
 use Rattle.text.specs.Name.{isName}
 use Rattle.snapshot.specs.Tables.{nameAt, nameBytes}
@@ -30,7 +31,7 @@ valid-name-requires c κs = search known
 returns : tie.Need-returns Inv-loop μ-loop
 returns c =
     let s = c .before .before .before .before in
-    each-stop isName _ _ _ (s .loop .inv .2) (c .before .before .before .loop-test .taken) ?
+    each-stop isName _ _ _ (s .loop .inv .2) (c .before .before .before .loop-test .taken) (ap isName (sym (c .before .before .name-at .ensures)) ∙ sym (c .before .valid-name .ensures) ∙ not-true _ (c .if1 .taken))
 
 add-i : tie.Need-add-i Inv-loop μ-loop
 add-i c = search known
@@ -41,7 +42,7 @@ loop-less c = search known
 loop-again : tie.Need-loop-again Inv-loop μ-loop
 loop-again c =
     let inv = c .before .before .before .before .loop .inv in
-    (inv .0, inv .1, each-more isName _ _ _ (inv .2) (c .before .before .before .loop-test .taken) ?)
+    (inv .0, inv .1, each-more isName _ _ _ (inv .2) (c .before .before .before .loop-test .taken) (ap isName (sym (c .before .before .name-at .ensures)) ∙ sym (c .before .valid-name .ensures) ∙ not-false _ (c .if1 .left)))
 
 returns-2 : tie.Need-returns-2 Inv-loop μ-loop
 returns-2 c = each-done isName _ _ _ (c .before .loop .inv .2) (c .loop-test .left)

@@ -15,9 +15,11 @@ use Rattle.version_state.proofs.vectors_stand.Tie as tie
 abbrev Inv-loop : tie.InvT-loop
 Inv-loop rowset-tables rowset-ids rowset-added rowset-deleted rowsets vector-tables vector-rowsets vector-added vector-deleted vectors epoch j₀ i₀ j i =
     (rowsets ≤ mostHeld) × (vectors ≤ mostHeld) × Walking byIds (shownBy epoch) byIds (shownBy epoch) (entryAt (vector-tables ∷ vector-rowsets ∷ []) vector-added vector-deleted) vectors (entryAt (rowset-tables ∷ rowset-ids ∷ []) rowset-added rowset-deleted) rowsets i j
+
 abbrev μ-loop : tie.MeasureT-loop
 μ-loop rowset-tables rowset-ids rowset-added rowset-deleted rowsets vector-tables vector-rowsets vector-added vector-deleted vectors epoch j₀ i₀ j i =
     vectors - i + (rowsets - j)
+
 loop-holds : tie.Need-loop-holds Inv-loop μ-loop
 loop-holds c =
     let a = c .args in
@@ -141,9 +143,12 @@ loop-again-3 c =
     let e = f .before .before in
     let s = e .before .before .before .before .before .before .before in
     let y = e .before .before .before .before .if2 .left in
-    let inv = s .before .before .before .before .before .loop .inv in
-    (inv .0, inv .1, walk-meet _ _ _ _ _ _ _ _ _ _ (inv .2) (s .before .before .before .before .loop-test .taken) y (sym (s .before .shown .ensures) ∙ not-false _ (s .if1 .left))
-    (onward _ _ (sym (f .before .stands .ensures) ∙ not-false _ (f .if4 .left)) (lt-ltb _ _ y)) (sym (c .before .shown2 .ensures) ∙ not-false _ (c .if5 .left)))
+    let inv = s .before .before .before .before .before .loop .inv in (
+      inv .0,
+      inv .1,
+      walk-meet _ _ _ _ _ _ _ _ _ _ (inv .2) (s .before .before .before .before .loop-test .taken) y (sym (s .before .shown .ensures) ∙ not-false _ (s .if1 .left))
+          (onward _ _ (sym (f .before .stands .ensures) ∙ not-false _ (f .if4 .left)) (lt-ltb _ _ y)) (sym (c .before .shown2 .ensures) ∙ not-false _ (c .if5 .left)),
+    )
 
 returns-4 : tie.Need-returns-4 Inv-loop μ-loop
 returns-4 c = walk-done _ _ _ _ _ _ _ _ _ _ (c .before .loop .inv .2) (c .loop-test .left)
