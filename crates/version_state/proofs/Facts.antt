@@ -86,6 +86,12 @@ of-sound m s =
 pub fit-within : (m : VersionManagerInner) → beyondLimits m ≡ false → Fit m
 fit-within m h = counts-fit m (not-false _ (neither (not (countsFit m)) (ltb longestManifest (stateOf m .manifest) || not (allOf (λ t. isName (t .name)) (stateOf m .tables))) h .0))
 
+caught : (a b : Bool) → a ≡ true → true ≡ a || b
+caught a b h = rw h
+
+passed : (a b r : Bool) → a ≡ false → r ≡ b → r ≡ a || b
+passed a b r h e = rw h e
+
 -- The tests of 29, a column at a time.
 module _ (m : VersionManagerInner) where
   abbrev ts : Tables
@@ -138,3 +144,25 @@ module _ (m : VersionManagerInner) where
 
   pub vectors-sorted : Ordered (stateOf m) → sorted plain (rows (across (vs .tables ∷ vs .rowsets ∷ [])) (vs .count)) ≡ true
   vectors-sorted o = rising-prefix (vs .tables ∷ vs .rowsets ∷ vs .vectors ∷ []) (vs .count) 2 (vectors-rise o)
+
+  -- 29, test after test
+  abbrev after-order : Bool
+  after-order = aboveOwn (stateOf m) || leftBehind (stateOf m .epoch) (stateOf m)
+
+  pub bad-limits : beyondLimits m ≡ true → true ≡ badInner m
+  bad-limits h = caught (beyondLimits m) (outOfOrder (stateOf m) || after-order) h
+
+  module _ (l : beyondLimits m ≡ false) where
+    pub bad-order : outOfOrder (stateOf m) ≡ true → true ≡ badInner m
+    bad-order h = passed (beyondLimits m) (outOfOrder (stateOf m) || after-order) true l (caught (outOfOrder (stateOf m)) after-order h)
+
+    module _ (o : outOfOrder (stateOf m) ≡ false) where
+      pub bad-own : aboveOwn (stateOf m) ≡ true → true ≡ badInner m
+      bad-own h =
+          passed (beyondLimits m) (outOfOrder (stateOf m) || after-order) true l
+          (passed (outOfOrder (stateOf m)) after-order true o (caught (aboveOwn (stateOf m)) (leftBehind (stateOf m .epoch) (stateOf m)) h))
+
+      pub bad-left : (r : Bool) → aboveOwn (stateOf m) ≡ false → r ≡ leftBehind (stateOf m .epoch) (stateOf m) → r ≡ badInner m
+      bad-left r w h =
+          passed (beyondLimits m) (outOfOrder (stateOf m) || after-order) r l
+          (passed (outOfOrder (stateOf m)) after-order r o (passed (aboveOwn (stateOf m)) (leftBehind (stateOf m .epoch) (stateOf m)) r w h))
