@@ -1,13 +1,12 @@
 -- What the tests of 29 tell as facts. Assumes nothing.
-use mathlib.Core.Path.{_≡_, refl, sym, ap, ap₂, _∙_}
+use mathlib.Core.Path.{_≡_, sym, ap, ap₂, _∙_}
 use mathlib.Core.Bool.{Bool, true, false, not, _&&_, _||_}
 use mathlib.Core.List.{[], _∷_}
-use Prim.Native.Nat.{ℕ, _≤_}
+use Prim.Native.Nat.{_≤_}
 use lib.Dec.{leb, ltb}
-use lib.ListN.{length}
 use borrow.Author.Tests.{leb-true, le-leb, ltb-false, le-ltb, not-false}
 use Rattle.lists.specs.Keyed.{allOf, ascending, sorted}
-use Rattle.lists.proofs.Tests.{both, neither, join}
+use Rattle.lists.proofs.Tests.{both, neither}
 use Rattle.text.specs.Name.{isName}
 use Rattle.snapshot.specs.Entries.{byIds, within}
 use Rattle.snapshot.specs.Tables.{byTable, nameAt}

@@ -14,9 +14,9 @@ use Rattle.lists.proofs.Walk.{sorted-prefix, sorted-drop, ascending-drop}
 use Rattle.columns.specs.Rows.{rows, column, across, plain}
 use Rattle.columns.proofs.Rows.{rows-map, rows-same, rows-seen, rows-end}
 use Rattle.snapshot.specs.Entries.{Entry, byIds, shownBy, entryAt, entries}
-use Rattle.snapshot.specs.Tables.{TableEntry, byTable, tableRows}
+use Rattle.snapshot.specs.Tables.{tableRows}
 use Rattle.snapshot.proofs.TableRows.{has-tables, Seeking, seek-found, seek-more, seek-done}
-use Rattle.version_state.specs.Sound.{hasTable, hasRowset, leftOf}
+use Rattle.version_state.specs.Sound.{hasTable, leftOf}
 
 -- The test of weak order, as a fact; the keys alone tell it.
 module _ {A : Type 0} (key : A → List ℕ) where

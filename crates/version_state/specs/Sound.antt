@@ -1,8 +1,8 @@
 -- 17 and 29: what a state may not show, and what no call hands out. Assumes nothing.
-use mathlib.Core.Bool.{Bool, true, false, not, _&&_, _||_}
+use mathlib.Core.Bool.{Bool, not, _&&_, _||_}
 use mathlib.Core.List.{List, [], _∷_}
 use Prim.Native.Nat.{ℕ}
-use lib.Dec.{leb, ltb}
+use lib.Dec.{ltb}
 use lib.ListN.{take}
 use Rattle.lists.specs.Keyed.{keep, allOf, has, ascending}
 use Rattle.text.specs.Name.{isName}

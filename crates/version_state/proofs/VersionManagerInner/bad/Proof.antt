@@ -5,7 +5,7 @@ use Rattle.lists.proofs.Places.{known}
 use Rattle.version_state.specs.declared.VersionManagerInner.{VersionManagerInner}
 use Rattle.version_state.specs.State.{stateOf, Fit}
 use Rattle.version_state.specs.Sound.{beyondLimits, outOfOrder, aboveOwn}
-use Rattle.version_state.proofs.Facts.{Ordered, in-order, fit-within, limits-columns, order-columns, own-columns, ids-rise, pairs-rise, vectors-sorted, bad-limits, bad-order, bad-own, bad-left}
+use Rattle.version_state.proofs.Facts.{in-order, fit-within, limits-columns, order-columns, own-columns, ids-rise, pairs-rise, vectors-sorted, bad-limits, bad-order, bad-own, bad-left}
 use Rattle.version_state.proofs.VersionManagerInner.bad.Statement.{statement}
 use Rattle.version_state.proofs.VersionManagerInner.bad.Tie as tie
 

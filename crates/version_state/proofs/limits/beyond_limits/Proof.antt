@@ -1,10 +1,10 @@
--- `version_state::beyond_limits` meets its contract. Assumes nothing.
+-- `version_state::limits::beyond_limits` meets its contract. Assumes nothing.
 use mathlib.Core.Path.{ap}
 use mathlib.Core.Bool.{not}
 use borrow.Author.Tests.{lt-leb, le-leb, lt-ltb, le-ltb}
 use Rattle.lists.proofs.Places.{known}
-use Rattle.version_state.proofs.beyond_limits.Statement.{statement}
-use Rattle.version_state.proofs.beyond_limits.Tie as tie
+use Rattle.version_state.proofs.limits.beyond_limits.Statement.{statement}
+use Rattle.version_state.proofs.limits.beyond_limits.Tie as tie
 
 returns : tie.Need-returns
 returns c = rw (lt-leb _ _ (c .if1 .taken))

@@ -1,10 +1,10 @@
--- `version_state::above_own` meets its contract. Assumes nothing.
+-- `version_state::limits::above_own` meets its contract. Assumes nothing.
 use mathlib.Core.Path.{sym, ap, _∙_}
 use mathlib.Core.Bool.{not}
 use borrow.Author.Tests.{not-true, not-false}
 use Rattle.lists.proofs.Places.{known}
-use Rattle.version_state.proofs.above_own.Statement.{statement}
-use Rattle.version_state.proofs.above_own.Tie as tie
+use Rattle.version_state.proofs.limits.above_own.Statement.{statement}
+use Rattle.version_state.proofs.limits.above_own.Tie as tie
 
 below-requires : tie.Need-below-requires
 below-requires c κs = search known

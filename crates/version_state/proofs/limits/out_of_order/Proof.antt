@@ -1,10 +1,10 @@
--- `version_state::out_of_order` meets its contract. Assumes nothing.
+-- `version_state::limits::out_of_order` meets its contract. Assumes nothing.
 use mathlib.Core.Path.{sym, ap, _∙_}
 use mathlib.Core.Bool.{not}
 use borrow.Author.Tests.{not-true, not-false}
 use Rattle.lists.proofs.Places.{known}
-use Rattle.version_state.proofs.out_of_order.Statement.{statement}
-use Rattle.version_state.proofs.out_of_order.Tie as tie
+use Rattle.version_state.proofs.limits.out_of_order.Statement.{statement}
+use Rattle.version_state.proofs.limits.out_of_order.Tie as tie
 
 ordered-requires : tie.Need-ordered-requires
 ordered-requires c κs = search known

@@ -1,11 +1,11 @@
--- `version_state::left_behind` meets its contract. Assumes nothing.
+-- `version_state::behind::left_behind` meets its contract. Assumes nothing.
 use mathlib.Core.Path.{sym, _∙_}
 use mathlib.Core.List.{[], _∷_}
 use borrow.Author.Tests.{not-true, not-false}
 use Rattle.version_state.proofs.Walks.{rising-prefix, left-first, left-second}
 use Rattle.lists.proofs.Places.{known}
-use Rattle.version_state.proofs.left_behind.Statement.{statement}
-use Rattle.version_state.proofs.left_behind.Tie as tie
+use Rattle.version_state.proofs.behind.left_behind.Statement.{statement}
+use Rattle.version_state.proofs.behind.left_behind.Tie as tie
 
 vectors-stand-requires : tie.Need-vectors-stand-requires
 vectors-stand-requires c κs = search known

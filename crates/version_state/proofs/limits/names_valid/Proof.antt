@@ -1,4 +1,4 @@
--- `version_state::names_valid` meets its contract. Assumes nothing.
+-- `version_state::limits::names_valid` meets its contract. Assumes nothing.
 use mathlib.Core.Path.{_≡_, sym, ap, _∙_}
 use mathlib.Core.Bool.{not}
 use Prim.Native.Nat.{_-_, _≤_}
@@ -10,8 +10,8 @@ use Rattle.snapshot.specs.Tables.{nameAt, nameBytes}
 use Rattle.snapshot.proofs.TableRows.{Seeking, seek-start}
 use Rattle.version_state.proofs.Walks.{each-stop, each-more, each-done}
 use Rattle.lists.proofs.Places.{known}
-use Rattle.version_state.proofs.names_valid.Statement.{statement}
-use Rattle.version_state.proofs.names_valid.Tie as tie
+use Rattle.version_state.proofs.limits.names_valid.Statement.{statement}
+use Rattle.version_state.proofs.limits.names_valid.Tie as tie
 
 abbrev Inv-loop : tie.InvT-loop
 Inv-loop lengths names count i₀ i = (count ≤ mostTables) × (length names ≡ nameBytes) × Seeking (λ x. not (isName x)) (nameAt lengths names) count i

@@ -1,4 +1,4 @@
--- `version_state::rowsets_stand` meets its contract. Assumes nothing.
+-- `version_state::behind::rowsets_stand` meets its contract. Assumes nothing.
 use mathlib.Core.Path.{refl, sym, _∙_}
 use mathlib.Core.Bool.{true}
 use mathlib.Core.List.{[], _∷_}
@@ -10,8 +10,8 @@ use Rattle.snapshot.specs.Entries.{byIds, shownBy, entryAt}
 use Rattle.snapshot.proofs.TableRows.{one-before, one-not-before}
 use Rattle.version_state.proofs.Walks.{Walking, walk-start, walk-hidden, walk-none, walk-pass, walk-miss, walk-meet, walk-done, stand-tables, sorted-ids}
 use Rattle.lists.proofs.Places.{known}
-use Rattle.version_state.proofs.rowsets_stand.Statement.{statement}
-use Rattle.version_state.proofs.rowsets_stand.Tie as tie
+use Rattle.version_state.proofs.behind.rowsets_stand.Statement.{statement}
+use Rattle.version_state.proofs.behind.rowsets_stand.Tie as tie
 
 abbrev Inv-loop : tie.InvT-loop
 Inv-loop ids tables rowset-tables rowset-added rowset-deleted rowsets epoch j₀ i₀ j i =

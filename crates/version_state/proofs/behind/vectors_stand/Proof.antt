@@ -1,4 +1,4 @@
--- `version_state::vectors_stand` meets its contract. Assumes nothing.
+-- `version_state::behind::vectors_stand` meets its contract. Assumes nothing.
 use mathlib.Core.Path.{sym, _∙_}
 use mathlib.Core.List.{[], _∷_}
 use Prim.Native.Nat.{_+_, _-_, _≤_}
@@ -9,8 +9,8 @@ use Rattle.snapshot.specs.Entries.{byIds, shownBy, entryAt}
 use Rattle.snapshot.proofs.Entries.{ascending-ids}
 use Rattle.version_state.proofs.Walks.{Walking, walk-start, walk-hidden, walk-none, walk-pass, walk-miss, walk-gone, walk-meet, walk-done, onward, sorted-ids}
 use Rattle.lists.proofs.Places.{known}
-use Rattle.version_state.proofs.vectors_stand.Statement.{statement}
-use Rattle.version_state.proofs.vectors_stand.Tie as tie
+use Rattle.version_state.proofs.behind.vectors_stand.Statement.{statement}
+use Rattle.version_state.proofs.behind.vectors_stand.Tie as tie
 
 abbrev Inv-loop : tie.InvT-loop
 Inv-loop rowset-tables rowset-ids rowset-added rowset-deleted rowsets vector-tables vector-rowsets vector-added vector-deleted vectors epoch j₀ i₀ j i =
