@@ -15,17 +15,19 @@ use Rattle.lists.proofs.Keyed.{All, all-map, Ascending, ascend-to, after-absent
 use Rattle.ids.specs.declared.refusal.Verdict.the-variants.{Accepted}
 use Rattle.ids.specs.Verdicts.{judged}
 use Rattle.ids.proofs.Verdicts.{none-judged}
-use Rattle.manifest.specs.declared.operation.Batch.{Batch}
-use Rattle.manifest.specs.Operations.{Operation, createTable, dropTable, addRowset, deleteRowset, addVector, deleteVector, nextIds, batchOf}
+use Rattle.manifest.specs.Operations.{Operation, createTable, dropTable, addRowset, deleteRowset, addVector, deleteVector, nextIds}
 use Rattle.snapshot.specs.Entries.{Entry, addedAt, deletedAt, byIds, goneAt, shownAt, goneBy, shownBy, shown}
 use Rattle.version_state.specs.declared.VersionManagerInner.{VersionManagerInner}
 use Rattle.version_state.specs.State.{State, stateOf, pairsAt, vectorsAt}
+use Rattle.version_state.specs.Sound.{badInner}
 use Rattle.version_state.proofs.Facts.{Ordered, sound-of}
 use Rattle.operations.specs.Effect.{applied}
 use Rattle.operations.specs.Judge.{opRules, isShown, vectorHeld}
 use Rattle.operations.specs.Steps.{left}
 use Rattle.commit.specs.Commit.{commitOf}
-use Rattle.commit.proofs.Stepwise.{ordered-applied, steps-keep}
+use Rattle.operations.proofs.Keeps.{ordered-applied}
+use Rattle.operations.proofs.Entries.{not-held}
+use Rattle.commit.proofs.Stepwise.{steps-keep}
 use Rattle.commit.proofs.Sounds.{accepts}
 
 -- an entry that epoch e adds is not shown before it
@@ -84,15 +86,6 @@ shown-deleted d e k (x ∷ l) h a =
     (λ s. rw (t, s) (ap (λ (m : List (List ℕ)). x .ids ∷ m) ih))
     (λ s. rw (t, s) ih))
 
--- a vector id that nobody holds: no vector with it
-not-held : (t r v : ℕ) (l : List Entry) → vectorHeld v l ≡ false → has byIds (t ∷ r ∷ v ∷ []) l ≡ false
-not-held t r v [] h = refl
-not-held t r v (x ∷ l) h =
-    let d = neither (eqb (getD (byIds x) 2 0) v) (vectorHeld v l) h in
-    by-cases (isAt byIds (t ∷ r ∷ v ∷ []) x)
-    (λ e. let q = ap (λ (k : List ℕ). getD k 2 0) (same-true (byIds x) (t ∷ r ∷ v ∷ []) e) in absurd (eqb-false (getD (byIds x) 2 0) v (d .0) q))
-    (λ e. rw e (not-held t r v l (d .1)))
-
 -- what is kept of a state s while a commit at epoch e goes on from s₀
 record Same (e : ℕ) (s₀ s : State) : Type 0 where
   ordered : Ordered s
@@ -132,16 +125,16 @@ same-applied e s₀ i (deleteVector t r v) s k a =
     }
 same-applied e s₀ i (nextIds t r v) s k a = record { ordered = ordered-applied e (nextIds t r v) s (k .ordered); pairs = k .pairs; vectors = k .vectors }
 
-module _ (m : VersionManagerInner) (b : Batch) (room : ℕ) (s : State) (h : commitOf m b room ≡ left s) (d : ℕ) (k : d ≤ m .epoch) where
-  kept : Same (m .epoch + 1) (stateOf m) (accepts m b room s h .done)
+module _ (m : VersionManagerInner) (n : ℕ) (os : List Operation) (room : ℕ) (s : State) (b : badInner m ≡ false) (h : commitOf (stateOf m) n os room ≡ left s) (d : ℕ) (k : d ≤ m .epoch) where
+  kept : Same (m .epoch + 1) (stateOf m) (accepts (stateOf m) n os room s h .done)
   kept =
-      let a = accepts m b room s h in
+      let a = accepts (stateOf m) n os room s h in
       let e = m .epoch + 1 in
-      steps-keep (Same e (stateOf m)) e (same-applied e (stateOf m)) 0 (batchOf b) (stateOf m) (a .done)
-      (record { ordered = sound-of m (a .bad) .ordered; pairs = λ d h. refl; vectors = λ d h. refl }) (a .steps)
+      steps-keep (Same e (stateOf m)) e (same-applied e (stateOf m)) 0 os (stateOf m) (a .done)
+      (record { ordered = sound-of m b .ordered; pairs = λ d h. refl; vectors = λ d h. refl }) (a .steps)
 
   pub older-pairs : pairsAt d s ≡ pairsAt d (stateOf m)
-  older-pairs = ap (pairsAt d) (sym (accepts m b room s h .state)) ∙ kept .pairs d (omega arith)
+  older-pairs = ap (pairsAt d) (sym (accepts (stateOf m) n os room s h .state)) ∙ kept .pairs d (omega arith)
 
   pub older-vectors : vectorsAt d s ≡ vectorsAt d (stateOf m)
-  older-vectors = ap (vectorsAt d) (sym (accepts m b room s h .state)) ∙ kept .vectors d (omega arith)
+  older-vectors = ap (vectorsAt d) (sym (accepts (stateOf m) n os room s h .state)) ∙ kept .vectors d (omega arith)

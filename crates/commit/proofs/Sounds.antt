@@ -18,14 +18,13 @@ use Rattle.ids.specs.declared.refusal.Verdict.{Verdict}
 use Rattle.ids.specs.declared.refusal.Verdict.the-variants.{Accepted, Refused}
 use Rattle.ids.specs.Verdicts.{Rule, judged}
 use Rattle.ids.proofs.Verdicts.{Passed, none-judged}
-use Rattle.manifest.specs.declared.operation.Batch.{Batch}
-use Rattle.manifest.specs.Operations.{Operation, createTable, dropTable, addRowset, deleteRowset, addVector, deleteVector, nextIds, wellFormed, batchOf}
+use Rattle.manifest.specs.Operations.{Operation, createTable, dropTable, addRowset, deleteRowset, addVector, deleteVector, nextIds, wellFormed}
 use Rattle.snapshot.specs.Entries.{Entry, addedAt, deletedAt, byIds, belowNext, within, shownBy}
 use Rattle.snapshot.specs.Tables.{TableEntry, created, byTable}
 use Rattle.version_state.specs.declared.VersionManagerInner.{VersionManagerInner}
-use Rattle.ids.specs.Limits.{longestManifest}
+use Rattle.ids.specs.Limits.{mostOperations, lastEpoch, longestManifest}
 use Rattle.version_state.specs.State.{State, stateOf, withEpoch, Hands}
-use Rattle.version_state.specs.Sound.{leftBehind, badManager}
+use Rattle.version_state.specs.Sound.{leftBehind, badInner}
 use Rattle.version_state.proofs.Within.{Within, within-of, of-within, within-up}
 use Rattle.version_state.proofs.Facts.{Ordered, Sound, sound-of, of-sound}
 use Rattle.operations.specs.Effect.{applied}
@@ -33,7 +32,8 @@ use Rattle.operations.specs.Judge.{opRules, stateRules, isLive, isShown}
 use Rattle.operations.specs.Steps.{Outcome, left, stopped, onward, andThen, stepsOf}
 use Rattle.frames.specs.Frames.{frameOf}
 use Rattle.commit.specs.Commit.{firstRules, lastRules, finishOf, commitOf}
-use Rattle.commit.proofs.Stepwise.{Below, below-applied, ordered-applied, halt, steps-keep, steps-manifest}
+use Rattle.operations.proofs.Keeps.{Below, below-applied, ordered-applied}
+use Rattle.commit.proofs.Stepwise.{halt, steps-keep}
 
 -- all that 29 asks of a state but 17 and the limits
 record Kept (e : ℕ) (s : State) : Type 0 where
@@ -138,17 +138,16 @@ kept-start m s =
     }
 
 -- Taking an accepted commit apart.
-pub record Accepts (m : VersionManagerInner) (b : Batch) (room : ℕ) (s : State) : Type 0 where
-  pub bad : badManager m ≡ false
-  pub short : b .count ≤ 600
-  pub last : m .epoch < 4294967295
+pub record Accepts (s : State) (n : ℕ) (os : List Operation) (room : ℕ) (u : State) : Type 0 where
+  pub short : n ≤ mostOperations
+  pub last : s .epoch < lastEpoch
   -- what the operations left
   pub done : State
-  pub steps : stepsOf 0 (m .epoch + 1) (batchOf b) (stateOf m) ≡ left done
-  pub whole : leftBehind (m .epoch + 1) done ≡ false
-  pub fits : done .manifest + length (frameOf (batchOf b)) ≤ longestManifest
-  pub lent : length (frameOf (batchOf b)) ≤ room
-  pub state : withEpoch done (m .epoch + 1) (done .manifest + length (frameOf (batchOf b))) ≡ s
+  pub steps : stepsOf 0 (s .epoch + 1) os s ≡ left done
+  pub whole : leftBehind (s .epoch + 1) done ≡ false
+  pub fits : done .manifest + length (frameOf os) ≤ longestManifest
+  pub lent : length (frameOf os) ≤ room
+  pub state : withEpoch done (s .epoch + 1) (done .manifest + length (frameOf os)) ≡ u
 
 onward-left : (v : Verdict) (x : Outcome) (s : State) → onward v x ≡ left s → (v ≡ Accepted) × (x ≡ left s)
 onward-left Accepted x s h = (refl, h)
@@ -158,21 +157,19 @@ then-left : (x : Outcome) (f : State → Outcome) (s : State) → andThen x f �
 then-left (left t) f s h = (t, refl, h)
 then-left (stopped k) f s h = absurd (halt h)
 
-pub accepts : (m : VersionManagerInner) (b : Batch) (room : ℕ) (s : State) → commitOf m b room ≡ left s → Accepts m b room s
-accepts m b room s h =
-    let os = batchOf b in
-    let e = m .epoch + 1 in
-    let x = onward-left (judged (firstRules m b)) (andThen (stepsOf 0 e os (stateOf m)) (finishOf e os room)) s h in
-    let f = none-judged (firstRules m b) (x .0) in
-    let y = then-left (stepsOf 0 e os (stateOf m)) (finishOf e os room) s (x .1) in
+pub accepts : (s : State) (n : ℕ) (os : List Operation) (room : ℕ) (u : State) → commitOf s n os room ≡ left u → Accepts s n os room u
+accepts s n os room u h =
+    let e = s .epoch + 1 in
+    let x = onward-left (judged (firstRules s n)) (andThen (stepsOf 0 e os s) (finishOf e os room)) u h in
+    let f = none-judged (firstRules s n) (x .0) in
+    let y = then-left (stepsOf 0 e os s) (finishOf e os room) u (x .1) in
     let t = y .0 in
-    let z = onward-left (judged (lastRules e t (length (frameOf os)) room)) (left (withEpoch t e (t .manifest + length (frameOf os)))) s (y .2) in
+    let z = onward-left (judged (lastRules e t (length (frameOf os)) room)) (left (withEpoch t e (t .manifest + length (frameOf os)))) u (y .2) in
     let g = none-judged (lastRules e t (length (frameOf os)) room) (z .0) in
-    let q : withEpoch t e (t .manifest + length (frameOf os)) ≡ s = cc (z .1) in
+    let q : withEpoch t e (t .manifest + length (frameOf os)) ≡ u = cc (z .1) in
     record {
-      bad = f .0;
-      short = ltb-false 600 (b .count) (f .1 .0);
-      last = leb-false 4294967295 (m .epoch) (f .1 .1 .0);
+      short = ltb-false mostOperations n (f .0);
+      last = leb-false lastEpoch (s .epoch) (f .1 .0);
       done = t;
       steps = y .1;
       whole = g .0;
@@ -181,14 +178,14 @@ accepts m b room s h =
       state = q;
     }
 
-pub commit-sound : (m n : VersionManagerInner) (b : Batch) (room : ℕ) (s : State) → commitOf m b room ≡ left s → Hands n s → badManager n ≡ false
-commit-sound m n b room s h k =
-    let a = accepts m b room s h in
+pub commit-sound : (m n : VersionManagerInner) (k : ℕ) (os : List Operation) (room : ℕ) (s : State) → badInner m ≡ false → commitOf (stateOf m) k os room ≡ left s → Hands n s → badInner n ≡ false
+commit-sound m n k os room s b h z =
+    let a = accepts (stateOf m) k os room s h in
     let t = a .done in
     let e = m .epoch + 1 in
-    let p = steps-keep (Kept e) e (λ i o u q j. kept-applied e i o u q j) 0 (batchOf b) (stateOf m) t (kept-start m (sound-of m (a .bad))) (a .steps) in
-    let q : stateOf n ≡ withEpoch t e (t .manifest + length (frameOf (batchOf b))) = k .state ∙ sym (a .state) in
-    of-sound n (back n t e (t .manifest + length (frameOf (batchOf b))) k q p (a .whole) (a .fits))
+    let p = steps-keep (Kept e) e (λ i o u q j. kept-applied e i o u q j) 0 os (stateOf m) t (kept-start m (sound-of m b)) (a .steps) in
+    let q : stateOf n ≡ withEpoch t e (t .manifest + length (frameOf os)) = z .state ∙ sym (a .state) in
+    of-sound n (back n t e (t .manifest + length (frameOf os)) z q p (a .whole) (a .fits))
   where
     back : (n : VersionManagerInner) (t : State) (e l : ℕ) → Hands n s → stateOf n ≡ withEpoch t e l → Kept e t → leftBehind e t ≡ false → l ≤ longestManifest → Sound n
     back n t e l k q p w f =

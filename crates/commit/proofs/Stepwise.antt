@@ -1,65 +1,21 @@
--- What the steps keep: order, ids below the next one, the manifest's length. Assumes nothing.
+-- What the steps keep: order, the manifest's length; and a turn of a loop over them. Assumes nothing.
 use mathlib.Core.Path.{_≡_, refl, sym, ap, subst, _∙_}
-use mathlib.Core.Bool.{Bool, true, false, false≢true, true≢false}
-use mathlib.Core.List.{List, [], _∷_, map}
-use Prim.Native.Nat.{ℕ, _+_, _<_, _≤_, max}
+use mathlib.Core.Bool.{true, false, true≢false}
+use mathlib.Core.List.{List, [], _∷_}
+use Prim.Native.Nat.{ℕ, _+_}
 use native.Mathlib.Omega.{arith}
-use lib.Dec.{ltb}
-use lib.ListN.{length, getD, take, drop}
-use borrow.Author.Tests.{ltb-true, lt-ltb}
-use Rattle.lists.specs.Keyed.{allOf, put, without, changed, ascending}
-use Rattle.lists.proofs.Tests.{clash}
-use Rattle.lists.proofs.Keyed.{All, all-map, allOf-all, all-allOf, all-put, all-keep, Ascending, ascend-to, ascend-from, ascending-put, ascending-keep, ascending-changed}
 use Rattle.ids.specs.declared.refusal.Refusal.{Refusal}
 use Rattle.ids.specs.declared.refusal.Verdict.{Verdict}
 use Rattle.ids.specs.declared.refusal.Verdict.the-variants.{Accepted, Refused}
 use Rattle.ids.specs.Verdicts.{judged, isAccepted}
-use Rattle.manifest.specs.Operations.{Operation, createTable, dropTable, addRowset, deleteRowset, addVector, deleteVector, nextIds, operationOf}
-use Rattle.manifest.specs.declared.operation.Change.{Change}
-use Rattle.lists.proofs.Views.{seen}
-use Rattle.snapshot.specs.Entries.{Entry, addedAt, deletedAt, byIds}
-use Rattle.snapshot.specs.Tables.{TableEntry, created, byTable}
-use Rattle.version_state.specs.State.{State, stateOf, Fit, Hands}
+use Rattle.manifest.specs.Operations.{Operation, createTable, dropTable, addRowset, deleteRowset, addVector, deleteVector, nextIds}
+use Rattle.version_state.specs.State.{State}
 use Rattle.version_state.proofs.Facts.{Ordered}
 use Rattle.operations.specs.declared.Stepped.{Stepped}
+use Rattle.operations.proofs.Keeps.{ordered-applied}
 use Rattle.operations.specs.Effect.{applied}
 use Rattle.operations.specs.Judge.{opRules}
-use Rattle.operations.specs.Steps.{Outcome, left, stopped, onward, andThen, stepOf, stepsOf, StepIs}
-
-entries-put : (x : Entry) (l : List Entry) → ascending byIds l ≡ true → ascending byIds (put byIds x l) ≡ true
-entries-put x l h = ascend-from byIds (put byIds x l) (ascending-put byIds x l (ascend-to byIds l h))
-
-entries-deleted : (e : ℕ) (k : List ℕ) (l : List Entry) → ascending byIds l ≡ true → ascending byIds (changed byIds k (deletedAt e) l) ≡ true
-entries-deleted e k l h = ascend-from byIds (changed byIds k (deletedAt e) l) (ascending-changed byIds k (deletedAt e) (λ x. refl) l (ascend-to byIds l h))
-
-pub ordered-applied : (e : ℕ) (o : Operation) (s : State) → Ordered s → Ordered (applied e o s)
-ordered-applied e (createTable t h n) s r =
-    record { tables = ascend-from byTable (put byTable (created t h n) (s .tables)) (ascending-put byTable (created t h n) (s .tables) (ascend-to byTable (s .tables) (r .tables))); pairs = r .pairs; vectors = r .vectors }
-ordered-applied e (dropTable t) s r =
-    record { tables = ascend-from byTable (without byTable (t ∷ []) (s .tables)) (ascending-keep byTable _ (s .tables) (ascend-to byTable (s .tables) (r .tables))); pairs = r .pairs; vectors = r .vectors }
-ordered-applied e (addRowset t w) s r = record { tables = r .tables; pairs = entries-put (addedAt e (t ∷ w ∷ [])) (s .pairs) (r .pairs); vectors = r .vectors }
-ordered-applied e (deleteRowset t w) s r = record { tables = r .tables; pairs = entries-deleted e (t ∷ w ∷ []) (s .pairs) (r .pairs); vectors = r .vectors }
-ordered-applied e (addVector t w v) s r = record { tables = r .tables; pairs = r .pairs; vectors = entries-put (addedAt e (t ∷ w ∷ v ∷ [])) (s .vectors) (r .vectors) }
-ordered-applied e (deleteVector t w v) s r = record { tables = r .tables; pairs = r .pairs; vectors = entries-deleted e (t ∷ w ∷ v ∷ []) (s .vectors) (r .vectors) }
-ordered-applied e (nextIds t w v) s r = record { tables = r .tables; pairs = r .pairs; vectors = r .vectors }
-
--- the tables' ids are below n
-abbrev pub Below : ℕ → List TableEntry → Type 0
-Below n l = All (λ x. ltb (x .table) n ≡ true) l
-
-below-more : (n m : ℕ) (l : List TableEntry) → n ≤ m → Below n l → Below m l
-below-more n m l h b = all-map l (λ x k. lt-ltb (x .table) m (omega (arith, ltb-true (x .table) n k))) b
-
-pub below-applied : (e : ℕ) (o : Operation) (s : State) → Below (s .nextTable) (s .tables) → Below (applied e o s .nextTable) (applied e o s .tables)
-below-applied e (createTable t h n) s b =
-    let m = max (s .nextTable) (t + 1) in
-    all-put byTable (λ x. ltb (x .table) m ≡ true) (created t h n) (s .tables) (lt-ltb t m (omega arith)) (below-more (s .nextTable) m (s .tables) (omega arith) b)
-below-applied e (dropTable t) s b = all-keep (λ x. ltb (x .table) (s .nextTable) ≡ true) _ (s .tables) b
-below-applied e (addRowset t w) s b = b
-below-applied e (deleteRowset t w) s b = b
-below-applied e (addVector t w v) s b = b
-below-applied e (deleteVector t w v) s b = b
-below-applied e (nextIds t w v) s b = below-more (s .nextTable) (max (s .nextTable) t) (s .tables) (omega arith) b
+use Rattle.operations.specs.Steps.{Outcome, left, stopped, onward, andThen, stepOf, stepsOf, Columns, stateIn, Ready, StepIs}
 
 pub manifest-applied : (e : ℕ) (o : Operation) (s : State) → applied e o s .manifest ≡ s .manifest
 manifest-applied e (createTable t h n) s = refl
@@ -99,50 +55,31 @@ steps-keep P e k i (o ∷ os) s t p h =
     go (stopped r) a h ih = absurd (halt h)
 
 -- what a step's contract tells where it is accepted, and where it is not
-went : (x : Outcome) (r : Stepped) → StepIs x r → isAccepted (r .verdict) ≡ true → (s : State) × (x ≡ left s) × Hands (r .inner) s
+pub went : (x : Outcome) (r : Stepped) (c : Columns) → StepIs x r c → isAccepted (r .verdict) ≡ true → (x ≡ left (stateIn (r .held) c)) × Ready (r .held) c
 unfolding StepIs
-went (left s) r h a = (s, refl, h .1)
-went (stopped k) r h a = absurd (true≢false (sym a ∙ ap isAccepted h))
+went (left s) r c h a = (ap left (sym (h .1)), h .2)
+went (stopped k) r c h a = absurd (true≢false (sym a ∙ ap isAccepted h))
 
-halted : (x : Outcome) (r : Stepped) (f : State → Outcome) → StepIs x r → isAccepted (r .verdict) ≡ false → StepIs (andThen x f) r
+-- a refusal k
+pub record Halts (x : Outcome) (v : Verdict) : Type 0 where
+  pub why : Refusal
+  pub told : v ≡ Refused why
+  pub here : x ≡ stopped why
+
+pub halted : (x : Outcome) (r : Stepped) (c : Columns) → StepIs x r c → isAccepted (r .verdict) ≡ false → Halts x (r .verdict)
 unfolding StepIs
-halted (left s) r f h a = absurd (true≢false (sym (ap isAccepted (h .0)) ∙ a))
-halted (stopped k) r f h a = h
+halted (left s) r c h a = absurd (true≢false (sym (ap isAccepted (h .0)) ∙ a))
+halted (stopped k) r c h a = record { why = k; told = h; here = refl }
 
--- a turn of the loop over the changes l, of which there are n
-module _ (i e n : ℕ) (l : List Change) (d : Change) (s : State) (r : Stepped) (h : i < n) (k : n ≤ length l) (told : StepIs (stepOf i e (operationOf (getD l i d)) s) r) where
-  here : drop i (map operationOf (take n l)) ≡ operationOf (getD l i d) ∷ drop (i + 1) (map operationOf (take n l))
-  here = seen operationOf l n i d h k
+-- a turn of a loop: of the operations from i on, o is the first
+module _ (i e : ℕ) (o : Operation) (os : List Operation) (s : State) (r : Stepped) (c : Columns) (told : StepIs (stepOf i e o s) r c) where
+  pub turn-off : isAccepted (r .verdict) ≡ false → Halts (stepsOf i e (o ∷ os) s) (r .verdict)
+  turn-off a =
+      let h = halted (stepOf i e o s) r c told a in
+      record { why = h .why; told = h .told; here = ap (λ (x : Outcome). andThen x (λ t. stepsOf (i + 1) e os t)) (h .here) }
 
-  pub turn-off : isAccepted (r .verdict) ≡ false → StepIs (stepsOf i e (drop i (map operationOf (take n l))) s) r
-  turn-off a = rw here (halted (stepOf i e (operationOf (getD l i d)) s) r (λ t. stepsOf (i + 1) e (drop (i + 1) (map operationOf (take n l))) t) told a)
-
-  pub turn-fits : isAccepted (r .verdict) ≡ true → Fit (r .inner)
-  turn-fits a = went (stepOf i e (operationOf (getD l i d)) s) r told a .2 .fits
-
-  pub turn-below : isAccepted (r .verdict) ≡ true → Below (s .nextTable) (s .tables) → Below (stateOf (r .inner) .nextTable) (stateOf (r .inner) .tables)
-  turn-below a b =
-      let w = went (stepOf i e (operationOf (getD l i d)) s) r told a in
-      let q = step-left i e (operationOf (getD l i d)) s (w .0) (w .1) .1 ∙ sym (w .2 .state) in
-      subst (λ (t : State). Below (t .nextTable) (t .tables)) q (below-applied e (operationOf (getD l i d)) s b)
-
-  pub turn-on : isAccepted (r .verdict) ≡ true → stepsOf i e (drop i (map operationOf (take n l))) s ≡ stepsOf (i + 1) e (drop (i + 1) (map operationOf (take n l))) (stateOf (r .inner))
-  turn-on a =
-      let w = went (stepOf i e (operationOf (getD l i d)) s) r told a in
-      rw (here, w .1, w .2 .state)
-
--- what the steps' contract tells of a verdict
-pub steps-stopped : (x : Outcome) (r : Stepped) (k : Refusal) → StepIs x r → r .verdict ≡ Refused k → x ≡ stopped k
-unfolding StepIs
-steps-stopped (left s) r k h v = absurd (let z : _≡_ {A = ℕ} 0 1 = cc (h .0, v) in omega arith)
-steps-stopped (stopped j) r k h v =
-    let e : j ≡ k = cc (h, v) in
-    ap stopped e
-
-pub steps-left : (x : Outcome) (r : Stepped) → StepIs x r → r .verdict ≡ Accepted → (x ≡ left (stateOf (r .inner))) × Fit (r .inner)
-unfolding StepIs
-steps-left (left s) r h v = (ap left (sym (h .1 .state)), h .1 .fits)
-steps-left (stopped j) r h v = absurd (let z : _≡_ {A = ℕ} 0 1 = cc (h, v) in omega arith)
+  pub turn-on : isAccepted (r .verdict) ≡ true → stepsOf i e (o ∷ os) s ≡ stepsOf (i + 1) e os (stateIn (r .held) c)
+  turn-on a = ap (λ (x : Outcome). andThen x (λ t. stepsOf (i + 1) e os t)) (went (stepOf i e o s) r c told a .0)
 
 pub steps-ordered : (e : ℕ) (os : List Operation) (s t : State) → Ordered s → stepsOf 0 e os s ≡ left t → Ordered t
 steps-ordered e os s t = steps-keep Ordered e (λ i o u p a. ordered-applied e o u p) 0 os s t

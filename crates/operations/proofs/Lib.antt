@@ -1,2 +1,4 @@
-pub mod Tables
+pub mod Entries
+pub mod Keeps
 pub mod Local
+pub mod Turns

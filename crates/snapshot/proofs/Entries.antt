@@ -22,7 +22,7 @@ use Rattle.snapshot.specs.Entries.{Entry, byIds, deletedAt, belowNext, w
 use Rattle.columns.proofs.Rows.{insert-below, insert-here, insert-after, rows-length, rows-at, rows-are, rows-map, ascending-map, rank-map, rows-insert, rows-change}
 
 -- a test of rows is the test of what is tested
-all-map : {A B : Type 0} (e : A → B) (p : B → Bool) (l : List A) → allOf (λ x. p (e x)) l ≡ allOf p (map e l)
+pub all-map : {A B : Type 0} (e : A → B) (p : B → Bool) (l : List A) → allOf (λ x. p (e x)) l ≡ allOf p (map e l)
 all-map e p [] = refl
 all-map e p (x ∷ l) = ap (λ (t : Bool). p (e x) && t) (all-map e p l)
 

@@ -6,18 +6,18 @@ use Prim.Native.Nat.{ℕ, _+_, _*_, _-_, _≤_, _<_}
 use native.Mathlib.Omega.{arith}
 use native.Mathlib.Numerals.{add-one}
 use lib.Dec.{leb, ltb, eqb}
-use lib.ListN.{length, getD, take, drop, set, length-append, length-take, length-drop, length-set, drop-of-length-le, List·getD-append}
-use lib.Seq.{take-all, take-suc, take-take, drop-cons, drop-at, take-append-le, getD-append-add, getD-take, getD-drop, getD-set-same, getD-set-other, length-take-le, ext-getD, append-snoc}
+use lib.ListN.{length, getD, take, drop, set, length-append, length-drop, length-set, drop-of-length-le, List·getD-append}
+use lib.Seq.{take-all, take-suc, take-take, drop-at, take-append-le, getD-append-add, getD-take, getD-drop, getD-set-same, getD-set-other, length-take-le, ext-getD, append-snoc}
 use borrow.Author.Tests.{leb-true, le-leb, lt-leb, le-ltb, eq-eqb, ne-eqb}
 use Rattle.ids.specs.Limits.{mostTables}
 use Rattle.ids.specs.Names.{longestName, nameIn, nameOf}
 use Rattle.ids.specs.declared.name.Name.{Name}
 use Rattle.ids.proofs.Names.{name-room}
 use Rattle.lists.specs.Order.{less, same}
-use Rattle.lists.specs.Keyed.{keep, allOf, anyOf, isAt, has, ascending, without}
+use Rattle.lists.specs.Keyed.{keep, allOf, anyOf, has, ascending}
 use Rattle.lists.specs.Places.{insertAt}
 use Rattle.lists.specs.Written.{written}
-use Rattle.lists.proofs.Tests.{by-cases, clash, tri}
+use Rattle.lists.proofs.Tests.{by-cases, tri}
 use Rattle.lists.proofs.Order.{lex-lt, lex-last, same-ne}
 use Rattle.lists.proofs.Keyed.{anyOf-map}
 use Rattle.lists.proofs.Places.{drop-view, drop-end}

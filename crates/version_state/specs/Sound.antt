@@ -1,8 +1,8 @@
 -- 17 and 29: what a state may not show, and what no call hands out. Assumes nothing.
-use mathlib.Core.Bool.{Bool, true, false, not, _&&_, _||_}
+use mathlib.Core.Bool.{Bool, not, _&&_, _||_}
 use mathlib.Core.List.{List, [], _∷_}
 use Prim.Native.Nat.{ℕ}
-use lib.Dec.{leb, ltb}
+use lib.Dec.{ltb}
 use lib.ListN.{take}
 use Rattle.lists.specs.Keyed.{keep, allOf, has, ascending}
 use Rattle.text.specs.Name.{isName}
@@ -19,11 +19,15 @@ hasTable ts p = has byTable (take 1 (byIds p)) ts
 abbrev pub hasRowset : List Entry → Entry → Bool
 hasRowset ps v = has byIds (take 2 (byIds v)) ps
 
--- 17: in what epoch e shows, a vector is without its rowset or a rowset without its table
+-- in what epoch e shows of pairs and vectors, a vector is without its rowset or a rowset without its table
+abbrev pub leftOf : ℕ → List TableEntry → List Entry → List Entry → Bool
+leftOf e ts ps vs =
+    not (allOf (hasRowset (keep (shownBy e) ps)) (keep (shownBy e) vs)
+    && allOf (hasTable ts) (keep (shownBy e) ps))
+
+-- 17
 abbrev pub leftBehind : ℕ → State → Bool
-leftBehind e s =
-    not (allOf (hasRowset (keep (shownBy e) (s .pairs))) (keep (shownBy e) (s .vectors))
-    && allOf (hasTable (s .tables)) (keep (shownBy e) (s .pairs)))
+leftBehind e s = leftOf e (s .tables) (s .pairs) (s .vectors)
 
 -- beyond the limits: a list too long, a manifest too long, a name that is none
 abbrev pub beyondLimits : VersionManagerInner → Bool

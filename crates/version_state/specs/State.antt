@@ -1,7 +1,7 @@
 -- What a manager holds, as contracts speak of it. A state is made by `start` and the `with` helpers alone. Assumes nothing.
 use mathlib.Core.Path.{_≡_}
 use mathlib.Core.Bool.{Bool, _&&_}
-use mathlib.Core.List.{List, [], _∷_}
+use mathlib.Core.List.{List, []}
 use Prim.Native.Nat.{ℕ, _≤_}
 use lib.Dec.{leb}
 use Rattle.ids.specs.declared.refusal.Verdict.{Verdict}

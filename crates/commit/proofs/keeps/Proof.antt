@@ -2,7 +2,6 @@
 use mathlib.Core.Path.{_≡_, refl, sym, ap, _∙_}
 use Prim.Native.Nat.{_+_}
 use lib.ListN.{length}
-use Rattle.manifest.specs.Operations.{batchOf}
 use Rattle.version_state.specs.State.{State, stateOf}
 use Rattle.frames.specs.Frames.{frameOf}
 use Rattle.commit.proofs.Stepwise.{steps-manifest}
@@ -15,10 +14,10 @@ returns : tie.Need-returns
 returns c =
     record {
       sound = commit-sound;
-      epoch = λ m b room s h. sym (ap (λ (t : State). t .epoch) (accepts m b room s h .state));
-      manifest = λ m b room s h.
-          let a = accepts m b room s h in
-          sym (ap (λ (t : State). t .manifest) (a .state)) ∙ ap (λ n. n + length (frameOf (batchOf b))) (steps-manifest (m .epoch + 1) (batchOf b) (stateOf m) (a .done) (a .steps));
+      epoch = λ m k os room s h. sym (ap (λ (t : State). t .epoch) (accepts (stateOf m) k os room s h .state));
+      manifest = λ m k os room s h.
+          let a = accepts (stateOf m) k os room s h in
+          sym (ap (λ (t : State). t .manifest) (a .state)) ∙ ap (λ n. n + length (frameOf os)) (steps-manifest (m .epoch + 1) os (stateOf m) (a .done) (a .steps));
       pairs = older-pairs;
       vectors = older-vectors;
     }

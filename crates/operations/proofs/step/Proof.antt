@@ -1,12 +1,16 @@
 -- `operations::step` meets its contract. Assumes nothing.
 use mathlib.Core.Path.{_≡_, sym, _∙_}
 use mathlib.Core.Bool.{true}
+use mathlib.Core.List.{[], _∷_}
+use denote.Ref.{now}
 use borrow.Author.Tests.{not-true, not-false, ltb-true}
 use Rattle.lists.proofs.Places.{known}
 use Rattle.lists.proofs.Tests.{both}
 use Rattle.manifest.specs.Operations.{operationOf, wellFormed}
+use Rattle.snapshot.specs.Entries.{entries}
+use Rattle.snapshot.specs.Tables.{tableRows}
 use Rattle.operations.specs.Steps.{StepIs, stepOf}
-use borrow.Author.Needs.{needs}
+use Rattle.operations.proofs.Keeps.{rising-pairs, rising-vectors, turned-step}
 use Rattle.operations.proofs.step.Statement.{statement}
 use Rattle.operations.proofs.step.Tie as tie
 
@@ -25,39 +29,38 @@ enum-known-op c = search known
 
 create-requires : tie.Need-create-requires
 create-requires c κs =
-    let w : wellFormed (operationOf (c .before .before .before .before .before .before .args .change)) ≡ true = sym (c .before .before .before .before .before .well-formed .ensures) ∙ not-false _ (c .before .before .before .before .if1 .left) in
-    let b = both _ _ (rw (c .before .op .given .1) at w) in
-    (c .before .before .before .before .before .before .pre, ltb-true _ _ (b .0))
+    let w : wellFormed (operationOf (c .before .before .before .before .before .before .before .before .before .before .before .args .change)) ≡ true = sym (c .before .before .before .before .before .before .before .before .before .before .well-formed .ensures) ∙ not-false _ (c .before .before .before .before .before .before .before .before .before .if1 .left) in
+    (c .before .before .before .before .before .before .before .before .before .before .before .pre .fewTables, c .before .before .before .before .before .before .before .before .before .before .before .pre .whole, c .before .before .before .before .before .before .before .before .before .before .before .pre .below, ltb-true _ _ (both _ _ (rw (c .before .before .before .before .before .before .op .given .1) at w) .0))
 
 enum-known-op-2 : tie.Need-enum-known-op-2
 enum-known-op-2 c = search known
 
 drop-requires : tie.Need-drop-requires
-drop-requires c κs = c .before .before .before .before .before .before .pre
+drop-requires c κs = (c .before .before .before .before .before .before .before .before .before .before .before .pre .fewTables, c .before .before .before .before .before .before .before .before .before .before .before .pre .whole)
 
 enum-known-op-3 : tie.Need-enum-known-op-3
 enum-known-op-3 c = search known
 
 add-requires : tie.Need-add-requires
-add-requires c κs = c .before .before .before .before .before .before .pre
+add-requires c κs = let z = c .before .before .before .before .before .before .before .before .before .before .before .pre .sized in (c .before .before .before .before .before .before .before .before .before .before .before .pre .fewTables, rising-pairs (c .before .before .before .before .before .before .before .before .before .before .before .pre), (z .0, (z .1 .0, (z .1 .1 .0, (z .1 .1 .1 .0, tt)))))
 
 enum-known-op-4 : tie.Need-enum-known-op-4
 enum-known-op-4 c = search known
 
 delete-requires : tie.Need-delete-requires
-delete-requires c κs = c .before .before .before .before .before .before .pre
+delete-requires c κs = (rising-pairs (c .before .before .before .before .before .before .before .before .before .before .pre), c .before .before .before .before .before .before .before .before .before .before .pre .sized .1 .1 .1 .0)
 
 enum-known-op-5 : tie.Need-enum-known-op-5
 enum-known-op-5 c = search known
 
-add-vector-requires : tie.Need-add-vector-requires
-add-vector-requires c κs = c .before .before .before .before .before .before .pre
+add-requires-2 : tie.Need-add-requires-2
+add-requires-2 c κs = (rising-pairs (c .before .before .before .before .before .before .before .before .before .before .before .before .before .before .before .pre), rising-vectors (c .before .before .before .before .before .before .before .before .before .before .before .before .before .before .before .pre), c .before .before .before .before .before .before .before .before .before .before .before .before .before .before .before .pre .sized .1 .1 .1 .1)
 
 enum-known-op-6 : tie.Need-enum-known-op-6
 enum-known-op-6 c = search known
 
-delete-vector-requires : tie.Need-delete-vector-requires
-delete-vector-requires c κs = c .before .before .before .before .before .before .pre
+delete-requires-2 : tie.Need-delete-requires-2
+delete-requires-2 c κs = (rising-vectors (c .before .before .before .before .before .before .before .before .before .before .before .pre), c .before .before .before .before .before .before .before .before .before .before .before .pre .sized .1 .1 .1 .1 .1 .1 .1 .1 .0)
 
 enum-told : tie.Need-enum-told
 enum-told c = search known
@@ -66,40 +69,46 @@ refused-requires-2 : tie.Need-refused-requires-2
 refused-requires-2 c κs = search known
 
 returns-2 : tie.Need-returns-2
-unfolding StepIs stepOf
 returns-2 c =
-    let w : wellFormed (operationOf (c .before .before .before .before .before .before .before .args .change)) ≡ true = sym (c .before .before .before .before .before .before .well-formed .ensures) ∙ not-false _ (c .before .before .before .before .before .if1 .left) in
-    rw (w, c .before .before .op .given .1) (c .create .ensures)
+    let a = c .before .before .before .before .before .before .before .before .before .before .before .before .args in
+    let w : wellFormed (operationOf (a .change)) ≡ true = sym (c .before .before .before .before .before .before .before .before .before .before .before .well-formed .ensures) ∙ not-false _ (c .before .before .before .before .before .before .before .before .before .before .if1 .left) in
+    let z = c .before .before .before .before .before .before .before .before .before .before .before .before .pre .sized in
+    rw (c .before .before .before .before .before .before .before .op .given .1) (turned-step (c .before .before .before .before .before .before .before .before .before .before .before .before .pre) _ _ _ _ _ (rw (c .before .before .before .before .before .before .before .op .given .1) at w) (c .create .ensures .0 (entries (now (a .pair-tables) ∷ now (a .pair-rowsets) ∷ []) (now (a .pair-added)) (now (a .pair-deleted))) (entries (now (a .tables) ∷ now (a .rowsets) ∷ now (a .vectors) ∷ []) (now (a .added)) (now (a .deleted)))) (c .create .ensures .1) z)
 
 returns-3 : tie.Need-returns-3
-unfolding StepIs stepOf
 returns-3 c =
-    let w : wellFormed (operationOf (c .before .before .before .before .before .before .before .args .change)) ≡ true = sym (c .before .before .before .before .before .before .well-formed .ensures) ∙ not-false _ (c .before .before .before .before .before .if1 .left) in
-    rw (w, c .before .before .op2 .given .1) (c .drop .ensures)
+    let a = c .before .before .before .before .before .before .before .before .before .before .before .before .args in
+    let w : wellFormed (operationOf (a .change)) ≡ true = sym (c .before .before .before .before .before .before .before .before .before .before .before .well-formed .ensures) ∙ not-false _ (c .before .before .before .before .before .before .before .before .before .before .if1 .left) in
+    let z = c .before .before .before .before .before .before .before .before .before .before .before .before .pre .sized in
+    rw (c .before .before .before .before .before .before .before .op2 .given .1) (turned-step (c .before .before .before .before .before .before .before .before .before .before .before .before .pre) _ _ _ _ _ (rw (c .before .before .before .before .before .before .before .op2 .given .1) at w) (c .drop .ensures .0 (entries (now (a .pair-tables) ∷ now (a .pair-rowsets) ∷ []) (now (a .pair-added)) (now (a .pair-deleted))) (entries (now (a .tables) ∷ now (a .rowsets) ∷ now (a .vectors) ∷ []) (now (a .added)) (now (a .deleted)))) (c .drop .ensures .1) z)
 
 returns-4 : tie.Need-returns-4
-unfolding StepIs stepOf
 returns-4 c =
-    let w : wellFormed (operationOf (c .before .before .before .before .before .before .before .args .change)) ≡ true = sym (c .before .before .before .before .before .before .well-formed .ensures) ∙ not-false _ (c .before .before .before .before .before .if1 .left) in
-    rw (w, c .before .before .op3 .given .1) (c .add .ensures)
+    let a = c .before .before .before .before .before .before .before .before .before .before .before .before .args in
+    let w : wellFormed (operationOf (a .change)) ≡ true = sym (c .before .before .before .before .before .before .before .before .before .before .before .well-formed .ensures) ∙ not-false _ (c .before .before .before .before .before .before .before .before .before .before .if1 .left) in
+    let z = c .before .before .before .before .before .before .before .before .before .before .before .before .pre .sized in
+    rw (c .before .before .before .before .before .before .before .op3 .given .1) (turned-step (c .before .before .before .before .before .before .before .before .before .before .before .before .pre) _ _ _ _ _ (rw (c .before .before .before .before .before .before .before .op3 .given .1) at w) (c .add .ensures .0 (now (a .shapes)) (now (a .lengths)) (now (a .names)) (now (a .locked)) (entries (now (a .tables) ∷ now (a .rowsets) ∷ now (a .vectors) ∷ []) (now (a .added)) (now (a .deleted)))) (c .before .before .before .before .before .before .before .before .before .before .before .before .pre .whole) (let x = c .add .ensures .1 in (x .0, (x .1 .0, (x .1 .1 .0, (x .1 .1 .1 .0, z .1 .1 .1 .1))))))
 
 returns-5 : tie.Need-returns-5
-unfolding StepIs stepOf
 returns-5 c =
-    let w : wellFormed (operationOf (c .before .before .before .before .before .before .before .args .change)) ≡ true = sym (c .before .before .before .before .before .before .well-formed .ensures) ∙ not-false _ (c .before .before .before .before .before .if1 .left) in
-    rw (w, c .before .before .op4 .given .1) (c .delete .ensures)
+    let a = c .before .before .before .before .before .before .before .before .before .before .before .args in
+    let w : wellFormed (operationOf (a .change)) ≡ true = sym (c .before .before .before .before .before .before .before .before .before .before .well-formed .ensures) ∙ not-false _ (c .before .before .before .before .before .before .before .before .before .if1 .left) in
+    let z = c .before .before .before .before .before .before .before .before .before .before .before .pre .sized in
+    rw (c .before .before .before .before .before .before .op4 .given .1) (turned-step (c .before .before .before .before .before .before .before .before .before .before .before .pre) _ _ _ _ _ (rw (c .before .before .before .before .before .before .op4 .given .1) at w) (c .delete .ensures .0 (tableRows (now (a .ids)) (now (a .shapes)) (now (a .lengths)) (now (a .names)) (now (a .locked))) (entries (now (a .tables) ∷ now (a .rowsets) ∷ now (a .vectors) ∷ []) (now (a .added)) (now (a .deleted)))) (c .before .before .before .before .before .before .before .before .before .before .before .pre .whole) (z .0, (z .1 .0, (z .1 .1 .0, (c .delete .ensures .1, z .1 .1 .1 .1)))))
 
 returns-6 : tie.Need-returns-6
-unfolding StepIs stepOf
 returns-6 c =
-    let w : wellFormed (operationOf (c .before .before .before .before .before .before .before .args .change)) ≡ true = sym (c .before .before .before .before .before .before .well-formed .ensures) ∙ not-false _ (c .before .before .before .before .before .if1 .left) in
-    rw (w, c .before .before .op5 .given .1) (c .add-vector .ensures)
+    let a = c .before .before .before .before .before .before .before .before .before .before .before .before .before .before .before .before .args in
+    let w : wellFormed (operationOf (a .change)) ≡ true = sym (c .before .before .before .before .before .before .before .before .before .before .before .before .before .before .before .well-formed .ensures) ∙ not-false _ (c .before .before .before .before .before .before .before .before .before .before .before .before .before .before .if1 .left) in
+    let z = c .before .before .before .before .before .before .before .before .before .before .before .before .before .before .before .before .pre .sized in
+    rw (c .before .before .before .before .before .before .before .before .before .before .before .op5 .given .1) (turned-step (c .before .before .before .before .before .before .before .before .before .before .before .before .before .before .before .before .pre) _ _ _ _ _ (rw (c .before .before .before .before .before .before .before .before .before .before .before .op5 .given .1) at w) (c .add2 .ensures .0 (tableRows (now (a .ids)) (now (a .shapes)) (now (a .lengths)) (now (a .names)) (now (a .locked)))) (c .before .before .before .before .before .before .before .before .before .before .before .before .before .before .before .before .pre .whole) (z .0, (z .1 .0, (z .1 .1 .0, (z .1 .1 .1 .0, c .add2 .ensures .1)))))
 
 returns-7 : tie.Need-returns-7
-unfolding StepIs stepOf
 returns-7 c =
-    let w : wellFormed (operationOf (c .before .before .before .before .before .before .before .args .change)) ≡ true = sym (c .before .before .before .before .before .before .well-formed .ensures) ∙ not-false _ (c .before .before .before .before .before .if1 .left) in
-    rw (w, c .before .before .op6 .given .1) (c .delete-vector .ensures)
+    let a = c .before .before .before .before .before .before .before .before .before .before .before .before .args in
+    let w : wellFormed (operationOf (a .change)) ≡ true = sym (c .before .before .before .before .before .before .before .before .before .before .before .well-formed .ensures) ∙ not-false _ (c .before .before .before .before .before .before .before .before .before .before .if1 .left) in
+    let z = c .before .before .before .before .before .before .before .before .before .before .before .before .pre .sized in
+    rw (c .before .before .before .before .before .before .before .op6 .given .1) (turned-step (c .before .before .before .before .before .before .before .before .before .before .before .before .pre) _ _ _ _ _ (rw (c .before .before .before .before .before .before .before .op6 .given .1) at w) (c .delete2 .ensures .0 (tableRows (now (a .ids)) (now (a .shapes)) (now (a .lengths)) (now (a .names)) (now (a .locked))) (entries (now (a .pair-tables) ∷ now (a .pair-rowsets) ∷ []) (now (a .pair-added)) (now (a .pair-deleted)))) (c .before .before .before .before .before .before .before .before .before .before .before .before .pre .whole) (z .0, (z .1 .0, (z .1 .1 .0, (z .1 .1 .1 .0, (z .1 .1 .1 .1 .0, (z .1 .1 .1 .1 .1 .0, (z .1 .1 .1 .1 .1 .1 .0, (z .1 .1 .1 .1 .1 .1 .1 .0, (c .delete2 .ensures .1, tt))))))))))
 
 returns-8 : tie.Need-returns-8
 unfolding StepIs stepOf
@@ -123,9 +132,9 @@ step-spec =
     enum-known-op-4
     delete-requires
     enum-known-op-5
-    add-vector-requires
+    add-requires-2
     enum-known-op-6
-    delete-vector-requires
+    delete-requires-2
     enum-told
     refused-requires-2
     returns-2

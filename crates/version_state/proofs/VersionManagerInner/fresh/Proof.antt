@@ -1,7 +1,6 @@
 -- `version_state::VersionManagerInner::fresh` meets its contract. Assumes nothing.
 use native.Mathlib.Omega.{arith}
 use Rattle.lists.proofs.Places.{known}
-use borrow.Author.Needs.{needs}
 use Rattle.version_state.proofs.VersionManagerInner.fresh.Statement.{statement}
 use Rattle.version_state.proofs.VersionManagerInner.fresh.Tie as tie
 
