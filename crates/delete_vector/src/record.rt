@@ -9,9 +9,10 @@ ghost use Rattle.delete_vector.specs.Encoding.{varint, valueOf};
 ghost use Rattle.delete_vector.specs.Sizes.{rowBits, Significant, sizeTable};
 ghost use Rattle.delete_vector.specs.Records.{rowLimit, recordOf, Sized, startsWith, rowIn};
 
-// The bits of a row number, and the number that it is below.
+// The bits of a row number.
 pub const ROW_BITS: usize = 32;
 
+// Row numbers are below this.
 pub const ROW_LIMIT: u64 = 4294967296;
 
 // The size of a record by the count of significant bits of its row. An entry point takes it into a local and lends that:
