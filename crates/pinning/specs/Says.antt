@@ -10,11 +10,11 @@ use Rattle.ids.specs.declared.refusal.Verdict.{Verdict}
 use Rattle.ids.specs.declared.refusal.Verdict.the-variants.{Accepted, Refused}
 use Rattle.ids.specs.Verdicts.{Rule, _⇒_, judged}
 use Rattle.ids.specs.Answers.{Told, told}
-use Rattle.version_state.specs.Sound.{badManager}
 use Rattle.pins.specs.declared.PinBook.{PinBook}
 use Rattle.pins.specs.Book.{PinEntry, pinsOf, Keeps, badBook, pinned}
 use Rattle.vacuum.specs.Says.{listOf}
 use Rattle.version_manager.specs.declared.VersionManager.{VersionManager}
+use Rattle.version_manager.specs.Managers.{heldBy, badManager}
 use Rattle.pinning.specs.declared.PinAnswer.{PinAnswer}
 use Rattle.pinning.specs.declared.PinAnswer.the-variants as pin
 use Rattle.pinning.specs.declared.UnpinAnswer.{UnpinAnswer}
@@ -33,7 +33,7 @@ BookAfter (Refused k) b l b′ = b′ ≡ b
 -- 29, 28, 10, 18, 19
 abbrev pub pinRules : VersionManager → PinBook → List Rule
 pinRules m b =
-    (badManager (m .inner) ⇒ BadManager)
+    (badManager m ⇒ BadManager)
     ∷ (badBook (current m) b ⇒ BadPinBook)
     ∷ (eqb (current m) 0 ⇒ PinAtEpochZero)
     ∷ (pinsFull (current m) (pinsOf b) ⇒ PinsFull)
@@ -55,7 +55,7 @@ pub record PinSays (m : VersionManager) (b : PinBook) (a : PinAnswer) (b′ : Pi
 -- 29, 28, 24
 abbrev pub unpinRules : VersionManager → ℕ → PinBook → List Rule
 unpinRules m e b =
-    (badManager (m .inner) ⇒ BadManager)
+    (badManager m ⇒ BadManager)
     ∷ (badBook (current m) b ⇒ BadPinBook)
     ∷ (not (pinned e (pinsOf b)) ⇒ EpochNotPinned)
     ∷ []
@@ -85,5 +85,5 @@ readyOf (unpin.Refused k) = 0
 -- list that a vacuum would then give
 pub record UnpinSays (m : VersionManager) (e : ℕ) (b : PinBook) (a : UnpinAnswer) (b′ : PinBook) : Type 0 where
   pub answer : unpinTold a ≡ told (unpinVerdict m e b) (flag (isDue m e b) ∷ readyOf a ∷ [])
-  pub ready : readyOf a ≤ length (listOf (m .inner) b′)
+  pub ready : readyOf a ≤ length (listOf (heldBy m) b′)
   pub book : BookAfter (unpinVerdict m e b) b (withoutPin e (pinsOf b)) b′

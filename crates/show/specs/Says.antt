@@ -7,6 +7,7 @@ use lib.Dec.{ltb, eqb}
 use lib.ListN.{length, getD}
 use Rattle.lists.specs.Written.{over}
 use Rattle.ids.specs.declared.refusal.Refusal.the-variants.{BadPinBook, EpochNotPinned, OutputTooShort}
+use Rattle.ids.specs.declared.refusal.Verdict.{Verdict}
 use Rattle.ids.specs.declared.refusal.Verdict.the-variants.{Accepted, Refused}
 use Rattle.ids.specs.Names.{longestName}
 use Rattle.ids.specs.Verdicts.{Rule, _⇒_, judged}
@@ -53,22 +54,33 @@ module _ (s : State) (b : PinBook) where
   showTablesRules e i h l n =
       showRules (notCurrent e) (ltb i (length (s .tables)) || (ltb h (length (s .tables)) || (ltb l (length (s .tables)) || ltb n (longestName * length (s .tables)))))
 
+-- under a verdict v, show of pairs, lent the slices ts and rs, returns r and leaves ts′ and rs′ in them
+module _ (s : State) (e : ℕ) (v : Verdict) where
+  pub record PairsShown (ts rs : List ℕ) (r : ShowAnswer) (ts′ rs′ : List ℕ) : Type 0 where
+    pub answer : showTold r ≡ told v (length (pairsAt e s) ∷ [])
+    pub tables : ts′ ≡ after v (over (shownField 0 (pairsAt e s)) ts) ts
+    pub rowsets : rs′ ≡ after v (over (shownField 1 (pairsAt e s)) rs) rs
+
+  pub record VectorsShown (ts rs vs : List ℕ) (r : ShowAnswer) (ts′ rs′ vs′ : List ℕ) : Type 0 where
+    pub answer : showTold r ≡ told v (length (vectorsAt e s) ∷ [])
+    pub tables : ts′ ≡ after v (over (shownField 0 (vectorsAt e s)) ts) ts
+    pub rowsets : rs′ ≡ after v (over (shownField 1 (vectorsAt e s)) rs) rs
+    pub vectors : vs′ ≡ after v (over (shownField 2 (vectorsAt e s)) vs) vs
+
+  pub record TablesShown (is hs ls ns : List ℕ) (r : ShowAnswer) (is′ hs′ ls′ ns′ : List ℕ) : Type 0 where
+    pub answer : showTold r ≡ told v (length (s .tables) ∷ [])
+    pub ids : is′ ≡ after v (over (map (λ (t : TableEntry). t .table) (s .tables)) is) is
+    pub shapes : hs′ ≡ after v (over (map (λ (t : TableEntry). t .shape) (s .tables)) hs) hs
+    pub lengths : ls′ ≡ after v (over (map (λ (t : TableEntry). length (t .name)) (s .tables)) ls) ls
+    pub names : ns′ ≡ after v (over (namesRun (s .tables)) ns) ns
+
+-- show of a state that passed 29, with the book b
 module _ (s : State) (b : PinBook) (e : ℕ) where
-  -- show of pairs, lent the slices ts and rs, returns r and leaves ts′ and rs′ in them
-  pub record ShowPairsIs (ts rs : List ℕ) (r : ShowAnswer) (ts′ rs′ : List ℕ) : Type 0 where
-    pub answer : showTold r ≡ told (judged (showPairsRules s b e (length ts) (length rs))) (length (pairsAt e s) ∷ [])
-    pub tables : ts′ ≡ after (judged (showPairsRules s b e (length ts) (length rs))) (over (shownField 0 (pairsAt e s)) ts) ts
-    pub rowsets : rs′ ≡ after (judged (showPairsRules s b e (length ts) (length rs))) (over (shownField 1 (pairsAt e s)) rs) rs
+  abbrev pub ShowPairsIs : List ℕ → List ℕ → ShowAnswer → List ℕ → List ℕ → Type 0
+  ShowPairsIs ts rs r ts′ rs′ = PairsShown s e (judged (showPairsRules s b e (length ts) (length rs))) ts rs r ts′ rs′
 
-  pub record ShowVectorsIs (ts rs vs : List ℕ) (r : ShowAnswer) (ts′ rs′ vs′ : List ℕ) : Type 0 where
-    pub answer : showTold r ≡ told (judged (showVectorsRules s b e (length ts) (length rs) (length vs))) (length (vectorsAt e s) ∷ [])
-    pub tables : ts′ ≡ after (judged (showVectorsRules s b e (length ts) (length rs) (length vs))) (over (shownField 0 (vectorsAt e s)) ts) ts
-    pub rowsets : rs′ ≡ after (judged (showVectorsRules s b e (length ts) (length rs) (length vs))) (over (shownField 1 (vectorsAt e s)) rs) rs
-    pub vectors : vs′ ≡ after (judged (showVectorsRules s b e (length ts) (length rs) (length vs))) (over (shownField 2 (vectorsAt e s)) vs) vs
+  abbrev pub ShowVectorsIs : List ℕ → List ℕ → List ℕ → ShowAnswer → List ℕ → List ℕ → List ℕ → Type 0
+  ShowVectorsIs ts rs vs r ts′ rs′ vs′ = VectorsShown s e (judged (showVectorsRules s b e (length ts) (length rs) (length vs))) ts rs vs r ts′ rs′ vs′
 
-  pub record ShowTablesIs (is hs ls ns : List ℕ) (r : ShowAnswer) (is′ hs′ ls′ ns′ : List ℕ) : Type 0 where
-    pub answer : showTold r ≡ told (judged (showTablesRules s b e (length is) (length hs) (length ls) (length ns))) (length (s .tables) ∷ [])
-    pub ids : is′ ≡ after (judged (showTablesRules s b e (length is) (length hs) (length ls) (length ns))) (over (map (λ (t : TableEntry). t .table) (s .tables)) is) is
-    pub shapes : hs′ ≡ after (judged (showTablesRules s b e (length is) (length hs) (length ls) (length ns))) (over (map (λ (t : TableEntry). t .shape) (s .tables)) hs) hs
-    pub lengths : ls′ ≡ after (judged (showTablesRules s b e (length is) (length hs) (length ls) (length ns))) (over (map (λ (t : TableEntry). length (t .name)) (s .tables)) ls) ls
-    pub names : ns′ ≡ after (judged (showTablesRules s b e (length is) (length hs) (length ls) (length ns))) (over (namesRun (s .tables)) ns) ns
+  abbrev pub ShowTablesIs : List ℕ → List ℕ → List ℕ → List ℕ → ShowAnswer → List ℕ → List ℕ → List ℕ → List ℕ → Type 0
+  ShowTablesIs is hs ls ns r is′ hs′ ls′ ns′ = TablesShown s e (judged (showTablesRules s b e (length is) (length hs) (length ls) (length ns))) is hs ls ns r is′ hs′ ls′ ns′

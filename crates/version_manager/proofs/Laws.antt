@@ -15,11 +15,12 @@ use Rattle.text.specs.Name.{isName}
 use Rattle.snapshot.specs.Entries.{Entry, within}
 use Rattle.version_state.specs.declared.VersionManagerInner.{VersionManagerInner}
 use Rattle.ids.specs.Limits.{longestManifest}
-use Rattle.version_state.specs.State.{State, start, stateOf, withNext, Hands, HandsBack}
-use Rattle.version_state.specs.Sound.{leftBehind, badManager}
+use Rattle.version_state.specs.State.{State, start, stateOf, withNext, Hands}
+use Rattle.version_state.specs.Sound.{leftBehind, badInner}
 use Rattle.version_state.proofs.Within.{Rises, within-of, of-within, within-up}
 use Rattle.version_state.proofs.Facts.{Ordered, Sound, sound-of, of-sound}
 use Rattle.version_manager.specs.declared.VersionManager.{VersionManager}
+use Rattle.version_manager.specs.Managers.{heldBy, HandsBack}
 use Rattle.version_manager.specs.Draw.{drawRules, rowsetVerdict, vectorVerdict, rowsetDrawn, vectorDrawn}
 use Rattle.version_manager.specs.Laws.{DrawLaws}
 
@@ -30,7 +31,7 @@ entries-up e ns ms l r t =
 
 -- next ids of rowsets and vectors that rise leave a manager that passes 29 passing it
 raised-sound : (m n : VersionManagerInner) (r v : ℕ) → stateOf m .nextRowset ≤ r → stateOf m .nextVector ≤ v
-    → badManager m ≡ false → Hands n (withNext (stateOf m) (stateOf m .nextTable) r v) → badManager n ≡ false
+    → badInner m ≡ false → Hands n (withNext (stateOf m) (stateOf m .nextTable) r v) → badInner n ≡ false
 raised-sound m n r v hr hv b k =
     let s = sound-of m b in
     let q = sym (k .state) in
@@ -47,7 +48,7 @@ raised-sound m n r v hr hv b k =
       whole = subst (λ (u : State). leftBehind (u .epoch) u ≡ false) q (s .whole);
     })
 
-start-sound : (n : VersionManagerInner) → Hands n start → badManager n ≡ false
+start-sound : (n : VersionManagerInner) → Hands n start → badInner n ≡ false
 start-sound n k =
     let q = sym (k .state) in
     of-sound n
@@ -62,7 +63,7 @@ start-sound n k =
       whole = subst (λ (u : State). leftBehind (u .epoch) u ≡ false) q refl;
     })
 
-handed-back : (d : Verdict) (m n : VersionManagerInner) (s : State) → d ≡ Accepted → HandsBack d m s n → Hands n s
+handed-back : (d : Verdict) (m n : VersionManager) (s : State) → d ≡ Accepted → HandsBack d m s n → Hands (n .inner) s
 handed-back Accepted m n s e h = h
 handed-back (Refused k) m n s e h = absurd (let z : _≡_ {A = ℕ} 0 1 = cc in omega arith)
 
@@ -71,9 +72,9 @@ draw-laws =
     record {
       fresh = λ r h. start-sound (r .manager .inner) (h .manager);
       rowset = λ m r h a.
-          raised-sound (m .inner) (r .manager .inner) (stateOf (m .inner) .nextRowset + 1) (stateOf (m .inner) .nextVector) (omega arith) (omega arith) (none-judged (drawRules m (stateOf (m .inner) .nextRowset) largest32) a .0)
-          (handed-back (rowsetVerdict m) (m .inner) (r .manager .inner) (rowsetDrawn (stateOf (m .inner))) a (h .manager));
+          raised-sound (m .inner) (r .manager .inner) (heldBy m .nextRowset + 1) (heldBy m .nextVector) (omega arith) (omega arith) (none-judged (drawRules m (heldBy m .nextRowset) largest32) a .0)
+          (handed-back (rowsetVerdict m) m (r .manager) (rowsetDrawn (heldBy m)) a (h .manager));
       vector = λ m r h a.
-          raised-sound (m .inner) (r .manager .inner) (stateOf (m .inner) .nextRowset) (stateOf (m .inner) .nextVector + 1) (omega arith) (omega arith) (none-judged (drawRules m (stateOf (m .inner) .nextVector) largest64) a .0)
-          (handed-back (vectorVerdict m) (m .inner) (r .manager .inner) (vectorDrawn (stateOf (m .inner))) a (h .manager));
+          raised-sound (m .inner) (r .manager .inner) (heldBy m .nextRowset) (heldBy m .nextVector + 1) (omega arith) (omega arith) (none-judged (drawRules m (heldBy m .nextVector) largest64) a .0)
+          (handed-back (vectorVerdict m) m (r .manager) (vectorDrawn (heldBy m)) a (h .manager));
     }

@@ -1,3 +1,6 @@
 pub mod Managers
 pub mod Draw
+pub mod Commit
+pub mod Vacuum
+pub mod Show
 pub mod Laws

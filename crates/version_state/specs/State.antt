@@ -4,8 +4,6 @@ use mathlib.Core.Bool.{Bool, _&&_}
 use mathlib.Core.List.{List, []}
 use Prim.Native.Nat.{ℕ, _≤_}
 use lib.Dec.{leb}
-use Rattle.ids.specs.declared.refusal.Verdict.{Verdict}
-use Rattle.ids.specs.declared.refusal.Verdict.the-variants.{Accepted, Refused}
 use Rattle.snapshot.specs.Entries.{Entry, shown}
 use Rattle.snapshot.specs.Tables.{TableEntry}
 use Rattle.snapshot.specs.Views.{tablesOf, rowsetsOf, vectorsOf}
@@ -78,11 +76,6 @@ pub record Fit (m : VersionManagerInner) : Type 0 where
 pub record Hands (m : VersionManagerInner) (s : State) : Type 0 where
   pub fits : Fit m
   pub state : stateOf m ≡ s
-
--- the manager handed back: on a refusal the very same m, and else one that stands for s
-abbrev pub HandsBack : Verdict → VersionManagerInner → State → VersionManagerInner → Type 0
-HandsBack Accepted m s n = Hands n s
-HandsBack (Refused k) m s n = n ≡ m
 
 -- what an epoch shows: the pairs, and the vectors
 abbrev pub pairsAt : ℕ → State → List (List ℕ)
