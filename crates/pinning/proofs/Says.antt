@@ -14,7 +14,7 @@ use Rattle.ids.specs.declared.refusal.Verdict.the-variants.{Accepted, Refused}
 use Rattle.ids.specs.Verdicts.{_⇒_, judged}
 use Rattle.ids.proofs.Verdicts.{none-judged}
 use Rattle.version_state.specs.State.{Fit}
-use Rattle.version_state.specs.Sound.{badManager}
+use Rattle.version_manager.specs.Managers.{heldBy, badManager}
 use Rattle.version_state.proofs.Facts.{sound-of}
 use Rattle.pins.specs.declared.PinBook.{PinBook}
 use Rattle.pins.specs.Book.{pinsOf, badBook, GoodBook, Keeps, pinned}
@@ -66,7 +66,7 @@ module _ (v w x y z : Bool) where
 
 module _ (m : VersionManager) (b : PinBook) where
   abbrev bm : Bool
-  bm = badManager (m .inner)
+  bm = badManager m
 
   abbrev bb : Bool
   bb = badBook (current m) b
@@ -160,6 +160,6 @@ module _ (m : VersionManager) (b : PinBook) where
     pub unpin-refuses : (k : Refusal) → unpinVerdict m e b ≡ Refused k → UnpinSays m e b (unpin.Refused k) b
     unpin-refuses k d = record { answer = rw d; ready = omega arith; book = rw d }
 
-    pub unpin-accepts : (b′ : PinBook) (y : Bool) (n : ℕ) → unpinVerdict m e b ≡ Accepted → y ≡ isDue m e b → n ≤ length (listOf (m .inner) b′)
+    pub unpin-accepts : (b′ : PinBook) (y : Bool) (n : ℕ) → unpinVerdict m e b ≡ Accepted → y ≡ isDue m e b → n ≤ length (listOf (heldBy m) b′)
         → Keeps b′ (withoutPin e (pinsOf b)) → UnpinSays m e b (unpin.Unpinned y n) b′
     unpin-accepts b′ y n d u r k = record { answer = rw (d, u); ready = r; book = rw d k }
