@@ -48,7 +48,7 @@ tableRows ids shapes lengths names locked n = rows (tableAt ids shapes lengths n
 
 -- the bytes of all names
 abbrev pub nameBytes : ℕ
-nameBytes = 512
+nameBytes = mostTables * longestName
 
 -- each column has the length of its array
 pub record Whole (i s l n : List ℕ) (k : List Bool) : Type 0 where

@@ -1,3 +1,4 @@
+// Live tables, in columns that are lent to small functions.
 use ids::TableNo;
 use ids::limits::LONGEST_NAME;
 use ids::limits::MOST_TABLES;
@@ -44,7 +45,7 @@ impl Tables {
     }
 }
 
-// Internal, as are all functions here: whether a live table has the id.
+// Internal, as are all that follow: whether a live table has the id.
 pub fn holds(ids: &[u32; MOST_TABLES], count: usize, table: TableNo) -> bool
     requires { ⌜ count ≤ mostTables ⌝ }
     ensures { λ r. ⌜ r ≡ has plain (table .0 ∷ []) (rows (across (now (ids .entry) ∷ [])) count) ⌝ }
