@@ -28,7 +28,7 @@ use Rattle.replay_lists.specs.Rows.{beside, rows}
 use Rattle.replay_lists.proofs.Rows.{rows-length, rows-at, rows-seen, rows-end}
 use Rattle.replay.specs.declared.Sets.{Sets}
 use Rattle.replay.specs.Replay.{tableless, withoutOrphans}
-use Rattle.replay.specs.Working.{lineHere, shapeSaid, nameSaid, tableRow, tablesIn, stateIn, Slices, narrowFirst, narrow, pairRow, vectorRow, pairsIn, vectorsIn, wide32, TablesGood, PairsGood, VectorsGood}
+use Rattle.replay.specs.Working.{shapeNoted, nameNoted, tableRow, tablesIn, stateIn, Slices, narrowFirst, pairRow, vectorRow, pairsIn, vectorsIn, wide32, TablesGood, PairsGood, VectorsGood}
 
 -- what is left of rows under a map
 module _ {A : Type 0} (f : ℕ × ℕ → A) (a b : List ℕ) (n : ℕ) (p : n ≤ length a) (q : n ≤ length b) where
@@ -54,18 +54,6 @@ table-fits a b n i g h =
     let t = all-at narrowFirst (rows a b n) i (0, 0) (g .small) (omega arith) in
     leb-true _ _ (rw (rows-at a b n p q i h) at t)
 
-pub pair-fits : (a b : List ℕ) (n i : ℕ) → PairsGood a b n → i < n → (getD a i 0 ≤ 4294967295) × (getD b i 0 ≤ 4294967295)
-pair-fits a b n i g h =
-    let ga = g .first in
-    let gb = g .second in
-    let gw = g .within in
-    let p : n ≤ length a = omega arith in
-    let q : n ≤ length b = omega arith in
-    let z = rows-length a b n p q in
-    let t = all-at narrow (rows a b n) i (0, 0) (g .small) (omega arith) in
-    let s = both (leb (getD a i 0) largest32) (leb (getD b i 0) largest32) (rw (rows-at a b n p q i h) at t) in
-    (leb-true _ _ (s .0), leb-true _ _ (s .1))
-
 take-more : {A : Type 0} (l : List A) (i : ℕ) (x : A) (m : List A) → drop i l ≡ x ∷ m → take i l ++ (x ∷ []) ≡ take (suc i) l
 take-more [] zero x m h = absurd (none h)
   where
@@ -79,7 +67,7 @@ take-more (y ∷ l) zero x m h = let e : y ≡ x = cc in ap (λ (t : _). t ∷ [
 take-more (y ∷ l) (suc i) x m h = ap (λ (t : List _). y ∷ t) (take-more l i x m h)
 
 -- one table more
-pub table-next : (src a b : List ℕ) (n i : ℕ) (x : Table) → TablesGood a b n → i < n → x .id .0 ≡ getD a i 0 → x .shape ≡ shapeSaid (lineHere src (getD b i 0)) → nameOf (x .name) ≡ nameSaid (lineHere src (getD b i 0)) → x .locked ≡ false
+pub table-next : (src a b : List ℕ) (n i : ℕ) (x : Table) → TablesGood a b n → i < n → x .id .0 ≡ getD a i 0 → x .shape ≡ shapeNoted (getD b i 0) → nameOf (x .name) ≡ nameNoted src (getD b i 0) → x .locked ≡ false
     → take i (tablesIn src a b n) ++ (tableEntry x ∷ []) ≡ take (i + 1) (tablesIn src a b n)
 table-next src a b n i x g h ei es en el =
     let ga = g .first in
@@ -98,13 +86,15 @@ tables-whole src a b n g =
     ap (λ (k : ℕ). take k (tablesIn src a b n)) (sym z) ∙ take-length (tablesIn src a b n)
 
 -- one rowset more
-pub rowset-next : (a b : List ℕ) (n i : ℕ) (x : Rowset) → PairsGood a b n → i < n → x .pair .table .0 ≡ getD a i 0 → x .pair .rowset .0 ≡ getD b i 0 → x .epochs .added ≡ 1 → x .epochs .deleted ≡ 0
+pub rowset-next : (a b : List ℕ) (n i : ℕ) (x : Rowset) → PairsGood a b n → i < n → pairIds (x .pair) ≡ getD a i 0 / wide32 ∷ getD a i 0 % wide32 ∷ [] → x .epochs .added ≡ 1 → x .epochs .deleted ≡ 0
     → drop i (pairsIn a b n) ≡ rowsetEntry x ∷ drop (i + 1) (pairsIn a b n)
-rowset-next a b n i x g h ea eb e d =
+rowset-next a b n i x g h ep e d =
     let ga = g .first in
     let gb = g .second in
     let gw = g .within in
-    let s : pairRow (getD a i 0, getD b i 0) ≡ rowsetEntry x = rw (ea, eb, e, d) in
+    let u : x .pair .table .0 ≡ getD a i 0 / wide32 = cc in
+    let w : x .pair .rowset .0 ≡ getD a i 0 % wide32 = cc in
+    let s : pairRow (getD a i 0, getD b i 0) ≡ rowsetEntry x = rw (u, w, e, d) in
     row-next pairRow a b n (omega arith) (omega arith) i h ∙ ap (λ (y : Entry). y ∷ drop (i + 1) (pairsIn a b n)) s
 
 -- one vector more, or none

@@ -1,6 +1,11 @@
-// The end of a replay: what the slices hold becomes a manager's lists, one pass each.
+// The end of a replay: what the working slice holds becomes a manager's lists, one pass each.
+use crate::HELD_ROOM;
+use crate::PAIRS_END;
 use crate::Replayed;
 use crate::Sets;
+use crate::TABLE_ROOM;
+use crate::TABLES_END;
+use crate::WORK_ROOM;
 use ids::RowsetNo;
 use ids::TableNo;
 use ids::VectorNo;
@@ -23,7 +28,7 @@ ghost use Rattle.lists.specs.Keyed.{keep};
 ghost use Rattle.snapshot.specs.Views.{tablesOf, rowsetsOf, vectorsOf, pairIds};
 ghost use Rattle.replay.specs.Replay.{finished, ReplayIs};
 ghost use Rattle.version_state.specs.Sound.{hasRowset};
-ghost use Rattle.replay.specs.Working.{slices, tablesIn, pairsIn, vectorsIn, stateIn, wide32, TablesGood, PairsGood, VectorsGood, Good, Small};
+ghost use Rattle.replay.specs.Working.{cut, workRoom, tablesIn, pairsIn, vectorsIn, stateIn, wide32, TablesGood, PairsGood, VectorsGood, Good, Small};
 
 // Internal, as is all here: everything is added at epoch 1.
 fn epochs() -> Epochs
@@ -35,15 +40,14 @@ fn epochs() -> Epochs
     }
 }
 
-fn build_tables(src: &[u8], ids: &[u64], places: &[u64], count: usize) -> Tables
-    requires { ⌜ TablesGood (now ids) (now places) count × (count ≤ 16) ⌝ }
-    ensures { λ r. ⌜ (r .count ≡ count) × (tablesOf r ≡ tablesIn (now (src .entry)) (now (ids .entry)) (now (places .entry)) count) ⌝ }
+fn build_tables(src: &[u8], ids: &[u64], notes: &[u64], count: usize) -> Tables
+    requires { ⌜ TablesGood (now ids) (now notes) count × (count ≤ 16) ⌝ }
+    ensures { λ r. ⌜ (r .count ≡ count) × (tablesOf r ≡ tablesIn (now (src .entry)) (now (ids .entry)) (now (notes .entry)) count) ⌝ }
 {
     let mut s = Tables::none();
     let mut i = 0;
     while i < count {
-        let at = places[i] as usize;
-        let said = crate::said_here(src, at);
+        let said = crate::names::said(src, notes[i]);
         let name = said.name;
         let x = Table {
             id: TableNo(ids[i] as u32),
@@ -57,25 +61,6 @@ fn build_tables(src: &[u8], ids: &[u64], places: &[u64], count: usize) -> Tables
     s
 }
 
-fn build_rowsets(tables: &[u64], rowsets: &[u64], count: usize) -> Rowsets
-    requires { ⌜ PairsGood (now tables) (now rowsets) count ⌝ }
-    ensures { λ r. ⌜ (r .count ≡ count) × (rowsetsOf r ≡ pairsIn (now (tables .entry)) (now (rowsets .entry)) count) ⌝ }
-{
-    let mut s = Rowsets::none();
-    let epochs = epochs();
-    let mut i = 0;
-    while i < count {
-        let pair = Pair {
-            table: TableNo(tables[i] as u32),
-            rowset: RowsetNo(rowsets[i] as u32),
-        };
-        s.items[i] = Rowset { pair, epochs };
-        i += 1;
-    }
-    s.count = count;
-    s
-}
-
 // Table and rowset out of one number.
 fn pair_of(key: u64) -> Pair
     ensures { λ r. ⌜ pairIds r ≡ key / wide32 ∷ key % wide32 ∷ [] ⌝ }
@@ -84,6 +69,22 @@ fn pair_of(key: u64) -> Pair
         table: TableNo((key / 4294967296) as u32),
         rowset: RowsetNo((key % 4294967296) as u32),
     }
+}
+
+fn build_rowsets(keys: &[u64], spare: &[u64], count: usize) -> Rowsets
+    requires { ⌜ PairsGood (now keys) (now spare) count ⌝ }
+    ensures { λ r. ⌜ (r .count ≡ count) × (rowsetsOf r ≡ pairsIn (now (keys .entry)) (now (spare .entry)) count) ⌝ }
+{
+    let mut s = Rowsets::none();
+    let epochs = epochs();
+    let mut i = 0;
+    while i < count {
+        let pair = pair_of(keys[i]);
+        s.items[i] = Rowset { pair, epochs };
+        i += 1;
+    }
+    s.count = count;
+    s
 }
 
 // Without those whose rowset is not live.
@@ -111,24 +112,25 @@ fn build_vectors(pairs: &[u64], vectors: &[u64], count: usize, rowsets: Rowsets)
     s
 }
 
-pub fn finish(
-    src: &[u8],
-    sets: Sets,
-    ids: &[u64],
-    places: &[u64],
-    tables: &[u64],
-    rowsets: &[u64],
-    pairs: &[u64],
-    vectors: &[u64],
-) -> Replayed
-    requires { ⌜ Good (slices (now ids) (now places) (now tables) (now rowsets) (now pairs) (now vectors)) sets × Small sets ⌝ }
-    ensures { λ r. ⌜ ReplayIs (finished (stateIn (now (src .entry)) (slices (now (ids .entry)) (now (places .entry)) (now (tables .entry)) (now (rowsets .entry)) (now (pairs .entry)) (now (vectors .entry))) sets)) r ⌝ }
+pub fn finish(src: &[u8], sets: Sets, work: &[u64]) -> Replayed
+    requires { ⌜ Good (cut (now work)) sets × Small sets × (length (now work) ≡ workRoom) ⌝ }
+    ensures { λ r. ⌜ ReplayIs (finished (stateIn (now (src .entry)) (cut (now (work .entry))) sets)) r ⌝ }
 {
-    let live = build_tables(src, ids, places, sets.tables);
-    let held = build_rowsets(tables, rowsets, sets.pairs);
+    let tables = &work[0..TABLES_END];
+    let ids = &tables[0..TABLE_ROOM];
+    let notes = &tables[TABLE_ROOM..TABLES_END];
+    let live = build_tables(src, ids, notes, sets.tables);
+    let rowsets = &work[TABLES_END..PAIRS_END];
+    let half = HELD_ROOM + HELD_ROOM;
+    let keys = &rowsets[0..HELD_ROOM];
+    let spare = &rowsets[HELD_ROOM..half];
+    let held = build_rowsets(keys, spare, sets.pairs);
     if !version_state::have_tables(held, live) {
         return crate::no(Refusal::RowsetWithoutTable);
     }
+    let all = &work[PAIRS_END..WORK_ROOM];
+    let pairs = &all[0..HELD_ROOM];
+    let vectors = &all[HELD_ROOM..half];
     let shown = build_vectors(pairs, vectors, sets.vectors, held);
     let next = sets.next;
     let inner = VersionManagerInner {

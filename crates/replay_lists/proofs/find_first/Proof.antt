@@ -39,7 +39,7 @@ stands-requires c κs = search needs
 
 returns : tie.Need-returns
 returns c =
-    let s = c .before .before .before .before .before  in
+    let s = c .before .before .before .before .before in
     let r = s .args .room in
     let l = s .args .list .now in
     let e : r + r - r ≡ r = omega arith in

@@ -15,7 +15,7 @@ find-first-requires c κs = search needs
 
 returns : tie.Need-returns
 returns c =
-    let s = c .before .before  in
+    let s = c .before .before in
     let l = s .args .list .now in
     let r = s .args .room in
     let n = s .args .count in

@@ -44,7 +44,7 @@ same-length c = search needs
 
 returns : tie.Need-returns
 returns c =
-    let s = c .before .before .before .before .before .before .before .before .before  in
+    let s = c .before .before .before .before .before .before .before .before .before in
     let l = s .args .list .now in
     let r = s .args .room in
     let lt : length (c .before .before .before .before .before .before .insert .last .0) ≡ r = c .before .before .before .before .before .before .insert .ensures .1 ∙ length-take-le (r - 0) l (omega (arith, s .pre .0)) ∙ omega arith in

@@ -17,7 +17,7 @@ same-length c = search needs
 
 returns : tie.Need-returns
 returns c =
-    let s = c .before .before .before .before  in
+    let s = c .before .before .before .before in
     let l = s .args .list .now in
     let r = s .args .room in
     let n = s .args .count in
@@ -28,7 +28,7 @@ returns c =
     let lb = seconds-length r l (s .pre .0) in
     let p : n ≤ length (firsts r l) = omega arith in
     let q : n ≤ length (seconds r l) = omega arith in
-    (put-there (firsts r l) (seconds r l) n at (s .args .x) (s .args .y) p q (fd .place)  (sym (fd .there) ∙ c .if1 .taken) , omega arith)
+    (put-there (firsts r l) (seconds r l) n at (s .args .x) (s .args .y) p q (fd .place) (sym (fd .there) ∙ c .if1 .taken), omega arith)
 
 insert-row-requires : tie.Need-insert-row-requires
 insert-row-requires c κs = search needs
@@ -41,7 +41,7 @@ same-length-2 c = search needs
 
 returns-2 : tie.Need-returns-2
 returns-2 c =
-    let s = c .before .before .before .before .before .before .before .before  in
+    let s = c .before .before .before .before .before .before .before .before in
     let l = s .args .list .now in
     let r = s .args .room in
     let n = s .args .count in

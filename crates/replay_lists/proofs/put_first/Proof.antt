@@ -26,7 +26,7 @@ same-length c = search needs
 
 returns : tie.Need-returns
 returns c =
-    let s = c .before .before .before .before  in
+    let s = c .before .before .before .before in
     let l = s .args .list .now in
     let r = s .args .room in
     let n = s .args .count in
@@ -51,7 +51,7 @@ same-length-2 c = search needs
 
 returns-2 : tie.Need-returns-2
 returns-2 c =
-    let s = c .before .before .before .before .before .before .before .before  in
+    let s = c .before .before .before .before .before .before .before .before in
     let l = s .args .list .now in
     let r = s .args .room in
     let n = s .args .count in

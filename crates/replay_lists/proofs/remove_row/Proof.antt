@@ -44,12 +44,12 @@ same-length c = search needs
 
 returns : tie.Need-returns
 returns c =
-    let s = c .before .before .before .before .before .before .before .before .before  in
+    let s = c .before .before .before .before .before .before .before .before .before in
     let l = s .args .list .now in
     let r = s .args .room in
     let lt : length (c .before .before .before .before .before .before .remove .last .0) ≡ r = c .before .before .before .before .before .before .remove .ensures .1 ∙ length-take-le (r - 0) l (omega (arith, s .pre .0)) ∙ omega arith in
     let lu : length (c .before .before .remove2 .last .0) ≡ r = c .before .before .remove2 .ensures .1 ∙ other-length r l (s .pre .0) (r - 0) (r + r - r) (omega arith) (omega arith) (c .before .before .before .before .before .before .remove .last .0) lt in
-    held-remove r l (s .pre .0) (r - 0) (r + r - r) (omega arith) (omega arith) (c .before .before .before .before .before .before .remove .last .0) lt (c .before .before .remove2 .last .0) lu (s .args .count) (s .args .at)  (c .before .before .before .before .before .before .remove .ensures .0) (c .before .before .remove2 .ensures .0)
+    held-remove r l (s .pre .0) (r - 0) (r + r - r) (omega arith) (omega arith) (c .before .before .before .before .before .before .remove .last .0) lt (c .before .before .remove2 .last .0) lu (s .args .count) (s .args .at) (c .before .before .before .before .before .before .remove .ensures .0) (c .before .before .remove2 .ensures .0)
 
 pub remove-row-spec : {M : Type 1} → statement M
 remove-row-spec =

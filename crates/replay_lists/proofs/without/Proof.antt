@@ -14,7 +14,7 @@ find-requires c κs = search needs
 
 remove-row-requires : tie.Need-remove-row-requires
 remove-row-requires c κs =
-    let s = c .before .before .before .before .before  in
+    let s = c .before .before .before .before .before in
     let b = there-below _ _ _ _ (c .before .before .find .ensures .there) (c .before .if1 .taken) in
     (s .pre .0, b, s .pre .1)
 
@@ -27,7 +27,7 @@ same-length c = search needs
 
 returns : tie.Need-returns
 returns c =
-    let s = c .before .before .before .before .before .before .before .before  in
+    let s = c .before .before .before .before .before .before .before .before in
     let l = s .args .list .now in
     let r = s .args .room in
     let n = s .args .count in
@@ -45,7 +45,7 @@ same-length-2 c = search needs
 
 returns-2 : tie.Need-returns-2
 returns-2 c =
-    let s = c .before .before .before .before  in
+    let s = c .before .before .before .before in
     let l = s .args .list .now in
     let r = s .args .room in
     let n = s .args .count in
@@ -56,7 +56,7 @@ returns-2 c =
     let lb = seconds-length r l (s .pre .0) in
     let p : n ≤ length (firsts r l) = omega arith in
     let q : n ≤ length (seconds r l) = omega arith in
-    (without-none (firsts r l) (seconds r l) n at (s .args .x) (s .args .y) p q (fd .place) (s .pre .2) (sym (fd .there) ∙ c .if1 .left) , omega arith)
+    (without-none (firsts r l) (seconds r l) n at (s .args .x) (s .args .y) p q (fd .place) (s .pre .2) (sym (fd .there) ∙ c .if1 .left), omega arith)
 
 pub without-spec : {M : Type 1} → statement M
 without-spec =
