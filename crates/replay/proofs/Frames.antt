@@ -25,11 +25,12 @@ use Rattle.manifest.specs.Lines.{lineOf}
 use Rattle.manifest.specs.Split.{lines, linesFrom, lineAt}
 use Rattle.manifest.specs.declared.reader.LineAt.{LineAt}
 use Rattle.manifest.specs.declared.reader.LineAt.the-variants as found
-use Rattle.manifest.proofs.Split.{lines-at, lines-none, lines-from-start, line-further}
+use Rattle.manifest.proofs.Split.{lines-at, lines-none, lines-from-start, line-placed, line-further}
 use Rattle.snapshot.specs.Entries.{Entry, byIds}
+use Rattle.ids.specs.Limits.{longestManifest}
 use Rattle.version_state.specs.State.{State, withPairs, withVectors}
-use Rattle.replay_lists.specs.Rows.{rows, byBoth}
-use Rattle.replay_lists.proofs.Rows.{rows-length}
+use Rattle.replay_lists.specs.Rows.{rows, byBoth, byFirst}
+use Rattle.replay_lists.proofs.Rows.{rows-length, firsts-length, seconds-length}
 use Rattle.replay.specs.declared.Sets.{Sets}
 use Rattle.replay.specs.declared.Applied.{Applied}
 use Rattle.replay.specs.declared.Begun.{Begun}
@@ -37,8 +38,9 @@ use Rattle.replay.specs.declared.Turn.{Turn}
 use Rattle.replay.specs.declared.Replayed.{Replayed}
 use Rattle.ids.specs.Limits.{mostOperations}
 use Rattle.replay.specs.Replay.{Result, refused, given, andThen, Frame, none, opened, Carried, carried, atStart, framed, stands, settled, overLimit, limited, ended, noted, lineRead, linesRead, finished, ReplayIs}
-use Rattle.replay.specs.Working.{firstLine, lineHere, pairRow, vectorRow, Slices, slices, tablesIn, pairsIn, vectorsIn, stateIn, TablesGood, PairsGood, VectorsGood, Good, Grown, oneOf, AppliedIs, saidFrom, leading, framedLightly, Held, FrameIs, Small, EndIs, BegunOk, OpenFrame, BegunIs, Turned, TurnIs, OperationSays, Ready, RunIs}
+use Rattle.replay.specs.Working.{tableRoom, heldRoom, workRoom, tablesPart, pairsPart, vectorsPart, cut, pairRow, vectorRow, Slices, slices, tablesIn, pairsIn, vectorsIn, stateIn, TablesGood, PairsGood, VectorsGood, Good, Grown, oneOf, AppliedIs, saidFrom, leading, framedLightly, Held, FrameIs, Small, EndIs, BegunOk, OpenFrame, BegunIs, Turned, TurnIs, OperationSays, Ready, RunIs, ReadTo}
 use Rattle.replay.proofs.Maps.{lex-split, ascending-mapped}
+use Rattle.replay.proofs.Working.{tables-whole, pairs-whole, vectors-whole}
 use Rattle.replay.proofs.Light.{Rising, frame-light}
 
 -- The line at a place.
@@ -48,15 +50,13 @@ said-line s at start e next h = ap (map lineOf) (lines-at s at start e next h)
 pub said-none : (s : List ℕ) (at : ℕ) → lineAt s at ≡ found.None → saidFrom s at ≡ []
 said-none s at h = ap (map lineOf) (lines-none s at h)
 
-never : {l : Line} {m : List Line} → [] ≡ l ∷ m → ⊥
-never h = let z : _≡_ {A = ℕ} 0 1 = cc in omega arith
-
-first-said : (ls : List (List ℕ)) (l : Line) (m : List Line) → map lineOf ls ≡ l ∷ m → lineOf (firstLine ls) ≡ l
-first-said [] l m h = absurd (never h)
-first-said (x ∷ ls) l m h = cc
-
-pub here-said : (s : List ℕ) (at : ℕ) (l : Line) (m : List Line) → saidFrom s at ≡ l ∷ m → lineHere s at ≡ l
-here-said s at l m h = first-said (linesFrom s at) l m h
+pub read-at : (s : List ℕ) (at start e next : ℕ) → lineAt s at ≡ found.Line start e next → (o : Operation) (x : ℕ) → lineOf (take (e - start) (drop start s)) ≡ operation o → x ≡ e → ReadTo s x o
+read-at s at start e next h o x d q =
+    let p = line-placed s at start e next h in
+    let pw = p .within in
+    let po = p .on in
+    let pi = p .inside in
+    rw q (record { start = start; order = omega arith; inside = omega arith; said = d })
 
 pub nothing-leads : (a b : Line) → a ≡ b → ((m : List Line) → leading (a ∷ m) ≡ []) → (m : List Line) → leading (b ∷ m) ≡ []
 nothing-leads a b e h m = ap (λ (l : Line). leading (l ∷ m)) (sym e) ∙ h m
@@ -71,12 +71,12 @@ turn-as src next m r c a b e t = subst (λ (l : Line). TurnIs (lineRead l c) src
 pub record Going (src : List ℕ) (whole : Result State) (l : Slices) (at n left : ℕ) (z : Sets) : Type 0 where
   pub same : whole ≡ framedLightly n (take left (leading (saidFrom src at))) (stateIn src l z)
   pub good : Good l z
-  pub tables : z .tables + left ≤ 616
-  pub pairs : z .pairs + left ≤ 856
-  pub vectors : z .vectors + left ≤ 856
+  pub tables : z .tables + left ≤ tableRoom
+  pub pairs : z .pairs + left ≤ heldRoom
+  pub vectors : z .vectors + left ≤ heldRoom
   pub line : n ≤ at + 1
   pub inside : at ≤ length src
-  pub short : length src ≤ 65536
+  pub short : length src ≤ longestManifest
 
 unrolled : (src : List ℕ) (at n left next : ℕ) (o : Operation) (s : State) → 0 < left → saidFrom src at ≡ operation o ∷ saidFrom src next
     → framedLightly n (take left (leading (saidFrom src at))) s ≡ andThen (oneOf n o s) (framedLightly (n + 1) (take (left - 1) (leading (saidFrom src next))))
@@ -151,17 +151,17 @@ module _ (src : List ℕ) (l : Slices) (z : Sets) (g : Good l z) where
   count-tables : length (stateIn src l z .tables) ≡ z .tables
   count-tables =
       let t = g .tables in let a = t .first in let b = t .second in let w = t .within in
-      length-map (rows (l .ids) (l .places) (z .tables)) _ ∙ rows-length (l .ids) (l .places) (z .tables) (omega arith) (omega arith)
+      length-map (rows (l .ids) (l .notes) (z .tables)) _ ∙ rows-length (l .ids) (l .notes) (z .tables) (omega arith) (omega arith)
 
   count-pairs : length (stateIn src l z .pairs) ≡ z .pairs
   count-pairs =
       let t = g .pairs in let a = t .first in let b = t .second in let w = t .within in
-      length-map (rows (l .tables) (l .rowsets) (z .pairs)) _ ∙ rows-length (l .tables) (l .rowsets) (z .pairs) (omega arith) (omega arith)
+      length-map (rows (l .keys) (l .spare) (z .pairs)) _ ∙ rows-length (l .keys) (l .spare) (z .pairs) (omega arith) (omega arith)
 
   count-vectors : length (stateIn src l z .vectors) ≡ z .vectors
   count-vectors =
       let t = g .vectors in let a = t .first in let b = t .second in let w = t .within in
-      length-map (rows (l .pairs) (l .vectors) (z .vectors)) _ ∙ rows-length (l .pairs) (l .vectors) (z .vectors) (omega arith) (omega arith)
+      length-map (rows (l .owners) (l .vectors) (z .vectors)) _ ∙ rows-length (l .owners) (l .vectors) (z .vectors) (omega arith) (omega arith)
 
   limit-counts : overLimit (stateIn src l z) ≡ ltb 16 (z .tables) || (ltb 256 (z .pairs) || ltb 256 (z .vectors))
   limit-counts = rw (count-tables, count-pairs, count-vectors)
@@ -201,15 +201,15 @@ module _ (src : List ℕ) (l : Slices) (z : Sets) (g : Good l z) where
   rising-in = record { pairs = up-pairs; vectors = up-vectors }
     where
       up-pairs : Ascending byIds (stateIn src l z .pairs)
-      up-pairs = ascending-mapped pairRow byBoth byIds (λ x y. refl) (rows (l .tables) (l .rowsets) (z .pairs)) (ascend-to byBoth (rows (l .tables) (l .rowsets) (z .pairs)) (g .pairs .rising))
+      up-pairs = ascending-mapped pairRow byFirst byIds (λ x y. lex-split (x .0) (y .0) false) (rows (l .keys) (l .spare) (z .pairs)) (ascend-to byFirst (rows (l .keys) (l .spare) (z .pairs)) (g .pairs .rising))
 
       up-vectors : Ascending byIds (stateIn src l z .vectors)
-      up-vectors = ascending-mapped vectorRow byBoth byIds (λ x y. lex-split (x .0) (y .0) (less (x .1 ∷ []) (y .1 ∷ []))) (rows (l .pairs) (l .vectors) (z .vectors)) (ascend-to byBoth (rows (l .pairs) (l .vectors) (z .vectors)) (g .vectors .rising))
+      up-vectors = ascending-mapped vectorRow byBoth byIds (λ x y. lex-split (x .0) (y .0) (less (x .1 ∷ []) (y .1 ∷ []))) (rows (l .owners) (l .vectors) (z .vectors)) (ascend-to byBoth (rows (l .owners) (l .vectors) (z .vectors)) (g .vectors .rising))
 
   settled-in : settled (stateIn src l z) ≡ stateIn src l z
   settled-in =
-      let p = keep-rows pairRow (λ x. refl) (rows (l .tables) (l .rowsets) (z .pairs)) in
-      let v = keep-rows vectorRow (λ x. refl) (rows (l .pairs) (l .vectors) (z .vectors)) in
+      let p = keep-rows pairRow (λ x. refl) (rows (l .keys) (l .spare) (z .pairs)) in
+      let v = keep-rows vectorRow (λ x. refl) (rows (l .owners) (l .vectors) (z .vectors)) in
       ap (λ (m : List Entry). withVectors (withPairs (stateIn src l z) (keep stands (stateIn src l z .pairs))) m) v
       ∙ ap (λ (m : List Entry). withPairs (stateIn src l z) m) p
 
@@ -347,17 +347,24 @@ pub record Reading (src : List ℕ) (l : Slices) (z : Sets) (o : Begun) (at n : 
   pub line : n ≤ at + 1
   pub inside : at ≤ length src
 
-pub good-start : (l : Slices) (z : Sets) → length (l .ids) ≡ 616 → length (l .places) ≡ 616 → length (l .tables) ≡ 856 → length (l .rowsets) ≡ 856 → length (l .pairs) ≡ 856 → length (l .vectors) ≡ 856
+good-start : (l : Slices) (z : Sets) → length (l .ids) ≡ tableRoom → length (l .notes) ≡ tableRoom → length (l .keys) ≡ heldRoom → length (l .spare) ≡ heldRoom → length (l .owners) ≡ heldRoom → length (l .vectors) ≡ heldRoom
     → z .tables ≡ 0 → z .pairs ≡ 0 → z .vectors ≡ 0 → Good l z
 good-start l z a b p q v w d e f =
     record {
       tables = record { first = a; second = b; within = omega arith; rising = rw d; small = rw d };
-      pairs = record { first = p; second = q; within = omega arith; rising = rw e; small = rw e };
+      pairs = record { first = p; second = q; within = omega arith; rising = rw e };
       vectors = record { first = v; second = w; within = omega arith; rising = rw f };
     }
 
+pub cut-start : (w : List ℕ) (z : Sets) → length w ≡ workRoom → z .tables ≡ 0 → z .pairs ≡ 0 → z .vectors ≡ 0 → Good (cut w) z
+cut-start w z h d e f =
+    let t = tables-whole w h in
+    let p = pairs-whole w h in
+    let v = vectors-whole w h in
+    good-start (cut w) z (firsts-length tableRoom (tablesPart w) t) (seconds-length tableRoom (tablesPart w) t) (firsts-length heldRoom (pairsPart w) p) (seconds-length heldRoom (pairsPart w) p) (firsts-length heldRoom (vectorsPart w) v) (seconds-length heldRoom (vectorsPart w) v) d e f
+
 module _ (src : List ℕ) (l : Slices) (z : Sets) (o : Begun) where
-  pub reading-start : Good l z → z .next .table .0 ≡ 0 → z .next .rowset .0 ≡ 0 → z .next .vector .0 ≡ 0 → z .tables ≡ 0 → z .pairs ≡ 0 → z .vectors ≡ 0 → o .running ≡ false → BegunOk src o → length src ≤ 65536 → Reading src l z o 0 1
+  pub reading-start : Good l z → z .next .table .0 ≡ 0 → z .next .rowset .0 ≡ 0 → z .next .vector .0 ≡ 0 → z .tables ≡ 0 → z .pairs ≡ 0 → z .vectors ≡ 0 → o .running ≡ false → BegunOk src o → length src ≤ longestManifest → Reading src l z o 0 1
   reading-start g a b c d e f r k h =
       record {
         frame = none;

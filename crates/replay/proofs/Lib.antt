@@ -1,6 +1,7 @@
 pub mod Maps
 pub mod Working
-pub mod Endings
+pub mod Notes
 pub mod Light
 pub mod Frames
+pub mod Filling
 pub mod Handing

@@ -39,22 +39,6 @@ map-without f kx ka jx ja alike (y ∷ l) =
     (λ u. rw (s, u) (map-without f kx ka jx ja alike l))
     (λ u. rw (s, u) (ap (λ (m : List _). f y ∷ m) (map-without f kx ka jx ja alike l)))
 
--- a row whose first number is new stands by it where it stands by both
-pub put-first : (x : ℕ × ℕ) (l : List (ℕ × ℕ)) → has byFirst (byFirst x) l ≡ false → put byBoth x l ≡ put byFirst x l
-put-first x [] h = refl
-put-first x (y ∷ l) h =
-    let n = neither (isAt byFirst (byFirst x) y) (has byFirst (byFirst x) l) h in
-    let e : eqb (y .0) (x .0) ≡ false = apart (eqb (y .0) (x .0)) (n .0) in
-    let b : less (byBoth y) (byBoth x) ≡ less (byFirst y) (byFirst x) = rw e in
-    let s : same (byBoth y) (byBoth x) ≡ same (byFirst y) (byFirst x) = rw e in
-    by-cases (less (byFirst y) (byFirst x))
-    (λ t. rw (b, t) (ap (λ (m : List (ℕ × ℕ)). y ∷ m) (put-first x l (n .1))))
-    (λ t. rw (b, t, s))
-  where
-    apart : (t : Bool) → t && true ≡ false → t ≡ false
-    apart true p = p
-    apart false p = refl
-
 -- the second numbers of the rows
 pub second-any : (g : ℕ → Bool) (n : ℕ) (a b : List ℕ) → n ≤ length a → n ≤ length b → anyOf (λ (p : ℕ × ℕ). g (p .1)) (rows a b n) ≡ anyOf g (take n b)
 second-any g zero a b p q = refl

@@ -1,12 +1,13 @@
 -- What an operation does to the rows is what it does to the state that they hold. Assumes nothing.
-use mathlib.Core.Path.{_≡_, refl, sym, ap, _∙_}
+use mathlib.Core.Path.{_≡_, refl, sym, ap, _∙_, subst⁻¹}
 use mathlib.Core.Bool.{Bool, true, false, cond, not, _&&_, _||_}
 use mathlib.Core.List.{List, [], _∷_, map}
 use Prim.Native.Nat.{ℕ, _+_, _-_, _*_, _/_, _%_, _≤_, _<_, max}
 use native.Mathlib.Omega.{arith}
 use borrow.Author.Tests.{le-leb, ltb-true}
 use lib.Dec.{leb, eqb}
-use lib.ListN.{length, take, drop}
+use lib.ListN.{length, take, drop, length-drop}
+use lib.Seq.{length-take-le}
 use Rattle.lists.specs.Order.{less, same}
 use Rattle.lists.specs.Keyed.{keep, allOf, anyOf, isAt, has, put, without, ascending}
 use Rattle.lists.proofs.Tests.{by-cases, both, join}
@@ -14,31 +15,19 @@ use Rattle.lists.proofs.Keyed.{All, Ascending, ascend-to, ascend-from, ascendin
 use Rattle.ids.specs.Ids.{largest32, largest64, isId32, isId64}
 use Rattle.text.specs.Name.{isName}
 use Rattle.manifest.specs.Operations.{Operation, createTable, dropTable, addRowset, deleteRowset, addVector, deleteVector, nextIds, Line, operation, bad}
-use Rattle.manifest.specs.Lines.{lineOf, lineBy}
-use Rattle.manifest.specs.Split.{linesFrom, lineAt}
-use Rattle.manifest.specs.declared.reader.LineAt.{LineAt}
-use Rattle.manifest.specs.declared.reader.LineAt.the-variants as found
+use Rattle.manifest.specs.Lines.{lineOf}
 use Rattle.manifest.proofs.Lines.{text-parse}
-use Rattle.manifest.proofs.Split.{lines-at, lines-none}
 use Rattle.snapshot.specs.Entries.{Entry, addedAt, byIds}
 use Rattle.snapshot.specs.Tables.{TableEntry, created, byTable, nameTaken}
 use Rattle.version_state.specs.State.{State, withTables, withPairs, withVectors, withNext}
-use Rattle.replay_lists.specs.Rows.{rows, byBoth, byFirst}
+use Rattle.replay_lists.specs.Rows.{rows, firsts, seconds, held, byBoth, byFirst}
+use Rattle.replay_lists.proofs.Parts.{back, back-in, back-before, back-after}
+use Rattle.replay_lists.proofs.Rows.{firsts-length, seconds-length}
 use Rattle.replay.specs.declared.Sets.{Sets}
-use Rattle.replay.specs.Replay.{reopened}
-use Rattle.replay.specs.Working.{firstLine, lineHere, shapeSaid, nameSaid, tableRow, pairRow, vectorRow, wide32, Slices, slices, tablesIn, pairsIn, vectorsIn, stateIn, tableRoom, heldRoom, narrowFirst, narrow, TablesGood, PairsGood, VectorsGood, Good, Grown, Stands}
-use Rattle.replay.proofs.Maps.{map-put, map-without, put-first, second-any, lex-split, eq-split, high, low}
-
--- The line at a place.
-pub here-line : (s : List ℕ) (at start end next : ℕ) → lineAt s at ≡ found.Line start end next → lineHere s at ≡ lineOf (take (end - start) (drop start s))
-here-line s at start end next h = ap (λ (l : List (List ℕ)). lineOf (firstLine l)) (lines-at s at start end next h)
-
-no-line : lineOf [] ≡ bad
-unfolding lineOf lineBy
-no-line = refl
-
-pub here-none : (s : List ℕ) (at : ℕ) → lineAt s at ≡ found.None → lineHere s at ≡ bad
-here-none s at h = ap (λ (l : List (List ℕ)). lineOf (firstLine l)) (lines-none s at h) ∙ no-line
+use Rattle.replay.specs.declared.Applied.{Applied}
+use Rattle.replay.specs.Replay.{Result, reopened}
+use Rattle.replay.specs.Working.{shapeNoted, nameNoted, tableRow, pairRow, vectorRow, wide32, Slices, listsOf, cut, tablesPart, pairsPart, vectorsPart, tablesEnd, pairsEnd, workRoom, tablesIn, pairsIn, vectorsIn, stateIn, tableRoom, heldRoom, narrowFirst, TablesGood, PairsGood, VectorsGood, Good, Grown, Stands, AppliedIs}
+use Rattle.replay.proofs.Maps.{map-put, map-without, second-any, lex-split, eq-split, high, low}
 
 -- Tables.
 module _ (src : List ℕ) where
@@ -46,10 +35,10 @@ module _ (src : List ℕ) where
   table-has t l = anyOf-map (tableRow src) (isAt byTable (t ∷ [])) l
 
   pub name-taken : (n a b : List ℕ) (m : ℕ) → m ≤ length a → m ≤ length b
-      → nameTaken n (tablesIn src a b m) ≡ anyOf (λ at. same (nameSaid (lineHere src at)) n) (take m b)
+      → nameTaken n (tablesIn src a b m) ≡ anyOf (λ at. same (nameNoted src at) n) (take m b)
   name-taken n a b m p q =
       anyOf-map (tableRow src) (λ (x : TableEntry). same (x .name) n) (rows a b m)
-      ∙ second-any (λ at. same (nameSaid (lineHere src at)) n) m a b p q
+      ∙ second-any (λ at. same (nameNoted src at) n) m a b p q
 
   table-put : (x : ℕ × ℕ) (l : List (ℕ × ℕ)) → put byTable (tableRow src x) (map (tableRow src) l) ≡ map (tableRow src) (put byFirst x l)
   table-put x l = map-put (tableRow src) byFirst byTable (λ u v. refl) (λ u v. refl) x l
@@ -57,11 +46,18 @@ module _ (src : List ℕ) where
   table-without : (t : ℕ) (l : List (ℕ × ℕ)) → without byTable (t ∷ []) (map (tableRow src) l) ≡ map (tableRow src) (without byFirst (t ∷ []) l)
   table-without t l = map-without (tableRow src) byFirst byTable (t ∷ []) (t ∷ []) (λ u. refl) l
 
-pair-put : (x : ℕ × ℕ) (l : List (ℕ × ℕ)) → put byIds (pairRow x) (map pairRow l) ≡ map pairRow (put byBoth x l)
-pair-put x l = map-put pairRow byBoth byIds (λ u v. refl) (λ u v. refl) x l
+pair-put : (x : ℕ × ℕ) (l : List (ℕ × ℕ)) → put byIds (pairRow x) (map pairRow l) ≡ map pairRow (put byFirst x l)
+pair-put x l = map-put pairRow byFirst byIds (λ u v. lex-split (u .0) (v .0) false) (λ u v. eq-split (u .0) (v .0) true) x l
 
-pair-without : (t r : ℕ) (l : List (ℕ × ℕ)) → without byIds (t ∷ r ∷ []) (map pairRow l) ≡ map pairRow (without byBoth (t ∷ r ∷ []) l)
-pair-without t r l = map-without pairRow byBoth byIds (t ∷ r ∷ []) (t ∷ r ∷ []) (λ u. refl) l
+pair-row : (t r z : ℕ) → r < wide32 → pairRow (t * wide32 + r, z) ≡ addedAt reopened (t ∷ r ∷ [])
+pair-row t r z h = rw (high t r h, low t r h)
+
+pair-without : (t r : ℕ) (l : List (ℕ × ℕ)) → r < wide32 → without byIds (t ∷ r ∷ []) (map pairRow l) ≡ map pairRow (without byFirst ((t * wide32 + r) ∷ []) l)
+pair-without t r l h =
+    map-without pairRow byFirst byIds ((t * wide32 + r) ∷ []) (t ∷ r ∷ [])
+    (λ u. let e = eq-split (u .0) (t * wide32 + r) true in
+    rw (high t r h, low t r h) at e)
+    l
 
 vector-put : (x : ℕ × ℕ) (l : List (ℕ × ℕ)) → put byIds (vectorRow x) (map vectorRow l) ≡ map vectorRow (put byBoth x l)
 vector-put x l =
@@ -88,34 +84,37 @@ parts : (t t' r r' v v' : ℕ) (ts ts' : List TableEntry) (ps ps' vs vs' : List 
 parts t t' r r' v v' ts ts' ps ps' vs vs' a b c d e f = rw (a, b, c, d, e, f)
 
 -- What stands after a change of one of the three lists.
-module _ (src a b p q v w : List ℕ) (y z : Sets) (g : Good (slices a b p q v w) y) (nt nr nv : ℕ)
+module _ (src t p v : List ℕ) (y z : Sets) (g : Good (listsOf t p v) y) (nt nr nv : ℕ)
     (et : z .next .table .0 ≡ nt) (er : z .next .rowset .0 ≡ nr) (ev : z .next .vector .0 ≡ nv) where
-  pub step-tables : (a' b' : List ℕ) (L : List TableEntry) → TablesGood a' b' (z .tables) → tablesIn src a' b' (z .tables) ≡ L → z .pairs ≡ y .pairs → z .vectors ≡ y .vectors → z .tables ≤ y .tables + 1
-      → Stands src (slices a' b' p q v w) y z (withNext (withTables (stateIn src (slices a b p q v w) y) L) nt nr nv)
+  pub step-tables : (u : List ℕ) (L : List TableEntry) → TablesGood (firsts tableRoom u) (seconds tableRoom u) (z .tables) → tablesIn src (firsts tableRoom u) (seconds tableRoom u) (z .tables) ≡ L
+      → z .pairs ≡ y .pairs → z .vectors ≡ y .vectors → z .tables ≤ y .tables + 1
+      → Stands src (listsOf u p v) y z (withNext (withTables (stateIn src (listsOf t p v) y) L) nt nr nv)
   unfolding state-by
-  step-tables a' b' L h e ep es m =
+  step-tables u L h e ep es m =
       record {
-        state = parts _ _ _ _ _ _ _ _ _ _ _ _ et er ev e (ap (pairsIn p q) ep) (ap (vectorsIn v w) es);
+        state = parts _ _ _ _ _ _ _ _ _ _ _ _ et er ev e (ap (pairsIn (firsts heldRoom p) (seconds heldRoom p)) ep) (ap (vectorsIn (firsts heldRoom v) (seconds heldRoom v)) es);
         good = record { tables = h; pairs = rw ep (g .pairs); vectors = rw es (g .vectors) };
         grown = record { tables = m; pairs = omega arith; vectors = omega arith };
       }
 
-  pub step-pairs : (p' q' : List ℕ) (L : List Entry) → PairsGood p' q' (z .pairs) → pairsIn p' q' (z .pairs) ≡ L → z .tables ≡ y .tables → z .vectors ≡ y .vectors → z .pairs ≤ y .pairs + 1
-      → Stands src (slices a b p' q' v w) y z (withNext (withPairs (stateIn src (slices a b p q v w) y) L) nt nr nv)
+  pub step-pairs : (u : List ℕ) (L : List Entry) → PairsGood (firsts heldRoom u) (seconds heldRoom u) (z .pairs) → pairsIn (firsts heldRoom u) (seconds heldRoom u) (z .pairs) ≡ L
+      → z .tables ≡ y .tables → z .vectors ≡ y .vectors → z .pairs ≤ y .pairs + 1
+      → Stands src (listsOf t u v) y z (withNext (withPairs (stateIn src (listsOf t p v) y) L) nt nr nv)
   unfolding state-by
-  step-pairs p' q' L h e ep es m =
+  step-pairs u L h e ep es m =
       record {
-        state = parts _ _ _ _ _ _ _ _ _ _ _ _ et er ev (ap (tablesIn src a b) ep) e (ap (vectorsIn v w) es);
+        state = parts _ _ _ _ _ _ _ _ _ _ _ _ et er ev (ap (tablesIn src (firsts tableRoom t) (seconds tableRoom t)) ep) e (ap (vectorsIn (firsts heldRoom v) (seconds heldRoom v)) es);
         good = record { tables = rw ep (g .tables); pairs = h; vectors = rw es (g .vectors) };
         grown = record { tables = omega arith; pairs = m; vectors = omega arith };
       }
 
-  pub step-vectors : (v' w' : List ℕ) (L : List Entry) → VectorsGood v' w' (z .vectors) → vectorsIn v' w' (z .vectors) ≡ L → z .tables ≡ y .tables → z .pairs ≡ y .pairs → z .vectors ≤ y .vectors + 1
-      → Stands src (slices a b p q v' w') y z (withNext (withVectors (stateIn src (slices a b p q v w) y) L) nt nr nv)
+  pub step-vectors : (u : List ℕ) (L : List Entry) → VectorsGood (firsts heldRoom u) (seconds heldRoom u) (z .vectors) → vectorsIn (firsts heldRoom u) (seconds heldRoom u) (z .vectors) ≡ L
+      → z .tables ≡ y .tables → z .pairs ≡ y .pairs → z .vectors ≤ y .vectors + 1
+      → Stands src (listsOf t p u) y z (withNext (withVectors (stateIn src (listsOf t p v) y) L) nt nr nv)
   unfolding state-by
-  step-vectors v' w' L h e ep es m =
+  step-vectors u L h e ep es m =
       record {
-        state = parts _ _ _ _ _ _ _ _ _ _ _ _ et er ev (ap (tablesIn src a b) ep) (ap (pairsIn p q) es) e;
+        state = parts _ _ _ _ _ _ _ _ _ _ _ _ et er ev (ap (tablesIn src (firsts tableRoom t) (seconds tableRoom t)) ep) (ap (pairsIn (firsts heldRoom p) (seconds heldRoom p)) es) e;
         good = record { tables = rw ep (g .tables); pairs = rw es (g .pairs); vectors = h };
         grown = record { tables = omega arith; pairs = omega arith; vectors = m };
       }
@@ -135,106 +134,137 @@ module _ {A : Type 0} (key : A → List ℕ) where
   all-out q k l m e h = rw e (all-allOf q (without key k l) (all-keep (λ y. q y ≡ true) (λ y. not (isAt key k y)) l (allOf-all q l h)))
 
 -- The lists themselves.
-module _ (a b c d : List ℕ) (n m : ℕ) (lc : length c ≡ length a) (ld : length d ≡ length b) where
-  pub tables-put : (src : List ℕ) (t at : ℕ) (h : List ℕ) (s : ℕ) → TablesGood a b n → n < tableRoom → m ≤ n + 1 → t ≤ largest32 → rows c d m ≡ put byBoth (t, at) (rows a b n)
-      → has byTable (t ∷ []) (tablesIn src a b n) ≡ false → shapeSaid (lineHere src at) ≡ s → nameSaid (lineHere src at) ≡ h
-      → TablesGood c d m × (tablesIn src c d m ≡ put byTable (created t s h) (tablesIn src a b n))
-  tables-put src t at h s g u k ok e new es eh =
-      let l = rows a b n in
-      let fresh : has byFirst (t ∷ []) l ≡ false = sym (table-has src t l) ∙ new in
-      let f : rows c d m ≡ put byFirst (t, at) l = e ∙ put-first (t, at) l fresh in
-      let ga = g .first in
-      let gb = g .second in (
+module _ (t u : List ℕ) (n m : ℕ) (whole : tableRoom + tableRoom ≡ length t) (same-length : length u ≡ length t) where
+  pub tables-put : (src : List ℕ) (i k : ℕ) → TablesGood (firsts tableRoom t) (seconds tableRoom t) n → n < tableRoom → m ≤ n + 1 → i ≤ largest32 → held tableRoom u m ≡ put byFirst (i, k) (held tableRoom t n)
+      → TablesGood (firsts tableRoom u) (seconds tableRoom u) m
+      × (tablesIn src (firsts tableRoom u) (seconds tableRoom u) m ≡ put byTable (created i (shapeNoted k) (nameNoted src k)) (tablesIn src (firsts tableRoom t) (seconds tableRoom t) n))
+  tables-put src i k g o h ok e =
+      let l = held tableRoom t n in (
         record {
-          first = lc ∙ ga;
-          second = ld ∙ gb;
+          first = firsts-length tableRoom u (whole ∙ sym same-length);
+          second = seconds-length tableRoom u (whole ∙ sym same-length);
           within = omega arith;
-          rising = rise-put byFirst (t, at) l (rows c d m) f (g .rising);
-          small = all-in byFirst narrowFirst (t, at) l (rows c d m) f (le-leb t largest32 ok) (g .small);
+          rising = rise-put byFirst (i, k) l (held tableRoom u m) e (g .rising);
+          small = all-in byFirst narrowFirst (i, k) l (held tableRoom u m) e (le-leb i largest32 ok) (g .small);
         },
-        ap (map (tableRow src)) f ∙ sym (table-put src (t, at) l) ∙ rw (es, eh),
+        ap (map (tableRow src)) e ∙ sym (table-put src (i, k) l),
       )
 
-  pub tables-out : (src : List ℕ) (t : ℕ) → TablesGood a b n → m ≤ n → rows c d m ≡ without byFirst (t ∷ []) (rows a b n)
-      → TablesGood c d m × (tablesIn src c d m ≡ without byTable (t ∷ []) (tablesIn src a b n))
-  tables-out src t g k e =
-      let l = rows a b n in
-      let ga = g .first in
-      let gb = g .second in
+  pub tables-out : (src : List ℕ) (i : ℕ) → TablesGood (firsts tableRoom t) (seconds tableRoom t) n → m ≤ n → held tableRoom u m ≡ without byFirst (i ∷ []) (held tableRoom t n)
+      → TablesGood (firsts tableRoom u) (seconds tableRoom u) m
+      × (tablesIn src (firsts tableRoom u) (seconds tableRoom u) m ≡ without byTable (i ∷ []) (tablesIn src (firsts tableRoom t) (seconds tableRoom t) n))
+  tables-out src i g h e =
+      let l = held tableRoom t n in
       let gw = g .within in (
         record {
-          first = lc ∙ ga;
-          second = ld ∙ gb;
+          first = firsts-length tableRoom u (whole ∙ sym same-length);
+          second = seconds-length tableRoom u (whole ∙ sym same-length);
           within = omega arith;
-          rising = rise-out byFirst (t ∷ []) l (rows c d m) e (g .rising);
-          small = all-out byFirst narrowFirst (t ∷ []) l (rows c d m) e (g .small);
+          rising = rise-out byFirst (i ∷ []) l (held tableRoom u m) e (g .rising);
+          small = all-out byFirst narrowFirst (i ∷ []) l (held tableRoom u m) e (g .small);
         },
-        ap (map (tableRow src)) e ∙ sym (table-without src t l),
+        ap (map (tableRow src)) e ∙ sym (table-without src i l),
       )
 
-  pub pairs-put : (t r : ℕ) → PairsGood a b n → n < heldRoom → m ≤ n + 1 → t ≤ largest32 → r ≤ largest32 → rows c d m ≡ put byBoth (t, r) (rows a b n)
-      → PairsGood c d m × (pairsIn c d m ≡ put byIds (addedAt reopened (t ∷ r ∷ [])) (pairsIn a b n))
-  pairs-put t r g u k st sr e =
-      let l = rows a b n in
-      let ga = g .first in
-      let gb = g .second in (
+module _ (t u : List ℕ) (n m : ℕ) (whole : heldRoom + heldRoom ≡ length t) (same-length : length u ≡ length t) where
+  pub pairs-put : (i r z : ℕ) → PairsGood (firsts heldRoom t) (seconds heldRoom t) n → n < heldRoom → m ≤ n + 1 → r < wide32 → held heldRoom u m ≡ put byFirst (i * wide32 + r, z) (held heldRoom t n)
+      → PairsGood (firsts heldRoom u) (seconds heldRoom u) m
+      × (pairsIn (firsts heldRoom u) (seconds heldRoom u) m ≡ put byIds (addedAt reopened (i ∷ r ∷ [])) (pairsIn (firsts heldRoom t) (seconds heldRoom t) n))
+  pairs-put i r z g o h sr e =
+      let l = held heldRoom t n in (
         record {
-          first = lc ∙ ga;
-          second = ld ∙ gb;
+          first = firsts-length heldRoom u (whole ∙ sym same-length);
+          second = seconds-length heldRoom u (whole ∙ sym same-length);
           within = omega arith;
-          rising = rise-put byBoth (t, r) l (rows c d m) e (g .rising);
-          small = all-in byBoth narrow (t, r) l (rows c d m) e (join (le-leb t largest32 st) (le-leb r largest32 sr)) (g .small);
+          rising = rise-put byFirst (i * wide32 + r, z) l (held heldRoom u m) e (g .rising);
         },
-        ap (map pairRow) e ∙ sym (pair-put (t, r) l),
+        ap (map pairRow) e ∙ sym (pair-put (i * wide32 + r, z) l) ∙ ap (λ (x : Entry). put byIds x (map pairRow l)) (pair-row i r z sr),
       )
 
-  pub pairs-out : (t r : ℕ) → PairsGood a b n → m ≤ n → rows c d m ≡ without byBoth (t ∷ r ∷ []) (rows a b n)
-      → PairsGood c d m × (pairsIn c d m ≡ without byIds (t ∷ r ∷ []) (pairsIn a b n))
-  pairs-out t r g k e =
-      let l = rows a b n in
-      let ga = g .first in
-      let gb = g .second in
+  pub pairs-out : (i r : ℕ) → PairsGood (firsts heldRoom t) (seconds heldRoom t) n → m ≤ n → r < wide32 → held heldRoom u m ≡ without byFirst ((i * wide32 + r) ∷ []) (held heldRoom t n)
+      → PairsGood (firsts heldRoom u) (seconds heldRoom u) m
+      × (pairsIn (firsts heldRoom u) (seconds heldRoom u) m ≡ without byIds (i ∷ r ∷ []) (pairsIn (firsts heldRoom t) (seconds heldRoom t) n))
+  pairs-out i r g h sr e =
+      let l = held heldRoom t n in
       let gw = g .within in (
         record {
-          first = lc ∙ ga;
-          second = ld ∙ gb;
+          first = firsts-length heldRoom u (whole ∙ sym same-length);
+          second = seconds-length heldRoom u (whole ∙ sym same-length);
           within = omega arith;
-          rising = rise-out byBoth (t ∷ r ∷ []) l (rows c d m) e (g .rising);
-          small = all-out byBoth narrow (t ∷ r ∷ []) l (rows c d m) e (g .small);
+          rising = rise-out byFirst ((i * wide32 + r) ∷ []) l (held heldRoom u m) e (g .rising);
         },
-        ap (map pairRow) e ∙ sym (pair-without t r l),
+        ap (map pairRow) e ∙ sym (pair-without i r l sr),
       )
 
-  pub vectors-put : (t r v : ℕ) → VectorsGood a b n → n < heldRoom → m ≤ n + 1 → r < wide32 → rows c d m ≡ put byBoth (t * wide32 + r, v) (rows a b n)
-      → VectorsGood c d m × (vectorsIn c d m ≡ put byIds (addedAt reopened (t ∷ r ∷ v ∷ [])) (vectorsIn a b n))
-  vectors-put t r v g u k sr e =
-      let l = rows a b n in
-      let ga = g .first in
-      let gb = g .second in (
+  pub vectors-put : (i r v : ℕ) → VectorsGood (firsts heldRoom t) (seconds heldRoom t) n → n < heldRoom → m ≤ n + 1 → r < wide32 → held heldRoom u m ≡ put byBoth (i * wide32 + r, v) (held heldRoom t n)
+      → VectorsGood (firsts heldRoom u) (seconds heldRoom u) m
+      × (vectorsIn (firsts heldRoom u) (seconds heldRoom u) m ≡ put byIds (addedAt reopened (i ∷ r ∷ v ∷ [])) (vectorsIn (firsts heldRoom t) (seconds heldRoom t) n))
+  vectors-put i r v g o h sr e =
+      let l = held heldRoom t n in (
         record {
-          first = lc ∙ ga;
-          second = ld ∙ gb;
+          first = firsts-length heldRoom u (whole ∙ sym same-length);
+          second = seconds-length heldRoom u (whole ∙ sym same-length);
           within = omega arith;
-          rising = rise-put byBoth (t * wide32 + r, v) l (rows c d m) e (g .rising);
+          rising = rise-put byBoth (i * wide32 + r, v) l (held heldRoom u m) e (g .rising);
         },
-        ap (map vectorRow) e ∙ sym (vector-put (t * wide32 + r, v) l) ∙ ap (λ (x : Entry). put byIds x (vectorsIn a b n)) (vector-row t r v sr),
+        ap (map vectorRow) e ∙ sym (vector-put (i * wide32 + r, v) l) ∙ ap (λ (x : Entry). put byIds x (map vectorRow l)) (vector-row i r v sr),
       )
 
-  pub vectors-out : (t r v : ℕ) → VectorsGood a b n → m ≤ n → r < wide32 → rows c d m ≡ without byBoth ((t * wide32 + r) ∷ v ∷ []) (rows a b n)
-      → VectorsGood c d m × (vectorsIn c d m ≡ without byIds (t ∷ r ∷ v ∷ []) (vectorsIn a b n))
-  vectors-out t r v g k sr e =
-      let l = rows a b n in
-      let ga = g .first in
-      let gb = g .second in
+  pub vectors-out : (i r v : ℕ) → VectorsGood (firsts heldRoom t) (seconds heldRoom t) n → m ≤ n → r < wide32 → held heldRoom u m ≡ without byBoth ((i * wide32 + r) ∷ v ∷ []) (held heldRoom t n)
+      → VectorsGood (firsts heldRoom u) (seconds heldRoom u) m
+      × (vectorsIn (firsts heldRoom u) (seconds heldRoom u) m ≡ without byIds (i ∷ r ∷ v ∷ []) (vectorsIn (firsts heldRoom t) (seconds heldRoom t) n))
+  vectors-out i r v g h sr e =
+      let l = held heldRoom t n in
       let gw = g .within in (
         record {
-          first = lc ∙ ga;
-          second = ld ∙ gb;
+          first = firsts-length heldRoom u (whole ∙ sym same-length);
+          second = seconds-length heldRoom u (whole ∙ sym same-length);
           within = omega arith;
-          rising = rise-out byBoth ((t * wide32 + r) ∷ v ∷ []) l (rows c d m) e (g .rising);
+          rising = rise-out byBoth ((i * wide32 + r) ∷ v ∷ []) l (held heldRoom u m) e (g .rising);
         },
-        ap (map vectorRow) e ∙ sym (vector-without t r v l sr),
+        ap (map vectorRow) e ∙ sym (vector-without i r v l sr),
       )
+
+-- The parts of the working slice.
+module _ (w : List ℕ) (whole : length w ≡ workRoom) where
+  pub tables-whole : tableRoom + tableRoom ≡ length (tablesPart w)
+  tables-whole = sym (length-take-le tablesEnd w (omega arith))
+
+  pub pairs-whole : heldRoom + heldRoom ≡ length (pairsPart w)
+  pairs-whole = sym (length-take-le (pairsEnd - tablesEnd) (drop tablesEnd w) (omega (arith, length-drop tablesEnd w)))
+
+  pub vectors-whole : heldRoom + heldRoom ≡ length (vectorsPart w)
+  vectors-whole = sym (length-take-le (workRoom - pairsEnd) (drop pairsEnd w) (omega (arith, length-drop pairsEnd w)))
+
+-- A part was lent and came back changed: what the others hold is as it was.
+module _ (X : Result State) (src : List ℕ) (y : Sets) (r : Applied) where
+  as-cut : (t t' p p' v v' : List ℕ) → t ≡ t' → p ≡ p' → v ≡ v' → AppliedIs X src (listsOf t' p' v') y r → AppliedIs X src (listsOf t p v) y r
+  as-cut t t' p p' v v' et ep ev a =
+      subst⁻¹ (λ (z : List ℕ). AppliedIs X src (listsOf z p v) y r) et
+      (subst⁻¹ (λ (z : List ℕ). AppliedIs X src (listsOf t' z v) y r) ep
+      (subst⁻¹ (λ (z : List ℕ). AppliedIs X src (listsOf t' p' z) y r) ev a))
+
+module _ (w u : List ℕ) (whole : length w ≡ workRoom) (X : Result State) (src : List ℕ) (y : Sets) (r : Applied) where
+  pub cut-tables : length u ≡ tablesEnd → AppliedIs X src (listsOf u (pairsPart w) (vectorsPart w)) y r → AppliedIs X src (cut (back 0 tablesEnd w u)) y r
+  cut-tables h a =
+      let t : tablesPart (back 0 tablesEnd w u) ≡ u = back-in 0 tablesEnd w u h (omega arith) in
+      let p : pairsPart (back 0 tablesEnd w u) ≡ pairsPart w = ap (take 1712) (back-after 0 tablesEnd w u h (omega arith) tablesEnd (omega arith)) in
+      let v : vectorsPart (back 0 tablesEnd w u) ≡ vectorsPart w = ap (take 1712) (back-after 0 tablesEnd w u h (omega arith) pairsEnd (omega arith)) in
+      as-cut X src y r _ _ _ _ _ _ t p v a
+
+  pub cut-pairs : length u ≡ pairsEnd - tablesEnd → AppliedIs X src (listsOf (tablesPart w) u (vectorsPart w)) y r → AppliedIs X src (cut (back tablesEnd (pairsEnd - tablesEnd) w u)) y r
+  cut-pairs h a =
+      let t : tablesPart (back tablesEnd 1712 w u) ≡ tablesPart w = back-before tablesEnd 1712 w u h (omega arith) 0 tablesEnd (omega arith) in
+      let p : pairsPart (back tablesEnd 1712 w u) ≡ u = back-in tablesEnd 1712 w u h (omega arith) in
+      let v : vectorsPart (back tablesEnd 1712 w u) ≡ vectorsPart w = ap (take 1712) (back-after tablesEnd 1712 w u h (omega arith) pairsEnd (omega arith)) in
+      as-cut X src y r _ _ _ _ _ _ t p v a
+
+  pub cut-vectors : length u ≡ workRoom - pairsEnd → AppliedIs X src (listsOf (tablesPart w) (pairsPart w) u) y r → AppliedIs X src (cut (back pairsEnd (workRoom - pairsEnd) w u)) y r
+  cut-vectors h a =
+      let t : tablesPart (back pairsEnd 1712 w u) ≡ tablesPart w = back-before pairsEnd 1712 w u h (omega arith) 0 tablesEnd (omega arith) in
+      let p : pairsPart (back pairsEnd 1712 w u) ≡ pairsPart w = back-before pairsEnd 1712 w u h (omega arith) tablesEnd 1712 (omega arith) in
+      let v : vectorsPart (back pairsEnd 1712 w u) ≡ u = back-in pairsEnd 1712 w u h (omega arith) in
+      as-cut X src y r _ _ _ _ _ _ t p v a
 
 -- The ids of a line that is read.
 module _ (s : List ℕ) (t : ℕ) where

@@ -1,10 +1,10 @@
--- How a replay holds a state while it reads: rows in lent slices, and counts. Internal: the contract of a replay is in `Replay`. Assumes nothing.
+-- How a replay holds a state while it reads: rows in a lent slice, and counts. Internal: the contract of a replay is in `Replay`. Assumes nothing.
 use mathlib.Core.Path.{_≡_}
-use mathlib.Core.Bool.{Bool, true, false, cond, _&&_}
+use mathlib.Core.Bool.{Bool, true, false, cond}
 use mathlib.Core.List.{List, [], _∷_, _++_, map}
-use Prim.Native.Nat.{ℕ, _+_, _/_, _%_, _≤_, _<_}
+use Prim.Native.Nat.{ℕ, _+_, _-_, _*_, _/_, _%_, _≤_, _<_}
 use lib.Dec.{leb}
-use lib.ListN.{length, take}
+use lib.ListN.{length, take, drop}
 use Rattle.lists.specs.Keyed.{allOf, without, ascending}
 use Rattle.ids.specs.Ids.{largest32}
 use Rattle.ids.specs.declared.refusal.Refusal.the-variants.{TableConflict, TooManyOperations}
@@ -14,9 +14,10 @@ use Rattle.manifest.specs.Lines.{lineOf}
 use Rattle.manifest.specs.Split.{linesFrom}
 use Rattle.snapshot.specs.Entries.{Entry, addedAt, byIds}
 use Rattle.snapshot.specs.Tables.{TableEntry, created}
+use Rattle.ids.specs.Limits.{mostTables, mostHeld, longestManifest}
 use Rattle.version_state.specs.State.{State, withPairs, withVectors}
 use Rattle.operations.specs.Effect.{applied}
-use Rattle.replay_lists.specs.Rows.{rows, byBoth, byFirst}
+use Rattle.replay_lists.specs.Rows.{rows, firsts, seconds, byBoth, byFirst}
 use Rattle.replay.specs.declared.Sets.{Sets}
 use Rattle.replay.specs.declared.Applied.{Applied}
 use Rattle.replay.specs.declared.Here.{Here}
@@ -25,65 +26,47 @@ use Rattle.replay.specs.declared.Turn.{Turn}
 use Rattle.ids.specs.Limits.{mostOperations}
 use Rattle.replay.specs.Replay.{Result, refused, given, andThen, reopened, conflicts, Frame, none, opened, Carried}
 
--- the line that starts at a place
-abbrev pub firstLine : List (List ℕ) → List ℕ
-firstLine [] = []
-firstLine (l ∷ ls) = l
-
-abbrev pub lineHere : List ℕ → ℕ → Line
-lineHere src at = lineOf (firstLine (linesFrom src at))
-
--- the shape and the name of the table that a line creates
-abbrev pub shapeSaid : Line → ℕ
-shapeSaid begin = 0
-shapeSaid end = 0
-shapeSaid (operation (createTable t h n)) = h
-shapeSaid (operation (dropTable t)) = 0
-shapeSaid (operation (addRowset t r)) = 0
-shapeSaid (operation (deleteRowset t r)) = 0
-shapeSaid (operation (addVector t r v)) = 0
-shapeSaid (operation (deleteVector t r v)) = 0
-shapeSaid (operation (nextIds t r v)) = 0
-shapeSaid bad = 0
-
-abbrev pub nameSaid : Line → List ℕ
-nameSaid begin = []
-nameSaid end = []
-nameSaid (operation (createTable t h n)) = n
-nameSaid (operation (dropTable t)) = []
-nameSaid (operation (addRowset t r)) = []
-nameSaid (operation (deleteRowset t r)) = []
-nameSaid (operation (addVector t r v)) = []
-nameSaid (operation (deleteVector t r v)) = []
-nameSaid (operation (nextIds t r v)) = []
-nameSaid bad = []
-
--- a table: its id, and the place of the line that created it
-abbrev pub tableRow : List ℕ → ℕ × ℕ → TableEntry
-tableRow src p = created (p .0) (shapeSaid (lineHere src (p .1))) (nameSaid (lineHere src (p .1)))
-
--- a pair: table, rowset
-abbrev pub pairRow : ℕ × ℕ → Entry
-pairRow p = addedAt reopened (p .0 ∷ p .1 ∷ [])
-
--- a vector: table and rowset in one number, and the vector
+-- one more than a number of 32 bits, and than a name's length, may be
 abbrev pub wide32 : ℕ
 wide32 = 4294967296
+
+abbrev pub nameSpan : ℕ
+nameSpan = 33
+
+-- a note of a created table: its shape, the place where its name stands in the manifest, and the name's length
+abbrev pub noted : ℕ → ℕ → ℕ → ℕ
+noted shape from long = shape * wide32 + (from * nameSpan + long)
+
+abbrev pub shapeNoted : ℕ → ℕ
+shapeNoted k = k / wide32
+
+abbrev pub nameNoted : List ℕ → ℕ → List ℕ
+nameNoted src k = take (k % wide32 % nameSpan) (drop (k % wide32 / nameSpan) src)
+
+-- a table: its id, and its note
+abbrev pub tableRow : List ℕ → ℕ × ℕ → TableEntry
+tableRow src p = created (p .0) (shapeNoted (p .1)) (nameNoted src (p .1))
+
+-- a pair: table and rowset in one number; the second number says nothing
+abbrev pub pairRow : ℕ × ℕ → Entry
+pairRow p = addedAt reopened (p .0 / wide32 ∷ p .0 % wide32 ∷ [])
+
+-- a vector: table and rowset in one number, and the vector
 
 abbrev pub vectorRow : ℕ × ℕ → Entry
 vectorRow p = addedAt reopened (p .0 / wide32 ∷ p .0 % wide32 ∷ p .1 ∷ [])
 
--- the contents of the six slices
+-- the columns: two of tables, two of pairs, two of vectors
 pub record Slices : Type 0 where
   pub ids : List ℕ
-  pub places : List ℕ
-  pub tables : List ℕ
-  pub rowsets : List ℕ
-  pub pairs : List ℕ
+  pub notes : List ℕ
+  pub keys : List ℕ
+  pub spare : List ℕ
+  pub owners : List ℕ
   pub vectors : List ℕ
 
 abbrev pub slices : List ℕ → List ℕ → List ℕ → List ℕ → List ℕ → List ℕ → Slices
-slices a b p q v w = record { ids = a; places = b; tables = p; rowsets = q; pairs = v; vectors = w }
+slices a b p q v w = record { ids = a; notes = b; keys = p; spare = q; owners = v; vectors = w }
 
 abbrev pub tablesIn : List ℕ → List ℕ → List ℕ → ℕ → List TableEntry
 tablesIn src a b n = map (tableRow src) (rows a b n)
@@ -101,9 +84,9 @@ stateIn src l z =
       nextTable = z .next .table .0;
       nextRowset = z .next .rowset .0;
       nextVector = z .next .vector .0;
-      tables = tablesIn src (l .ids) (l .places) (z .tables);
-      pairs = pairsIn (l .tables) (l .rowsets) (z .pairs);
-      vectors = vectorsIn (l .pairs) (l .vectors) (z .vectors);
+      tables = tablesIn src (l .ids) (l .notes) (z .tables);
+      pairs = pairsIn (l .keys) (l .spare) (z .pairs);
+      vectors = vectorsIn (l .owners) (l .vectors) (z .vectors);
       manifest = 0;
     }
 
@@ -114,11 +97,33 @@ tableRoom = 616
 abbrev pub heldRoom : ℕ
 heldRoom = 856
 
+-- the working slice: the lists of tables, of pairs and of vectors, one after another
+abbrev pub tablesEnd : ℕ
+tablesEnd = 1232
+
+abbrev pub pairsEnd : ℕ
+pairsEnd = 2944
+
+abbrev pub workRoom : ℕ
+workRoom = 4656
+
+abbrev pub tablesPart : List ℕ → List ℕ
+tablesPart work = take tablesEnd work
+
+abbrev pub pairsPart : List ℕ → List ℕ
+pairsPart work = take (pairsEnd - tablesEnd) (drop tablesEnd work)
+
+abbrev pub vectorsPart : List ℕ → List ℕ
+vectorsPart work = take (workRoom - pairsEnd) (drop pairsEnd work)
+
+abbrev pub listsOf : List ℕ → List ℕ → List ℕ → Slices
+listsOf t p v = slices (firsts tableRoom t) (seconds tableRoom t) (firsts heldRoom p) (seconds heldRoom p) (firsts heldRoom v) (seconds heldRoom v)
+
+abbrev pub cut : List ℕ → Slices
+cut work = listsOf (tablesPart work) (pairsPart work) (vectorsPart work)
+
 abbrev pub narrowFirst : ℕ × ℕ → Bool
 narrowFirst p = leb (p .0) largest32
-
-abbrev pub narrow : ℕ × ℕ → Bool
-narrow p = leb (p .0) largest32 && leb (p .1) largest32
 
 pub record TablesGood (a b : List ℕ) (n : ℕ) : Type 0 where
   pub first : length a ≡ tableRoom
@@ -131,8 +136,7 @@ pub record PairsGood (a b : List ℕ) (n : ℕ) : Type 0 where
   pub first : length a ≡ heldRoom
   pub second : length b ≡ heldRoom
   pub within : n ≤ heldRoom
-  pub rising : ascending byBoth (rows a b n) ≡ true
-  pub small : allOf narrow (rows a b n) ≡ true
+  pub rising : ascending byFirst (rows a b n) ≡ true
 
 pub record VectorsGood (a b : List ℕ) (n : ℕ) : Type 0 where
   pub first : length a ≡ heldRoom
@@ -141,9 +145,9 @@ pub record VectorsGood (a b : List ℕ) (n : ℕ) : Type 0 where
   pub rising : ascending byBoth (rows a b n) ≡ true
 
 pub record Good (l : Slices) (z : Sets) : Type 0 where
-  pub tables : TablesGood (l .ids) (l .places) (z .tables)
-  pub pairs : PairsGood (l .tables) (l .rowsets) (z .pairs)
-  pub vectors : VectorsGood (l .pairs) (l .vectors) (z .vectors)
+  pub tables : TablesGood (l .ids) (l .notes) (z .tables)
+  pub pairs : PairsGood (l .keys) (l .spare) (z .pairs)
+  pub vectors : VectorsGood (l .owners) (l .vectors) (z .vectors)
 
 pub record Grown (y z : Sets) : Type 0 where
   pub tables : z .tables ≤ y .tables + 1
@@ -168,7 +172,7 @@ pub record Stands (src : List ℕ) (l : Slices) (y z : Sets) (s : State) : Type 
   pub good : Good l z
   pub grown : Grown y z
 
--- refused, or what the slices now hold is the state
+-- refused, or what the slice now holds is the state
 unfoldable pub AppliedIs : Result State → List ℕ → Slices → Sets → Applied → Type 0
 AppliedIs (refused k) src l y r = r .verdict ≡ Refused k
 AppliedIs (given s) src l y r = (r .verdict ≡ Accepted) × Stands src l y (r .sets) s
@@ -184,13 +188,20 @@ leading (end ∷ l) = []
 leading (operation o ∷ l) = o ∷ leading l
 leading (bad ∷ l) = []
 
+-- the operation o is read from a line that ends at a place
+pub record ReadTo (src : List ℕ) (e : ℕ) (o : Operation) : Type 0 where
+  pub start : ℕ
+  pub order : start ≤ e
+  pub inside : e ≤ length src
+  pub said : lineOf (take (e - start) (drop start src)) ≡ operation o
+
 -- the line at a place is an operation, or none
 pub record HereSays (src : List ℕ) (at : ℕ) (r : Here) : Type 0 where
-  pub found : r .found ≡ true → (saidFrom src at ≡ operation (operationOf (r .change)) ∷ saidFrom src (r .next)) × (at < r .next) × (r .next ≤ length src)
+  pub found : r .found ≡ true → (saidFrom src at ≡ operation (operationOf (r .change)) ∷ saidFrom src (r .next)) × (at < r .next) × (r .next ≤ length src) × ReadTo src (r .end) (operationOf (r .change))
   pub none : r .found ≡ false → leading (saidFrom src at) ≡ []
 
-pub record HereOf (l : Line) (next : ℕ) (r : Here) : Type 0 where
-  pub found : r .found ≡ true → (l ≡ operation (operationOf (r .change))) × (r .next ≡ next)
+pub record HereOf (l : Line) (e next : ℕ) (r : Here) : Type 0 where
+  pub found : r .found ≡ true → (l ≡ operation (operationOf (r .change))) × (r .end ≡ e) × (r .next ≡ next)
   pub none : r .found ≡ false → (m : List Line) → leading (l ∷ m) ≡ []
 
 -- the operations of a frame, each of which takes out at once what it deletes
@@ -208,9 +219,9 @@ FrameIs (given s) src l r = (r .verdict ≡ Accepted) × Held src l (r .sets) s
 
 -- within document 01's limits
 pub record Small (z : Sets) : Type 0 where
-  pub tables : z .tables ≤ 16
-  pub pairs : z .pairs ≤ 256
-  pub vectors : z .vectors ≤ 256
+  pub tables : z .tables ≤ mostTables
+  pub pairs : z .pairs ≤ mostHeld
+  pub vectors : z .vectors ≤ mostHeld
 
 unfoldable pub EndIs : Result State → List ℕ → Slices → Applied → Type 0
 EndIs (refused k) src l r = r .verdict ≡ Refused k
@@ -252,7 +263,7 @@ pub record OperationSays (n : ℕ) (z : Sets) (o : Begun) (r : Turn) : Type 0 wh
 
 -- what a line may be read on
 pub record Ready (src : List ℕ) (l : Slices) (z : Sets) (o : Begun) : Type 0 where
-  pub short : length src ≤ 65536
+  pub short : length src ≤ longestManifest
   pub good : Good l z
   pub small : Small z
   pub ok : BegunOk src o

@@ -1,6 +1,11 @@
-// The end of a replay: what the slices hold becomes a manager's columns, one pass each.
+// The end of a replay: what the working slice holds becomes a manager's columns, one pass each.
+use crate::HELD_ROOM;
+use crate::PAIRS_END;
 use crate::Replayed;
 use crate::Sets;
+use crate::TABLE_ROOM;
+use crate::TABLES_END;
+use crate::WORK_ROOM;
 use ids::TableNo;
 use ids::limits::MOST_HELD;
 use ids::limits::MOST_TABLES;
@@ -18,29 +23,14 @@ ghost use Prim.Native.Nat.{ℕ, _≤_, _<_, _/_, _%_};
 ghost use lib.ListN.{length};
 ghost use Rattle.lists.specs.Keyed.{keep, allOf, has, ascending};
 ghost use Rattle.ids.specs.Limits.{mostTables, mostHeld};
-ghost use Rattle.ids.specs.Ids.{largest32};
 ghost use Rattle.columns.specs.Rows.{column, marks, across, plain, rows};
 ghost use Rattle.snapshot.specs.Entries.{byIds, entries};
 ghost use Rattle.snapshot.specs.Views.{tablesOf, rowsetsOf, vectorsOf};
-ghost use Rattle.replay.specs.Replay.{finished, ReplayIs};
 ghost use Rattle.version_state.specs.Sound.{hasRowset};
-ghost use Rattle.replay.specs.Working.{slices, tablesIn, pairsIn, vectorsIn, stateIn, wide32, TablesGood, PairsGood, VectorsGood, Good, Small};
+ghost use Rattle.replay.specs.Replay.{finished, ReplayIs};
+ghost use Rattle.replay.specs.Working.{cut, workRoom, tablesIn, pairsIn, vectorsIn, stateIn, wide32, TablesGood, PairsGood, VectorsGood, Good, Small};
 
-// Internal, as is all here: numbers that fit, in a column of their own.
-fn narrowed(src: &[u64], count: usize) -> [u32; MOST_HELD]
-    requires { ⌜ (count ≤ mostHeld) × (count ≤ length (now src)) × ((i : ℕ) → i < count → column (now src) i ≤ largest32) ⌝ }
-    ensures { λ r. ⌜ ((i : ℕ) → i < count → column r i ≡ column (now (src .entry)) i) ⌝ }
-{
-    let mut out = [0u32; MOST_HELD];
-    let mut i = 0;
-    while i < count {
-        out[i] = src[i] as u32;
-        i += 1;
-    }
-    out
-}
-
-// The tables of keys.
+// Internal, as is all here: the tables of keys.
 fn highs(keys: &[u64], count: usize) -> [u32; MOST_HELD]
     requires { ⌜ (count ≤ mostHeld) × (count ≤ length (now keys)) ⌝ }
     ensures { λ r. ⌜ ((i : ℕ) → i < count → column r i ≡ column (now (keys .entry)) i / wide32) ⌝ }
@@ -88,17 +78,73 @@ fn filled(x: u32) -> [u32; MOST_HELD]
     [x; MOST_HELD]
 }
 
-fn build_rowsets(tables: &[u64], rowsets: &[u64], count: usize) -> Rowsets
-    requires { ⌜ PairsGood (now tables) (now rowsets) count × (count ≤ mostHeld) ⌝ }
-    ensures { λ r. ⌜ (r .count ≡ count) × (rowsetsOf r ≡ pairsIn (now (tables .entry)) (now (rowsets .entry)) count) ⌝ }
+fn build_tables(src: &[u8], ids: &[u64], notes: &[u64], count: usize) -> Tables
+    requires { ⌜ TablesGood (now ids) (now notes) count × (count ≤ mostTables) ⌝ }
+    ensures { λ r. ⌜ (r .count ≡ count) × (tablesOf r ≡ tablesIn (now (src .entry)) (now (ids .entry)) (now (notes .entry)) count) ⌝ }
+{
+    let mut numbers = [0u32; MOST_TABLES];
+    let mut shapes = [0u32; MOST_TABLES];
+    let mut lengths = [0u32; MOST_TABLES];
+    let mut names = [0u8; NAME_BYTES];
+    let mut locked = [false; MOST_TABLES];
+    let mut i = 0;
+    while i < count {
+        let said = crate::names::said(src, notes[i]);
+        let name = said.name;
+        snapshot::tables::push(
+            &mut numbers,
+            &mut shapes,
+            &mut lengths,
+            &mut names,
+            &mut locked,
+            i,
+            TableNo(ids[i] as u32),
+            said.shape,
+            name,
+        );
+        i += 1;
+    }
+    Tables {
+        ids: numbers,
+        shapes,
+        lengths,
+        names,
+        locked,
+        count,
+    }
+}
+
+fn build_rowsets(keys: &[u64], spare: &[u64], count: usize) -> Rowsets
+    requires { ⌜ PairsGood (now keys) (now spare) count × (count ≤ mostHeld) ⌝ }
+    ensures { λ r. ⌜ (r .count ≡ count) × (rowsetsOf r ≡ pairsIn (now (keys .entry)) (now (spare .entry)) count) ⌝ }
 {
     Rowsets {
-        tables: narrowed(tables, count),
-        rowsets: narrowed(rowsets, count),
+        tables: highs(keys, count),
+        rowsets: lows(keys, count),
         added: filled(1),
         deleted: filled(0),
         count,
     }
+}
+
+// Whether each rowset has its table.
+fn have_tables<'a>(
+    ids: &'a [u32; MOST_TABLES],
+    live: usize,
+    tables: &'a [u32; MOST_HELD],
+    count: usize,
+) -> bool
+    requires { ⌜ (live ≤ mostTables) × (count ≤ mostHeld) ⌝ }
+    ensures { λ r. ⌜ r ≡ allOf (λ x. has plain (x ∷ []) (rows (across (now (ids .entry) ∷ [])) live)) (rows (column (now (tables .entry))) count) ⌝ }
+{
+    let mut i = 0;
+    while i < count {
+        if !snapshot::tables::holds(ids, live, TableNo(tables[i])) {
+            return false;
+        }
+        i += 1;
+    }
+    true
 }
 
 // Marks the vectors whose rowset is live.
@@ -153,5 +199,47 @@ fn build_vectors<'a>(
         added,
         deleted,
         count: left,
+    }
+}
+
+pub fn finish(src: &[u8], sets: Sets, work: &[u64]) -> Replayed
+    requires { ⌜ Good (cut (now work)) sets × Small sets × (length (now work) ≡ workRoom) ⌝ }
+    ensures { λ r. ⌜ ReplayIs (finished (stateIn (now (src .entry)) (cut (now (work .entry))) sets)) r ⌝ }
+{
+    let tables = &work[0..TABLES_END];
+    let ids = &tables[0..TABLE_ROOM];
+    let notes = &tables[TABLE_ROOM..TABLES_END];
+    let live = build_tables(src, ids, notes, sets.tables);
+    let rowsets = &work[TABLES_END..PAIRS_END];
+    let half = HELD_ROOM + HELD_ROOM;
+    let keys = &rowsets[0..HELD_ROOM];
+    let spare = &rowsets[HELD_ROOM..half];
+    let held = build_rowsets(keys, spare, sets.pairs);
+    if !have_tables(&live.ids, sets.tables, &held.tables, sets.pairs) {
+        return crate::no(Refusal::RowsetWithoutTable);
+    }
+    let all = &work[PAIRS_END..WORK_ROOM];
+    let pairs = &all[0..HELD_ROOM];
+    let vectors = &all[HELD_ROOM..half];
+    let shown = build_vectors(
+        pairs,
+        vectors,
+        sets.vectors,
+        &held.tables,
+        &held.rowsets,
+        sets.pairs,
+    );
+    let next = sets.next;
+    let inner = VersionManagerInner {
+        epoch: 1,
+        next,
+        tables: live,
+        rowsets: held,
+        vectors: shown,
+        manifest: 0,
+    };
+    Replayed {
+        verdict: Verdict::Accepted,
+        inner,
     }
 }

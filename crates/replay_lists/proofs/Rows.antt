@@ -6,10 +6,10 @@ use Prim.Native.Nat.{ℕ, zero, suc, _+_, _-_, _≤_, _<_}
 use native.Mathlib.Omega.{arith}
 use native.Mathlib.Nat.{not-suc-le-zero, le-of-suc-le-suc}
 use native.Mathlib.Numerals.{add-one}
-use borrow.Author.Tests.{ltb-true, ltb-false, le-ltb, lt-ltb}
+use borrow.Author.Tests.{ltb-true, ltb-false, le-ltb, lt-ltb, eqb-true}
 use lib.Dec.{ltb, eqb}
-use lib.ListN.{length, getD, take, drop, set}
-use lib.Seq.{getD-take, length-take-le}
+use lib.ListN.{length, getD, take, drop, set, length-drop}
+use lib.Seq.{getD-take, length-take-le, take-set-le, take-set-lt, drop-set-add}
 use Rattle.lists.specs.Order.{less, same, lex}
 use Rattle.lists.specs.Keyed.{isAt, has, put, without, ascending, rank}
 use Rattle.lists.specs.Places.{insertAt, removeAt}
@@ -18,7 +18,8 @@ use Rattle.lists.proofs.Order.{same-true, same-eq}
 use Rattle.lists.proofs.Keyed.{Ascending, ascend-to, without-absent}
 use Rattle.lists.proofs.Places.{rank-le, has-here, has-end, without-at, drop-view, drop-end}
 use Rattle.lists.proofs.Views.{put-here, put-other}
-use Rattle.replay_lists.specs.Rows.{beside, rows, byBoth, byFirst}
+use Rattle.replay_lists.specs.Rows.{beside, rows, firsts, seconds, held, byBoth, byFirst}
+use Rattle.replay_lists.proofs.Parts.{back, back-in, back-before, back-after, back-length}
 
 pub beside-within : (a b : List ℕ) (n : ℕ) → n ≤ length a → n ≤ length b → n ≤ length (beside a b)
 beside-within a b zero p q = omega arith
@@ -158,25 +159,23 @@ module _ (a b : List ℕ) (n at x y : ℕ) (p : n ≤ length a) (q : n ≤ lengt
         sym (h ∙ rw (← r) (rw (← e) (set-same l at (0, 0))))
 
     -- it is not there, and is inserted
-    pub put-in : (c d : List ℕ) → ltb at n && (eqb (getD a at 0) x && eqb (getD b at 0) y) ≡ false → take (n + 1) c ≡ insertAt at x (take n a) → take (n + 1) d ≡ insertAt at y (take n b)
-        → at ≤ n → rows c d (n + 1) ≡ put byBoth (x, y) (rows a b n)
-    put-in c d h e f w =
+    pub put-in : (m : List (ℕ × ℕ)) → ltb at n && (eqb (getD a at 0) x && eqb (getD b at 0) y) ≡ false → m ≡ insertAt at (x, y) (rows a b n) → m ≡ put byBoth (x, y) (rows a b n)
+    put-in m h e =
         let l = rows a b n in
         let z = rows-length a b n p q in
         let o = put-other byBoth (x, y) l (0, 0) (λ v. rw (← r) (both-not a b n p q at x y h (omega arith))) in
-        rows-insert a b c d n at x y w p q e f ∙ sym (o ∙ rw (← r) refl)
+        e ∙ sym (o ∙ rw (← r) refl)
 
     module _ (up : ascending byBoth (rows a b n) ≡ true) where
-      pub without-there : (c d : List ℕ) → ltb at n && (eqb (getD a at 0) x && eqb (getD b at 0) y) ≡ true → take (n - 1) c ≡ removeAt at (take n a) → take (n - 1) d ≡ removeAt at (take n b)
-          → rows c d (n - 1) ≡ without byBoth (x ∷ y ∷ []) (rows a b n)
-      without-there c d s e f =
+      pub without-there : (m : List (ℕ × ℕ)) → ltb at n && (eqb (getD a at 0) x && eqb (getD b at 0) y) ≡ true → m ≡ removeAt at (rows a b n) → m ≡ without byBoth (x ∷ y ∷ []) (rows a b n)
+      without-there m s e =
           let l = rows a b n in
           let z = rows-length a b n p q in
           let k = both-stand a b n p q at x y s in
           let u = ascend-to byBoth l up in
           let g : rank byBoth (x ∷ y ∷ []) l < length l = omega (arith, k .0) in
           let h : has byBoth (x ∷ y ∷ []) l ≡ true = has-here byBoth (x ∷ y ∷ []) l (0, 0) u g ∙ rw (← r) (k .1) in
-          rows-remove a b c d n at e f ∙ sym (without-at byBoth (x ∷ y ∷ []) l u h ∙ rw (← r) refl)
+          e ∙ sym (without-at byBoth (x ∷ y ∷ []) l u h ∙ rw (← r) refl)
 
       pub without-none : ltb at n && (eqb (getD a at 0) x && eqb (getD b at 0) y) ≡ false → rows a b n ≡ without byBoth (x ∷ y ∷ []) (rows a b n)
       without-none h =
@@ -189,16 +188,35 @@ module _ (a b : List ℕ) (n at x y : ℕ) (p : n ≤ length a) (q : n ≤ lengt
           (λ t. has-end byBoth (x ∷ y ∷ []) l u (omega (arith, ltb-false at n t)))))
 
   -- by the first number alone
-  module _ (r : at ≡ rank byBoth (x ∷ 0 ∷ []) (rows a b n)) (up : ascending byFirst (rows a b n) ≡ true) where
+  module _ (r : at ≡ rank byBoth (x ∷ 0 ∷ []) (rows a b n)) where
     at-first : at ≡ rank byFirst (x ∷ []) (rows a b n)
     at-first = r ∙ rank-first x (rows a b n)
 
+    pub first-replaced : (m : List (ℕ × ℕ)) → ltb at n && eqb (getD a at 0) x ≡ true → m ≡ set (rows a b n) at (getD a at 0, y) → m ≡ put byFirst (x, y) (rows a b n)
+    first-replaced m s e =
+        let l = rows a b n in
+        let z = rows-length a b n p q in
+        let k = first-stands a b n p q at x y s in
+        let f = at-first in
+        let v : getD a at 0 ≡ x = eqb-true _ _ (both (ltb at n) (eqb (getD a at 0) x) s .1) in
+        let h = put-here byFirst (x, y) l (0, 0) (omega (arith, k .0)) (rw (← f) (k .1)) in
+        e ∙ ap (λ (w : ℕ). set l at (w, y)) v ∙ sym (h ∙ rw (← f) refl)
+
+    pub first-put : (m : List (ℕ × ℕ)) → ltb at n && eqb (getD a at 0) x ≡ false → m ≡ insertAt at (x, y) (rows a b n) → m ≡ put byFirst (x, y) (rows a b n)
+    first-put m s e =
+        let l = rows a b n in
+        let z = rows-length a b n p q in
+        let f = at-first in
+        let o = put-other byFirst (x, y) l (0, 0) (λ v. rw (← f) (first-not a b n p q at x y s (omega arith))) in
+        e ∙ sym (o ∙ rw (← f) refl)
+
+  module _ (r : at ≡ rank byBoth (x ∷ 0 ∷ []) (rows a b n)) (up : ascending byFirst (rows a b n) ≡ true) where
     pub first-there : ltb at n && eqb (getD a at 0) x ≡ true → has byFirst (x ∷ []) (rows a b n) ≡ true
     first-there s =
         let l = rows a b n in
         let z = rows-length a b n p q in
         let k = first-stands a b n p q at x y s in
-        let f = at-first in
+        let f = at-first r in
         has-here byFirst (x ∷ []) l (0, 0) (ascend-to byFirst l up) (omega (arith, k .0)) ∙ rw (← f) (k .1)
 
     pub first-none : ltb at n && eqb (getD a at 0) x ≡ false → has byFirst (x ∷ []) (rows a b n) ≡ false
@@ -206,17 +224,94 @@ module _ (a b : List ℕ) (n at x y : ℕ) (p : n ≤ length a) (q : n ≤ lengt
         let l = rows a b n in
         let z = rows-length a b n p q in
         let u = ascend-to byFirst l up in
-        let f = at-first in
+        let f = at-first r in
         by-cases (ltb at n)
         (λ t. let v = ltb-true at n t in has-here byFirst (x ∷ []) l (0, 0) u (omega arith) ∙ rw (← f) (first-not a b n p q at x y s v))
         (λ t. has-end byFirst (x ∷ []) l u (omega (arith, ltb-false at n t)))
 
-    pub first-out : (c d : List ℕ) → ltb at n && eqb (getD a at 0) x ≡ true → take (n - 1) c ≡ removeAt at (take n a) → take (n - 1) d ≡ removeAt at (take n b)
-        → rows c d (n - 1) ≡ without byFirst (x ∷ []) (rows a b n)
-    first-out c d s e f =
+    pub first-out : (m : List (ℕ × ℕ)) → ltb at n && eqb (getD a at 0) x ≡ true → m ≡ removeAt at (rows a b n) → m ≡ without byFirst (x ∷ []) (rows a b n)
+    first-out m s e =
         let l = rows a b n in
-        let g = at-first in
-        rows-remove a b c d n at e f ∙ sym (without-at byFirst (x ∷ []) l (ascend-to byFirst l up) (first-there s) ∙ rw (← g) refl)
+        let g = at-first r in
+        e ∙ sym (without-at byFirst (x ∷ []) l (ascend-to byFirst l up) (first-there s) ∙ rw (← g) refl)
 
     pub first-stays : ltb at n && eqb (getD a at 0) x ≡ false → rows a b n ≡ without byFirst (x ∷ []) (rows a b n)
     first-stays s = sym (without-absent byFirst (x ∷ []) (rows a b n) (first-none s))
+
+-- one number of a row is set
+beside-set : (a b : List ℕ) (i y : ℕ) → i < length a → beside a (set b i y) ≡ set (beside a b) i (getD a i 0, y)
+beside-set [] b i y h = absurd (not-suc-le-zero h)
+beside-set (u ∷ a) [] zero y h = refl
+beside-set (u ∷ a) [] (suc i) y h = refl
+beside-set (u ∷ a) (v ∷ b) zero y h = refl
+beside-set (u ∷ a) (v ∷ b) (suc i) y h = ap (λ (t : List (ℕ × ℕ)). (u, v) ∷ t) (beside-set a b i y (le-of-suc-le-suc h))
+
+-- what stands at a place stands before the count
+pub there-below : (t b : Bool) (at n : ℕ) → t ≡ ltb at n && b → t ≡ true → at < n
+there-below t b at n e h = ltb-true at n (both (ltb at n) b (sym e ∙ h) .0)
+
+-- A list in one slice.
+module _ (room : ℕ) (l : List ℕ) (whole : room + room ≡ length l) where
+  pub firsts-length : length (firsts room l) ≡ room
+  firsts-length = length-take-le room l (omega arith)
+
+  pub seconds-length : length (seconds room l) ≡ room
+  seconds-length = length-take-le room (drop room l) (omega (arith, length-drop room l))
+
+  -- both halves came back changed
+  module _ (j k : ℕ) (ej : j ≡ room) (ek : k ≡ room) (t : List ℕ) (lt : length t ≡ room) where
+    once : back 0 j l t ≡ back 0 room l t
+    once = ap (λ (i : ℕ). back 0 i l t) ej
+
+    once-length : length (back 0 j l t) ≡ length l
+    once-length = ap length once ∙ back-length 0 room l t lt (omega arith)
+
+    other : take k (drop room (back 0 j l t)) ≡ seconds room l
+    other =
+        ap (λ (i : ℕ). take i (drop room (back 0 j l t))) ek
+        ∙ ap (λ (z : List ℕ). take room (drop room z)) once
+        ∙ ap (take room) (back-after 0 room l t lt (omega arith) room (omega arith))
+
+    pub other-length : length (take k (drop room (back 0 j l t))) ≡ room
+    other-length = ap length other ∙ seconds-length
+
+    module _ (u : List ℕ) (lu : length u ≡ room) where
+      halved : firsts room (back room k (back 0 j l t) u) ≡ t
+      halved =
+          let m = once-length in
+          back-before room k (back 0 j l t) u (lu ∙ sym ek) (omega arith) 0 room (omega arith)
+          ∙ ap (take room) once
+          ∙ back-in 0 room l t lt (omega arith)
+
+      second : seconds room (back room k (back 0 j l t) u) ≡ u
+      second =
+          let m = once-length in
+          ap (λ (i : ℕ). take i (drop room (back room k (back 0 j l t) u))) (sym ek)
+          ∙ back-in room k (back 0 j l t) u (lu ∙ sym ek) (omega arith)
+
+      module _ (n at : ℕ) where
+        pub held-insert : (x y : ℕ) → at ≤ n → n ≤ room → take (n + 1) t ≡ insertAt at x (take n (take j l)) → take (n + 1) u ≡ insertAt at y (take n (take k (drop room (back 0 j l t))))
+            → held room (back room k (back 0 j l t) u) (n + 1) ≡ insertAt at (x, y) (held room l n)
+        held-insert x y h w e f =
+            let la = firsts-length in
+            let lb = seconds-length in
+            rows-insert (firsts room l) (seconds room l) (firsts room (back room k (back 0 j l t) u)) (seconds room (back room k (back 0 j l t) u)) n at x y h (omega arith) (omega arith)
+            (ap (take (n + 1)) halved ∙ e ∙ ap (λ (i : ℕ). insertAt at x (take n (take i l))) ej)
+            (ap (take (n + 1)) second ∙ f ∙ ap (λ (z : List ℕ). insertAt at y (take n z)) other)
+
+        pub held-remove : take (n - 1) t ≡ removeAt at (take n (take j l)) → take (n - 1) u ≡ removeAt at (take n (take k (drop room (back 0 j l t))))
+            → held room (back room k (back 0 j l t) u) (n - 1) ≡ removeAt at (held room l n)
+        held-remove e f =
+            rows-remove (firsts room l) (seconds room l) (firsts room (back room k (back 0 j l t) u)) (seconds room (back room k (back 0 j l t) u)) n at
+            (ap (take (n - 1)) halved ∙ e ∙ ap (λ (i : ℕ). removeAt at (take n (take i l))) ej)
+            (ap (take (n - 1)) second ∙ f ∙ ap (λ (z : List ℕ). removeAt at (take n z)) other)
+
+  -- a second number is stored
+  pub held-set : (n at y : ℕ) → at < n → n ≤ room → held room (set l (room + at) y) n ≡ set (held room l n) at (getD (firsts room l) at 0, y)
+  held-set n at y h w =
+      let la = firsts-length in
+      let a : firsts room (set l (room + at) y) ≡ firsts room l = take-set-le room l (room + at) y (omega arith) in
+      let b : seconds room (set l (room + at) y) ≡ set (seconds room l) at y = ap (take room) (drop-set-add room l at y) ∙ take-set-lt room (drop room l) at y (omega arith) in
+      let e : beside (firsts room (set l (room + at) y)) (seconds room (set l (room + at) y)) ≡ beside (firsts room l) (set (seconds room l) at y) = rw (a, b) in
+      ap (take n) (e ∙ beside-set (firsts room l) (seconds room l) at y (omega arith))
+      ∙ take-set-lt n (beside (firsts room l) (seconds room l)) at (getD (firsts room l) at 0, y) h

@@ -1,9 +1,9 @@
 -- `replay::replay` meets its contract. Assumes nothing.
 use mathlib.Core.Path.{refl, sym, _∙_}
 use borrow.Author.Tests.{lt-ltb, le-ltb, not-true, not-false}
-use Rattle.lists.proofs.Places.{known}
 use Rattle.replay.specs.Replay.{ReplayIs}
 use Rattle.replay.proofs.Frames.{run-stop, ran}
+use Rattle.lists.proofs.Places.{known}
 use Rattle.replay.proofs.replay.Statement.{statement}
 use Rattle.replay.proofs.replay.Tie as tie
 
@@ -20,21 +20,6 @@ classes-requires c κs = search known
 slice-aggregate-run : tie.Need-slice-aggregate-run
 slice-aggregate-run c = search known
 
-slice-aggregate-run-2 : tie.Need-slice-aggregate-run-2
-slice-aggregate-run-2 c = search known
-
-slice-aggregate-run-3 : tie.Need-slice-aggregate-run-3
-slice-aggregate-run-3 c = search known
-
-slice-aggregate-run-4 : tie.Need-slice-aggregate-run-4
-slice-aggregate-run-4 c = search known
-
-slice-aggregate-run-5 : tie.Need-slice-aggregate-run-5
-slice-aggregate-run-5 c = search known
-
-slice-aggregate-run-6 : tie.Need-slice-aggregate-run-6
-slice-aggregate-run-6 c = search known
-
 run-requires : tie.Need-run-requires
 run-requires c κs = search known
 
@@ -45,31 +30,18 @@ fresh-requires : tie.Need-fresh-requires
 fresh-requires c κs = search known
 
 returns-2 : tie.Need-returns-2
-returns-2 c = rw (le-ltb _ _ (c .before .before .before .before .before .before .before .before .before .before .before .before .before .before .before .before .before .before .if1 .left)) (run-stop _ _ _ _ _ (c .before .before .before .before .before .before .before .before .before .run .ensures) (sym (c .before .before .accepted .ensures) ∙ not-true _ (c .before .if2 .taken)) refl)
+returns-2 c = rw (le-ltb _ _ (c .before .before .before .before .before .before .before .before .if1 .left)) (run-stop _ _ _ _ _ (c .before .before .before .before .run .ensures) (sym (c .before .before .accepted .ensures) ∙ not-true _ (c .before .if2 .taken)) refl)
 
 slice-aggregate-finish : tie.Need-slice-aggregate-finish
 slice-aggregate-finish c = search known
 
-slice-aggregate-finish-2 : tie.Need-slice-aggregate-finish-2
-slice-aggregate-finish-2 c = search known
-
-slice-aggregate-finish-3 : tie.Need-slice-aggregate-finish-3
-slice-aggregate-finish-3 c = search known
-
-slice-aggregate-finish-4 : tie.Need-slice-aggregate-finish-4
-slice-aggregate-finish-4 c = search known
-
-slice-aggregate-finish-5 : tie.Need-slice-aggregate-finish-5
-slice-aggregate-finish-5 c = search known
-
-slice-aggregate-finish-6 : tie.Need-slice-aggregate-finish-6
-slice-aggregate-finish-6 c = search known
-
 finish-requires : tie.Need-finish-requires
-finish-requires c κs = let r = ran _ _ _ _ (c .before .before .before .before .before .before .before .before .before .before .before .before .before .before .before .run .ensures) (sym (c .before .before .before .before .before .before .before .before .accepted .ensures) ∙ not-false _ (c .before .before .before .before .before .before .before .if2 .left)) in (r .good, r .small)
+finish-requires c κs =
+    let r = ran _ _ _ _ (c .before .before .before .before .run .ensures) (sym (c .before .before .accepted .ensures) ∙ not-false _ (c .before .if2 .left)) in
+    (r .good, r .small, search known)
 
 returns-3 : tie.Need-returns-3
-returns-3 c = rw (le-ltb _ _ (c .before .before .before .before .before .before .before .before .before .before .before .before .before .before .before .before .before .before .before .before .before .before .before .before .before .if1 .left)) (ran _ _ _ _ (c .before .before .before .before .before .before .before .before .before .before .before .before .before .before .before .before .run .ensures) (sym (c .before .before .before .before .before .before .before .before .before .accepted .ensures) ∙ not-false _ (c .before .before .before .before .before .before .before .before .if2 .left)) .on _ (c .finish .ensures))
+returns-3 c = rw (le-ltb _ _ (c .before .before .before .before .before .before .before .before .before .if1 .left)) (ran _ _ _ _ (c .before .before .before .before .before .run .ensures) (sym (c .before .before .before .accepted .ensures) ∙ not-false _ (c .before .before .if2 .left)) .on _ (c .finish .ensures))
 
 pub replay-spec : {M : Type 1} → statement M
 replay-spec =
@@ -79,20 +51,10 @@ replay-spec =
     returns
     classes-requires
     slice-aggregate-run
-    slice-aggregate-run-2
-    slice-aggregate-run-3
-    slice-aggregate-run-4
-    slice-aggregate-run-5
-    slice-aggregate-run-6
     run-requires
     accepted-requires
     fresh-requires
     returns-2
     slice-aggregate-finish
-    slice-aggregate-finish-2
-    slice-aggregate-finish-3
-    slice-aggregate-finish-4
-    slice-aggregate-finish-5
-    slice-aggregate-finish-6
     finish-requires
     returns-3)

@@ -1,23 +1,34 @@
 -- `replay_lists::holds` meets its contract. Assumes nothing.
-use mathlib.Core.Path.{sym, _∙_}
+use mathlib.Core.Path.{_≡_, refl, sym, ap, _∙_}
+use Prim.Native.Nat.{_≤_, _<_}
+use native.Mathlib.Omega.{arith}
+use lib.ListN.{length}
+use Rattle.replay_lists.specs.Rows.{firsts, seconds}
+use Rattle.replay_lists.proofs.Rows.{firsts-length, seconds-length, first-there, first-none}
 use Rattle.lists.proofs.Tests.{by-cases}
-use Rattle.lists.proofs.Places.{known}
-use Rattle.replay_lists.proofs.Rows.{first-there, first-none}
 use borrow.Author.Needs.{needs}
 use Rattle.replay_lists.proofs.holds.Statement.{statement}
 use Rattle.replay_lists.proofs.holds.Tie as tie
 
-place-requires : tie.Need-place-requires
-place-requires c κs = search known
-
-stands-requires : tie.Need-stands-requires
-stands-requires c κs = search known
+find-first-requires : tie.Need-find-first-requires
+find-first-requires c κs = search needs
 
 returns : tie.Need-returns
 returns c =
-    by-cases (c .stands .result)
-    (λ t. t ∙ sym (first-there (c .before .before .before .before .args .a .now) (c .before .before .before .before .args .b .now) (c .before .before .before .before .args .count) (c .before .place .result) (c .before .before .before .before .args .x) 0 (c .before .before .before .before .pre .0) (c .before .before .before .before .pre .1) (c .before .place .ensures .0) (c .before .before .before .before .pre .2) (sym (c .stands .ensures) ∙ t)))
-    (λ t. t ∙ sym (first-none (c .before .before .before .before .args .a .now) (c .before .before .before .before .args .b .now) (c .before .before .before .before .args .count) (c .before .place .result) (c .before .before .before .before .args .x) 0 (c .before .before .before .before .pre .0) (c .before .before .before .before .pre .1) (c .before .place .ensures .0) (c .before .before .before .before .pre .2) (sym (c .stands .ensures) ∙ t)))
+    let s = c .before .before in
+    let l = s .args .list .now in
+    let r = s .args .room in
+    let n = s .args .count in
+    let w = s .pre .1 in
+    let fd = c .find-first .ensures in
+    let at = c .find-first .result .at in
+    let la = firsts-length r l (s .pre .0) in
+    let lb = seconds-length r l (s .pre .0) in
+    let p : n ≤ length (firsts r l) = omega arith in
+    let q : n ≤ length (seconds r l) = omega arith in
+    by-cases (c .find-first .result .there)
+    (λ t. t ∙ sym (first-there (firsts r l) (seconds r l) n at (s .args .x) 0 p q (fd .place) (s .pre .2) (sym (fd .there) ∙ t)))
+    (λ t. t ∙ sym (first-none (firsts r l) (seconds r l) n at (s .args .x) 0 p q (fd .place) (s .pre .2) (sym (fd .there) ∙ t)))
 
 pub holds-spec : {M : Type 1} → statement M
-holds-spec = tie.close (tie.spec place-requires stands-requires returns)
+holds-spec = tie.close (tie.spec find-first-requires returns)

@@ -1,62 +1,71 @@
 -- `replay_lists::without_first` meets its contract. Assumes nothing.
-use mathlib.Core.Path.{refl, sym, _∙_}
-use Prim.Native.Nat.{_<_}
+use mathlib.Core.Path.{_≡_, refl, sym, ap, _∙_}
+use Prim.Native.Nat.{_≤_, _<_}
 use native.Mathlib.Omega.{arith}
-use borrow.Author.Tests.{ltb-true}
-use Rattle.lists.proofs.Tests.{both}
-use Rattle.lists.proofs.Places.{known}
-use Rattle.replay_lists.proofs.Rows.{first-out, first-stays}
+use lib.ListN.{length}
+use Rattle.replay_lists.specs.Rows.{firsts, seconds}
+use Rattle.replay_lists.proofs.Rows.{firsts-length, seconds-length, first-out, first-stays, there-below}
 use borrow.Author.Needs.{needs}
 use Rattle.replay_lists.proofs.without_first.Statement.{statement}
 use Rattle.replay_lists.proofs.without_first.Tie as tie
 
-place-requires : tie.Need-place-requires
-place-requires c κs = search known
+find-first-requires : tie.Need-find-first-requires
+find-first-requires c κs = search needs
 
-stands-requires : tie.Need-stands-requires
-stands-requires c κs = search known
-
-remove-requires : tie.Need-remove-requires
-remove-requires c κs = let st : c .before .before .before .before .place .result < c .before .before .before .before .before .before .before .before .before .args .count = ltb-true _ _ (both _ _ (sym (c .before .before .stands .ensures) ∙ c .before .if1 .taken) .0) in (st, c .before .before .before .before .before .before .before .before .before .pre .0)
-
-remove-requires-2 : tie.Need-remove-requires-2
-remove-requires-2 c κs = let st : c .before .before .before .before .before .before .before .before .place .result < c .before .before .before .before .before .before .before .before .before .before .before .before .before .args .count = ltb-true _ _ (both _ _ (sym (c .before .before .before .before .before .before .stands .ensures) ∙ c .before .before .before .before .before .if1 .taken) .0) in (st, c .before .before .before .before .before .before .before .before .before .before .before .before .before .pre .1)
+remove-row-requires : tie.Need-remove-row-requires
+remove-row-requires c κs =
+    let s = c .before .before .before .before .before in
+    let b = there-below _ _ _ _ (c .before .before .find-first .ensures .there) (c .before .if1 .taken) in
+    (s .pre .0, b, s .pre .1)
 
 sub-result : tie.Need-sub-result
-sub-result c = let st : c .before .before .before .before .before .before .before .before .before .before .before .place .result < c .before .before .before .before .before .before .before .before .before .before .before .before .before .before .before .before .args .count = ltb-true _ _ (both _ _ (sym (c .before .before .before .before .before .before .before .before .before .stands .ensures) ∙ c .before .before .before .before .before .before .before .before .if1 .taken) .0) in omega arith
+sub-result c =
+    let b : c .before .before .before .before .before .find-first .result .at < c .before .before .before .before .before .before .before .before .args .count = there-below _ _ _ _ (c .before .before .before .before .before .find-first .ensures .there) (c .before .before .before .before .if1 .taken) in omega arith
 
 same-length : tie.Need-same-length
-same-length c = search known
-
-same-length-2 : tie.Need-same-length-2
-same-length-2 c = search known
+same-length c = search needs
 
 returns : tie.Need-returns
 returns c =
-    (first-out (c .before .before .before .before .before .before .before .before .before .before .before .before .before .before .before .before .args .a .now) (c .before .before .before .before .before .before .before .before .before .before .before .before .before .before .before .before .args .b .now) (c .before .before .before .before .before .before .before .before .before .before .before .before .before .before .before .before .args .count) (c .before .before .before .before .before .before .before .before .before .before .before .place .result) (c .before .before .before .before .before .before .before .before .before .before .before .before .before .before .before .before .args .x) 0 (c .before .before .before .before .before .before .before .before .before .before .before .before .before .before .before .before .pre .0) (c .before .before .before .before .before .before .before .before .before .before .before .before .before .before .before .before .pre .1) (c .before .before .before .before .before .before .before .before .before .before .before .place .ensures .0) (c .before .before .before .before .before .before .before .before .before .before .before .before .before .before .before .before .pre .2) _ _ (sym (c .before .before .before .before .before .before .before .before .before .stands .ensures) ∙ c .before .before .before .before .before .before .before .before .if1 .taken) (c .before .before .before .before .before .before .remove .ensures .0) (c .before .before .remove2 .ensures .0), omega arith, c .before .before .before .before .before .before .remove .ensures .1, c .before .before .remove2 .ensures .1)
+    let s = c .before .before .before .before .before .before .before .before in
+    let l = s .args .list .now in
+    let r = s .args .room in
+    let n = s .args .count in
+    let w = s .pre .1 in
+    let fd = c .before .before .before .before .before .find-first .ensures in
+    let at = c .before .before .before .before .before .find-first .result .at in
+    let la = firsts-length r l (s .pre .0) in
+    let lb = seconds-length r l (s .pre .0) in
+    let p : n ≤ length (firsts r l) = omega arith in
+    let q : n ≤ length (seconds r l) = omega arith in
+    (first-out (firsts r l) (seconds r l) n at (s .args .x) 0 p q (fd .place) (s .pre .2) _ (sym (fd .there) ∙ c .before .before .before .before .if1 .taken) (c .before .before .remove-row .ensures), omega arith)
 
-same-length-3 : tie.Need-same-length-3
-same-length-3 c = search known
-
-same-length-4 : tie.Need-same-length-4
-same-length-4 c = search known
+same-length-2 : tie.Need-same-length-2
+same-length-2 c = search needs
 
 returns-2 : tie.Need-returns-2
 returns-2 c =
-    (first-stays (c .before .before .before .before .before .before .before .before .args .a .now) (c .before .before .before .before .before .before .before .before .args .b .now) (c .before .before .before .before .before .before .before .before .args .count) (c .before .before .before .place .result) (c .before .before .before .before .before .before .before .before .args .x) 0 (c .before .before .before .before .before .before .before .before .pre .0) (c .before .before .before .before .before .before .before .before .pre .1) (c .before .before .before .place .ensures .0) (c .before .before .before .before .before .before .before .before .pre .2) (sym (c .before .stands .ensures) ∙ c .if1 .left), omega arith, refl, refl)
+    let s = c .before .before .before .before in
+    let l = s .args .list .now in
+    let r = s .args .room in
+    let n = s .args .count in
+    let w = s .pre .1 in
+    let fd = c .before .find-first .ensures in
+    let at = c .before .find-first .result .at in
+    let la = firsts-length r l (s .pre .0) in
+    let lb = seconds-length r l (s .pre .0) in
+    let p : n ≤ length (firsts r l) = omega arith in
+    let q : n ≤ length (seconds r l) = omega arith in
+    (first-stays (firsts r l) (seconds r l) n at (s .args .x) 0 p q (fd .place) (s .pre .2) (sym (fd .there) ∙ c .if1 .left), omega arith)
 
 pub without-first-spec : {M : Type 1} → statement M
 without-first-spec =
     tie.close
     (tie.spec
-    place-requires
-    stands-requires
-    remove-requires
-    remove-requires-2
+    find-first-requires
+    remove-row-requires
     sub-result
     same-length
-    same-length-2
     returns
-    same-length-3
-    same-length-4
+    same-length-2
     returns-2)
