@@ -1,3 +1,4 @@
 pub mod Stepwise
 pub mod Sounds
 pub mod Older
+pub mod Calls
