@@ -43,58 +43,58 @@ columnsOf m =
     (m .rowsets .tables) (m .rowsets .rowsets) (m .rowsets .added) (m .rowsets .deleted)
     (m .vectors .tables) (m .vectors .rowsets) (m .vectors .vectors) (m .vectors .added) (m .vectors .deleted)
 
--- A commit by m under way at epoch e: before the operations at i, which are `rest`, the columns c hold what is left.
-pub record Going (m : VersionManagerInner) (e : ℕ) (os : List Operation) (i : ℕ) (rest : List Operation) (h : Held) (c : Columns) : Type 0 where
+-- Operations under way from the state s at epoch e: before those from i on, which are `rest`, the columns c hold what is left.
+pub record Going (s : State) (e : ℕ) (os : List Operation) (i : ℕ) (rest : List Operation) (h : Held) (c : Columns) : Type 0 where
   pub ready : Ready h c
-  pub same : stepsOf 0 e os (stateOf m) ≡ stepsOf i e rest (stateIn h c)
+  pub same : stepsOf 0 e os s ≡ stepsOf i e rest (stateIn h c)
 
-module _ (m : VersionManagerInner) (e : ℕ) (os : List Operation) where
-  pub go-start : badInner m ≡ false → Whole (m .tables .ids) (m .tables .shapes) (m .tables .lengths) (m .tables .names) (m .tables .locked)
-      → Sized (m .rowsets .tables ∷ m .rowsets .rowsets ∷ m .rowsets .added ∷ m .rowsets .deleted ∷ m .vectors .tables ∷ m .vectors .rowsets ∷ m .vectors .vectors ∷ m .vectors .added ∷ m .vectors .deleted ∷ [])
-      → Going m e os 0 os (heldOf m) (columnsOf m)
-  go-start b w z =
-      let s = sound-of m b in
-      record {
-        ready =
-            record {
-              whole = w;
-              sized = z;
-              fewTables = s .fits .tables;
-              fewRowsets = s .fits .rowsets;
-              fewVectors = s .fits .vectors;
-              tables = s .ordered .tables;
-              pairs = s .ordered .pairs;
-              vectors = s .ordered .vectors;
-              below = s .below;
-            };
-        same = refl;
-      }
+pub go-start : (m : VersionManagerInner) (e : ℕ) (os : List Operation) → badInner m ≡ false → Whole (m .tables .ids) (m .tables .shapes) (m .tables .lengths) (m .tables .names) (m .tables .locked)
+    → Sized (m .rowsets .tables ∷ m .rowsets .rowsets ∷ m .rowsets .added ∷ m .rowsets .deleted ∷ m .vectors .tables ∷ m .vectors .rowsets ∷ m .vectors .vectors ∷ m .vectors .added ∷ m .vectors .deleted ∷ [])
+    → Going (stateOf m) e os 0 os (heldOf m) (columnsOf m)
+go-start m e os b w z =
+    let s = sound-of m b in
+    record {
+      ready =
+          record {
+            whole = w;
+            sized = z;
+            fewTables = s .fits .tables;
+            fewRowsets = s .fits .rowsets;
+            fewVectors = s .fits .vectors;
+            tables = s .ordered .tables;
+            pairs = s .ordered .pairs;
+            vectors = s .ordered .vectors;
+            below = s .below;
+          };
+      same = refl;
+    }
 
-  module _ (i : ℕ) (o : Operation) (rest : List Operation) (h : Held) (c : Columns) (r : Stepped) (d : Columns) (g : Going m e os i (o ∷ rest) h c) (t : StepIs (stepOf i e o (stateIn h c)) r d) where
-    pub go-on : isAccepted (r .verdict) ≡ true → Going m e os (i + 1) rest (r .held) d
+pub go-manifest : (m : VersionManagerInner) (e : ℕ) (os : List Operation) (h : Held) (c : Columns) → badInner m ≡ false → stepsOf 0 e os (stateOf m) ≡ left (stateIn h c) → h .manifest ≤ longestManifest
+go-manifest m e os h c b g = rw (steps-manifest e os (stateOf m) (stateIn h c) g) (sound-of m b .manifest)
+
+module _ (s : State) (e : ℕ) (os : List Operation) where
+  module _ (i : ℕ) (o : Operation) (rest : List Operation) (h : Held) (c : Columns) (r : Stepped) (d : Columns) (g : Going s e os i (o ∷ rest) h c) (t : StepIs (stepOf i e o (stateIn h c)) r d) where
+    pub go-on : isAccepted (r .verdict) ≡ true → Going s e os (i + 1) rest (r .held) d
     go-on a = record { ready = went (stepOf i e o (stateIn h c)) r d t a .1; same = g .same ∙ turn-on i e o rest (stateIn h c) r d t a }
 
-    pub go-off : isAccepted (r .verdict) ≡ false → Halts (stepsOf 0 e os (stateOf m)) (r .verdict)
+    pub go-off : isAccepted (r .verdict) ≡ false → Halts (stepsOf 0 e os s) (r .verdict)
     go-off a =
         let k = turn-off i e o rest (stateIn h c) r d t a in
         record { why = k .why; told = k .told; here = g .same ∙ k .here }
 
-  pub go-manifest : (h : Held) (c : Columns) → badInner m ≡ false → stepsOf 0 e os (stateOf m) ≡ left (stateIn h c) → h .manifest ≤ longestManifest
-  go-manifest h c b g = rw (steps-manifest e os (stateOf m) (stateIn h c) g) (sound-of m b .manifest)
-
   -- a turn over the changes l, of which there are n
-  module _ (i n : ℕ) (l : List Change) (k : n ≤ length l) (h : Held) (c : Columns) (g : Going m e os i (drop i (map operationOf (take n l))) h c) where
+  module _ (i n : ℕ) (l : List Change) (k : n ≤ length l) (h : Held) (c : Columns) (g : Going s e os i (drop i (map operationOf (take n l))) h c) where
     module _ (w : i < n) (a : Change) (r : Stepped) (d : Columns) (t : StepIs (stepOf i e (operationOf (getD l i a)) (stateIn h c)) r d) where
-      here : Going m e os i (operationOf (getD l i a) ∷ drop (i + 1) (map operationOf (take n l))) h c
+      here : Going s e os i (operationOf (getD l i a) ∷ drop (i + 1) (map operationOf (take n l))) h c
       here = rw (seen operationOf l n i a w k) at g
 
-      pub change-on : isAccepted (r .verdict) ≡ true → Going m e os (i + 1) (drop (i + 1) (map operationOf (take n l))) (r .held) d
+      pub change-on : isAccepted (r .verdict) ≡ true → Going s e os (i + 1) (drop (i + 1) (map operationOf (take n l))) (r .held) d
       change-on = go-on i (operationOf (getD l i a)) (drop (i + 1) (map operationOf (take n l))) h c r d here t
 
-      pub change-off : isAccepted (r .verdict) ≡ false → Halts (stepsOf 0 e os (stateOf m)) (r .verdict)
+      pub change-off : isAccepted (r .verdict) ≡ false → Halts (stepsOf 0 e os s) (r .verdict)
       change-off = go-off i (operationOf (getD l i a)) (drop (i + 1) (map operationOf (take n l))) h c r d here t
 
-    pub change-done : n ≤ i → stepsOf 0 e os (stateOf m) ≡ left (stateIn h c)
+    pub change-done : n ≤ i → stepsOf 0 e os s ≡ left (stateIn h c)
     change-done w = g .same ∙ rw (seen-end operationOf l n i w k)
 
 -- the first tests
@@ -155,3 +155,8 @@ commit-off x os out r out′ h q = rw (h .here) (h .told, q)
 pub commit-on : (x : Outcome) (os : List Operation) (out : List ℕ) (r : Done) (out′ : List ℕ) (s : State) → x ≡ left s → r .verdict ≡ Accepted → r .length ≡ length (frameOf os) → Hands (r .inner) s → out′ ≡ over (frameOf os) out
     → CommitIs x os out r out′
 commit-on x os out r out′ s q v n h w = rw q (v, n, h, w)
+
+-- a step that ends a loop over operations
+pub halts-step : (x : Outcome) (r : Stepped) (c : Columns) → Halts x (r .verdict) → StepIs x r c
+unfolding StepIs
+halts-step x r c h = rw (h .here) (h .told)

@@ -2,3 +2,4 @@ pub mod Stepwise
 pub mod Sounds
 pub mod Older
 pub mod Calls
+pub mod Lent

@@ -17,7 +17,7 @@ use Rattle.commit.proofs.commit.Statement.{statement}
 use Rattle.commit.proofs.commit.Tie as tie
 
 abbrev Inv-loop : tie.InvT-loop
-Inv-loop inner out batch count epoch ids₀ shapes₀ lengths₀ names₀ locked₀ pairtables₀ pairrowsets₀ pairadded₀ pairdeleted₀ tables₀ rowsets₀ vectors₀ added₀ deleted₀ held₀ i₀ ids shapes lengths names locked pairtables pairrowsets pairadded pairdeleted tables rowsets vectors added deleted held i = (i ≤ count) × (count ≤ mostOperations) × (length (batch .changes) ≡ mostOperations) × Going inner epoch (batchOf batch) i (drop i (batchOf batch)) held (columns ids shapes lengths names locked pairtables pairrowsets pairadded pairdeleted tables rowsets vectors added deleted)
+Inv-loop inner out batch count epoch ids₀ shapes₀ lengths₀ names₀ locked₀ pairtables₀ pairrowsets₀ pairadded₀ pairdeleted₀ tables₀ rowsets₀ vectors₀ added₀ deleted₀ held₀ i₀ ids shapes lengths names locked pairtables pairrowsets pairadded pairdeleted tables rowsets vectors added deleted held i = (i ≤ count) × (count ≤ mostOperations) × (length (batch .changes) ≡ mostOperations) × Going (stateOf inner) epoch (batchOf batch) i (drop i (batchOf batch)) held (columns ids shapes lengths names locked pairtables pairrowsets pairadded pairdeleted tables rowsets vectors added deleted)
 
 abbrev μ-loop : tie.MeasureT-loop
 μ-loop inner out batch count epoch ids₀ shapes₀ lengths₀ names₀ locked₀ pairtables₀ pairrowsets₀ pairadded₀ pairdeleted₀ tables₀ rowsets₀ vectors₀ added₀ deleted₀ held₀ i₀ ids shapes lengths names locked pairtables pairrowsets pairadded pairdeleted tables rowsets vectors added deleted held i = count - i
@@ -80,7 +80,7 @@ returns-3 c =
     let l = c .before .before .before .before .before .before .before .before .before .before .before .before .before .before .before .before .before .before .before .loop in
     let inv = l .inv in
     let k : a .t2 .count ≤ length (a .t2 .changes) = omega (arith, inv .1, inv .2) in
-    let h = change-off (a .inner) _ (batchOf (a .t2)) (l .i) (a .t2 .count) (a .t2 .changes) k (l .held) (columns (l .ids) (l .shapes) (l .lengths) (l .names) (l .locked) (l .pair-tables) (l .pair-rowsets) (l .pair-added) (l .pair-deleted) (l .tables) (l .rowsets) (l .vectors) (l .added) (l .deleted)) (inv .3) (c .before .before .before .before .before .before .before .before .before .before .before .before .before .before .before .before .before .before .loop-test .taken) _ _ _ (c .before .before .step .ensures) (sym (c .before .accepted .ensures) ∙ not-true _ (c .if3 .taken)) in
+    let h = change-off (stateOf (a .inner)) _ (batchOf (a .t2)) (l .i) (a .t2 .count) (a .t2 .changes) k (l .held) (columns (l .ids) (l .shapes) (l .lengths) (l .names) (l .locked) (l .pair-tables) (l .pair-rowsets) (l .pair-added) (l .pair-deleted) (l .tables) (l .rowsets) (l .vectors) (l .added) (l .deleted)) (inv .3) (c .before .before .before .before .before .before .before .before .before .before .before .before .before .before .before .before .before .before .loop-test .taken) _ _ _ (c .before .before .step .ensures) (sym (c .before .accepted .ensures) ∙ not-true _ (c .if3 .taken)) in
     commit-off _ _ _ _ _ (steps-off (stateOf (a .inner)) (a .t2 .count) (batchOf (a .t2)) (length (now (a .out))) (c .before .before .before .before .before .before .before .before .before .before .before .before .before .before .before .before .before .before .before .before .before .before .before .before .before .before .before .before .before .before .before .before .before .before .before .before .before .before .before .before .before .if1 .left) (c .before .before .before .before .before .before .before .before .before .before .before .before .before .before .before .before .before .before .before .before .before .before .before .before .before .before .before .before .before .before .before .before .before .before .before .before .before .before .before .if2 .left) _ h) refl
 
 add-i : tie.Need-add-i Inv-loop μ-loop
@@ -95,7 +95,7 @@ loop-again c =
     let l = c .before .before .before .before .before .before .before .before .before .before .before .before .before .before .before .before .before .before .before .before .loop in
     let inv = l .inv in
     let k : a .t2 .count ≤ length (a .t2 .changes) = omega (arith, inv .1, inv .2) in
-    (omega (arith, c .before .before .before .before .before .before .before .before .before .before .before .before .before .before .before .before .before .before .before .loop-test .taken), inv .1, inv .2, change-on (a .inner) _ (batchOf (a .t2)) (l .i) (a .t2 .count) (a .t2 .changes) k (l .held) (columns (l .ids) (l .shapes) (l .lengths) (l .names) (l .locked) (l .pair-tables) (l .pair-rowsets) (l .pair-added) (l .pair-deleted) (l .tables) (l .rowsets) (l .vectors) (l .added) (l .deleted)) (inv .3) (c .before .before .before .before .before .before .before .before .before .before .before .before .before .before .before .before .before .before .before .loop-test .taken) _ _ _ (c .before .before .before .step .ensures) (sym (c .before .before .accepted .ensures) ∙ not-false _ (c .before .if3 .left)))
+    (omega (arith, c .before .before .before .before .before .before .before .before .before .before .before .before .before .before .before .before .before .before .before .loop-test .taken), inv .1, inv .2, change-on (stateOf (a .inner)) _ (batchOf (a .t2)) (l .i) (a .t2 .count) (a .t2 .changes) k (l .held) (columns (l .ids) (l .shapes) (l .lengths) (l .names) (l .locked) (l .pair-tables) (l .pair-rowsets) (l .pair-added) (l .pair-deleted) (l .tables) (l .rowsets) (l .vectors) (l .added) (l .deleted)) (inv .3) (c .before .before .before .before .before .before .before .before .before .before .before .before .before .before .before .before .before .before .before .loop-test .taken) _ _ _ (c .before .before .before .step .ensures) (sym (c .before .before .accepted .ensures) ∙ not-false _ (c .before .if3 .left)))
 
 frame-length-requires : tie.Need-frame-length-requires Inv-loop μ-loop
 frame-length-requires c κs = c .before .loop .inv .1
@@ -107,7 +107,7 @@ ending-requires c κs =
     let inv = l .inv in
     let y = inv .3 .ready in
     let k : a .t2 .count ≤ length (a .t2 .changes) = omega (arith, inv .1, inv .2) in
-    let q = change-done (a .inner) _ (batchOf (a .t2)) (l .i) (a .t2 .count) (a .t2 .changes) k (l .held) (columns (l .ids) (l .shapes) (l .lengths) (l .names) (l .locked) (l .pair-tables) (l .pair-rowsets) (l .pair-added) (l .pair-deleted) (l .tables) (l .rowsets) (l .vectors) (l .added) (l .deleted)) (inv .3) (c .before .before .before .before .before .before .before .before .before .before .loop-test .left) in
+    let q = change-done (stateOf (a .inner)) _ (batchOf (a .t2)) (l .i) (a .t2 .count) (a .t2 .changes) k (l .held) (columns (l .ids) (l .shapes) (l .lengths) (l .names) (l .locked) (l .pair-tables) (l .pair-rowsets) (l .pair-added) (l .pair-deleted) (l .tables) (l .rowsets) (l .vectors) (l .added) (l .deleted)) (inv .3) (c .before .before .before .before .before .before .before .before .before .before .loop-test .left) in
     (y .fewTables, rising-tables y, rising-pairs y, y .fewVectors, sorted-vectors y, go-manifest (a .inner) _ (batchOf (a .t2)) (l .held) (columns (l .ids) (l .shapes) (l .lengths) (l .names) (l .locked) (l .pair-tables) (l .pair-rowsets) (l .pair-added) (l .pair-deleted) (l .tables) (l .rowsets) (l .vectors) (l .added) (l .deleted)) (c .before .before .before .before .before .before .before .before .before .before .before .before .before .before .before .before .before .before .before .before .before .before .before .before .before .before .before .before .before .before .before .before .before .before .before .pre) q)
 
 accepted-requires-2 : tie.Need-accepted-requires-2 Inv-loop μ-loop
@@ -119,7 +119,7 @@ returns-4 c =
     let l = c .before .before .before .before .before .before .before .before .before .before .before .before .before .before .loop in
     let inv = l .inv in
     let k : a .t2 .count ≤ length (a .t2 .changes) = omega (arith, inv .1, inv .2) in
-    let q = change-done (a .inner) _ (batchOf (a .t2)) (l .i) (a .t2 .count) (a .t2 .changes) k (l .held) (columns (l .ids) (l .shapes) (l .lengths) (l .names) (l .locked) (l .pair-tables) (l .pair-rowsets) (l .pair-added) (l .pair-deleted) (l .tables) (l .rowsets) (l .vectors) (l .added) (l .deleted)) (inv .3) (c .before .before .before .before .before .before .before .before .before .before .before .before .before .loop-test .left) in
+    let q = change-done (stateOf (a .inner)) _ (batchOf (a .t2)) (l .i) (a .t2 .count) (a .t2 .changes) k (l .held) (columns (l .ids) (l .shapes) (l .lengths) (l .names) (l .locked) (l .pair-tables) (l .pair-rowsets) (l .pair-added) (l .pair-deleted) (l .tables) (l .rowsets) (l .vectors) (l .added) (l .deleted)) (inv .3) (c .before .before .before .before .before .before .before .before .before .before .before .before .before .loop-test .left) in
     let w = c .before .before .before .before .before .before .before .before .before .before .before .before .frame-length .ensures .0 in
     let j = c .before .before .ending .ensures (l .shapes) (l .lengths) (l .names) (l .vectors) (l .locked) in
     let h = end-off _ (batchOf (a .t2)) _ (stateIn (l .held) (columns (l .ids) (l .shapes) (l .lengths) (l .names) (l .locked) (l .pair-tables) (l .pair-rowsets) (l .pair-added) (l .pair-deleted) (l .tables) (l .rowsets) (l .vectors) (l .added) (l .deleted))) _ w _ j (sym (c .before .accepted2 .ensures) ∙ not-true _ (c .if4 .taken)) in
@@ -152,7 +152,7 @@ returns-5 c =
     let l = c .before .before .before .before .before .before .before .before .before .before .before .before .before .before .before .before .before .before .before .before .loop in
     let inv = l .inv in
     let k : a .t2 .count ≤ length (a .t2 .changes) = omega (arith, inv .1, inv .2) in
-    let q = change-done (a .inner) _ (batchOf (a .t2)) (l .i) (a .t2 .count) (a .t2 .changes) k (l .held) (columns (l .ids) (l .shapes) (l .lengths) (l .names) (l .locked) (l .pair-tables) (l .pair-rowsets) (l .pair-added) (l .pair-deleted) (l .tables) (l .rowsets) (l .vectors) (l .added) (l .deleted)) (inv .3) (c .before .before .before .before .before .before .before .before .before .before .before .before .before .before .before .before .before .before .before .loop-test .left) in
+    let q = change-done (stateOf (a .inner)) _ (batchOf (a .t2)) (l .i) (a .t2 .count) (a .t2 .changes) k (l .held) (columns (l .ids) (l .shapes) (l .lengths) (l .names) (l .locked) (l .pair-tables) (l .pair-rowsets) (l .pair-added) (l .pair-deleted) (l .tables) (l .rowsets) (l .vectors) (l .added) (l .deleted)) (inv .3) (c .before .before .before .before .before .before .before .before .before .before .before .before .before .before .before .before .before .before .before .loop-test .left) in
     let w = c .before .before .before .before .before .before .before .before .before .before .before .before .before .before .before .before .before .before .frame-length .ensures .0 in
     let j = c .before .before .before .before .before .before .before .before .ending .ensures (l .shapes) (l .lengths) (l .names) (l .vectors) (l .locked) in
     let y = inv .3 .ready in
