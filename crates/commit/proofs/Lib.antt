@@ -1,3 +1,5 @@
 pub mod Stepwise
 pub mod Sounds
 pub mod Older
+pub mod Calls
+pub mod Lent

@@ -26,7 +26,10 @@ ghost use Rattle.version_state.specs.State.{stateOf};
 ghost use Rattle.version_state.specs.Sound.{badInner};
 ghost use Rattle.operations.specs.Steps.{Rising, columns, stateIn};
 ghost use Rattle.commit.specs.Commit.{lastRules, commitOf, CommitIs};
+ghost use Rattle.commit.specs.Lent.{operationsIn};
 ghost use Rattle.commit.specs.Laws.{CommitLaws};
+
+pub mod lines;
 
 pub struct Done {
     pub verdict: Verdict,
@@ -193,6 +196,135 @@ pub fn commit(inner: VersionManagerInner, batch: Batch, out: &mut [u8]) -> Done
         };
     }
     frames::put_frame(out, batch);
+    let next = held.next;
+    let live = Tables {
+        ids,
+        shapes,
+        lengths,
+        names,
+        locked,
+        count: held.tables,
+    };
+    let pairs = Rowsets {
+        tables: pair_tables,
+        rowsets: pair_rowsets,
+        added: pair_added,
+        deleted: pair_deleted,
+        count: held.rowsets,
+    };
+    let marks = Vectors {
+        tables,
+        rowsets,
+        vectors,
+        added,
+        deleted,
+        count: held.vectors,
+    };
+    let inner = VersionManagerInner {
+        epoch,
+        next,
+        tables: live,
+        rowsets: pairs,
+        vectors: marks,
+        manifest: held.manifest + size,
+    };
+    Done {
+        verdict,
+        length: size,
+        inner,
+    }
+}
+
+// The same for operations lent as lines: the append is `B`, the lent bytes, `E`.
+pub fn commit_lines(inner: VersionManagerInner, ops: &[u8], out: &mut [u8]) -> Done
+    requires { ⌜ badInner inner ≡ false ⌝ }
+    ensures { λ r. ⌜ CommitIs (commitOf (stateOf inner) (length (operationsIn (now (ops .entry)))) (operationsIn (now (ops .entry))) (length (now (out .entry)))) (operationsIn (now (ops .entry))) (now (out .entry)) r (now (out .exit)) ⌝ }
+{
+    if MOST_OPERATIONS < lines::count(ops) {
+        return refused(inner, Refusal::TooManyOperations(0));
+    }
+    if LAST_EPOCH <= inner.epoch {
+        return refused(inner, Refusal::EpochsFull);
+    }
+    let epoch = inner.epoch + 1;
+    let next = inner.next;
+    let t = inner.tables;
+    let p = inner.rowsets;
+    let v = inner.vectors;
+    let mut ids = t.ids;
+    let mut shapes = t.shapes;
+    let mut lengths = t.lengths;
+    let mut names = t.names;
+    let mut locked = t.locked;
+    let mut pair_tables = p.tables;
+    let mut pair_rowsets = p.rowsets;
+    let mut pair_added = p.added;
+    let mut pair_deleted = p.deleted;
+    let mut tables = v.tables;
+    let mut rowsets = v.rowsets;
+    let mut vectors = v.vectors;
+    let mut added = v.added;
+    let mut deleted = v.deleted;
+    let first = Held {
+        epoch: inner.epoch,
+        next,
+        tables: t.count,
+        rowsets: p.count,
+        vectors: v.count,
+        manifest: inner.manifest,
+    };
+    let step = lines::steps(
+        &mut ids,
+        &mut shapes,
+        &mut lengths,
+        &mut names,
+        &mut locked,
+        &mut pair_tables,
+        &mut pair_rowsets,
+        &mut pair_added,
+        &mut pair_deleted,
+        &mut tables,
+        &mut rowsets,
+        &mut vectors,
+        &mut added,
+        &mut deleted,
+        first,
+        epoch,
+        ops,
+    );
+    let verdict = step.verdict;
+    if !verdict.accepted() {
+        return Done {
+            verdict,
+            length: 0,
+            inner,
+        };
+    }
+    let held = step.held;
+    let size = ops.len() + 4;
+    let verdict = ending(
+        &ids,
+        &pair_tables,
+        &pair_rowsets,
+        &pair_added,
+        &pair_deleted,
+        &tables,
+        &rowsets,
+        &added,
+        &deleted,
+        held,
+        epoch,
+        size,
+        out.len(),
+    );
+    if !verdict.accepted() {
+        return Done {
+            verdict,
+            length: 0,
+            inner,
+        };
+    }
+    lines::put_frame(out, ops);
     let next = held.next;
     let live = Tables {
         ids,
