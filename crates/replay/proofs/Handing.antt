@@ -12,7 +12,8 @@ use lib.Seq.{take-length}
 use native.Mathlib.Numerals.{add-one}
 use Rattle.lists.proofs.Views.{map-drop}
 use Rattle.ids.specs.Limits.{mostHeld}
-use Rattle.lists.specs.Keyed.{keep, allOf, has}
+use Rattle.lists.specs.Keyed.{keep, allOf, has, ascending}
+use Rattle.lists.proofs.Keyed.{ascend-to, ascend-from}
 use Rattle.lists.proofs.Tests.{both}
 use Rattle.ids.specs.Ids.{largest32}
 use Rattle.columns.specs.Rows.{rows, column, marks, across, plain, Kept}
@@ -25,7 +26,10 @@ use Rattle.version_state.specs.State.{State, stateOf, Fit, Hands}
 use Rattle.version_state.specs.declared.VersionManagerInner.{VersionManagerInner}
 use Rattle.replay.specs.declared.Sets.{Sets}
 use Rattle.replay.specs.Replay.{tableless, withoutOrphans}
-use Rattle.snapshot.proofs.Entries.{all-rows, AllKept, none, more, kept-like, keep-entries}
+use Rattle.snapshot.specs.declared.tables.Tables.{Tables}
+use Rattle.snapshot.specs.declared.rowsets.Rowsets.{Rowsets}
+use Rattle.replay.proofs.Maps.{ascending-mapped, lex-split}
+use Rattle.snapshot.proofs.Entries.{all-rows, ascending-ids, AllKept, none, more, kept-like, keep-entries}
 use Rattle.replay_lists.specs.Rows as beside
 use Rattle.replay_lists.proofs.Rows as besides
 use Rattle.replay.specs.Working.{shapeNoted, nameNoted, tableRow, tablesIn, stateIn, Slices, narrowFirst, pairRow, vectorRow, pairsIn, vectorsIn, wide32, TablesGood, PairsGood, VectorsGood}
@@ -79,6 +83,21 @@ has-each ids shapes lengths names locked live t r added deleted n =
     all-same : (p q : ℕ → Bool) (l : List ℕ) → ((x : ℕ) → p x ≡ q x) → allOf p l ≡ allOf q l
     all-same p q [] h = refl
     all-same p q (x ∷ l) h = rw (h x, all-same p q l h)
+
+-- the same, of what was built
+pub each-has : (ts : Tables) (rs : Rowsets) (l n : ℕ) → ts .count ≡ l → rs .count ≡ n → (t : Bool)
+    → t ≡ allOf (λ x. has plain (x ∷ []) (rows (across (ts .ids ∷ [])) l)) (rows (column (rs .tables)) n) → t ≡ allOf (λ p. has byTable (take 1 (byIds p)) (tablesOf ts)) (rowsetsOf rs)
+each-has ts rs l n el en t e =
+    let f = rw (← el, ← en) at e in
+    f ∙ sym (has-each (ts .ids) (ts .shapes) (ts .lengths) (ts .names) (ts .locked) (ts .count) (rs .tables) (rs .rowsets) (rs .added) (rs .deleted) (rs .count))
+
+-- pairs that rise by key rise by table and rowset
+pub pairs-rise : (a b : List ℕ) (n : ℕ) (rs : Rowsets) → PairsGood a b n → rs .count ≡ n → rowsetsOf rs ≡ pairsIn a b n → ascending plain (rows (across (rs .tables ∷ rs .rowsets ∷ [])) n) ≡ true
+pairs-rise a b n rs g en e =
+    let up : ascending byIds (pairsIn a b n) ≡ true =
+    ascend-from byIds (pairsIn a b n) (ascending-mapped pairRow beside.byFirst byIds (λ x y. lex-split (x .0) (y .0) false) (beside.rows a b n) (ascend-to beside.byFirst (beside.rows a b n) (g .rising))) in
+    let z = sym (ascending-ids (rs .tables ∷ rs .rowsets ∷ []) (rs .added) (rs .deleted) (rs .count)) ∙ ap (ascending byIds) e ∙ up in
+    rw en at z
 
 all-at : {A : Type 0} (q : A → Bool) (l : List A) (i : ℕ) (d : A) → allOf q l ≡ true → i < length l → q (getD l i d) ≡ true
 all-at q [] i d h k = absurd (not-suc-le-zero k)
