@@ -19,13 +19,14 @@ use Rattle.ids.specs.Verdicts.{_⇒_, judged}
 use Rattle.ids.specs.Answers.{told, after}
 use Rattle.snapshot.specs.Entries.{Entry, byIds, byDeletion, waits}
 use Rattle.snapshot.specs.Tables.{TableEntry}
-use Rattle.version_state.specs.State.{State, stateOf, pairsAt, vectorsAt}
-use Rattle.version_state.specs.Sound.{badManager}
+use Rattle.version_state.specs.State.{State, pairsAt, vectorsAt}
 use Rattle.version_state.proofs.Facts.{sound-of}
 use Rattle.pins.specs.Book.{pinsOf, badBook, mayShow, bound}
 use Rattle.pins.proofs.Bound.{bound-shows}
 use Rattle.show.specs.Names.{padded, namesRun}
-use Rattle.show.specs.Says.{column, showVerdict, unseen, notCurrent, tablesVerdict}
+use Rattle.show.specs.Says.{shownField, showRules, unseen, notCurrent, showTablesRules}
+use Rattle.version_manager.specs.Managers.{heldBy, badManager}
+use Rattle.version_manager.specs.Show.{showVerdict}
 use Rattle.plain_record.specs.Sets.{Table}
 use Rattle.plain_record.specs.Plain.{Waiting, Plain, epochOf, Record}
 use Rattle.plain_record.specs.Run.{World}
@@ -37,31 +38,31 @@ past-three : (a b c : Bool) (i j k : Refusal) (s : Bool) (q : Refusal) → a ≡
     → judged ((a ⇒ i) ∷ (b ⇒ j) ∷ (c ⇒ k) ∷ (s ⇒ q) ∷ []) ≡ judged ((s ⇒ q) ∷ [])
 past-three a b c i j k s q e f g = rw (e, f, g)
 
-module _ (w : World) (good : badManager (w .manager .inner) ≡ false) (book : badBook (w .manager .inner .epoch) (w .book) ≡ false) where
-  nine : (u s : Bool) → u ≡ false → showVerdict (w .manager .inner) (w .book) u s ≡ nineAlone s
-  nine u s h = past-three (badManager (w .manager .inner)) (badBook (w .manager .inner .epoch) (w .book)) u _ _ _ s _ good book h
+module _ (w : World) (good : badManager (w .manager) ≡ false) (book : badBook (w .manager .inner .epoch) (w .book) ≡ false) where
+  nine : (u s : Bool) → u ≡ false → showVerdict (w .manager) (showRules (heldBy (w .manager)) (w .book) u s) ≡ nineAlone s
+  nine u s h = past-three (badManager (w .manager)) (badBook (w .manager .inner .epoch) (w .book)) u _ _ _ s _ good book h
 
   module _ (d : ℕ) (seen : mayShow (w .manager .inner .epoch) (pinsOf (w .book)) d ≡ true) where
-    seen-not : unseen (w .manager .inner) (w .book) d ≡ false
+    seen-not : unseen (heldBy (w .manager)) (w .book) d ≡ false
     seen-not = ap not seen
 
-    pairs-shown : ShowsPairs w d (pairsAt d (stateOf (w .manager .inner)))
+    pairs-shown : ShowsPairs w d (pairsAt d (heldBy (w .manager)))
     pairs-shown ts rs a ts′ rs′ says =
-        let l = pairsAt d (stateOf (w .manager .inner)) in
-        let e = nine (unseen (w .manager .inner) (w .book) d) (ltb (length ts) (length l) || ltb (length rs) (length l)) seen-not in (
+        let l = pairsAt d (heldBy (w .manager)) in
+        let e = nine (unseen (heldBy (w .manager)) (w .book) d) (ltb (length ts) (length l) || ltb (length rs) (length l)) seen-not in (
           says .answer ∙ ap (λ (v : Verdict). told v (length l ∷ [])) e,
-          says .tables ∙ ap (λ (v : Verdict). after v (over (column 0 l) ts) ts) e,
-          says .rowsets ∙ ap (λ (v : Verdict). after v (over (column 1 l) rs) rs) e,
+          says .tables ∙ ap (λ (v : Verdict). after v (over (shownField 0 l) ts) ts) e,
+          says .rowsets ∙ ap (λ (v : Verdict). after v (over (shownField 1 l) rs) rs) e,
         )
 
-    vectors-shown : ShowsVectors w d (vectorsAt d (stateOf (w .manager .inner)))
+    vectors-shown : ShowsVectors w d (vectorsAt d (heldBy (w .manager)))
     vectors-shown ts rs vs a ts′ rs′ vs′ says =
-        let l = vectorsAt d (stateOf (w .manager .inner)) in
-        let e = nine (unseen (w .manager .inner) (w .book) d) (ltb (length ts) (length l) || (ltb (length rs) (length l) || ltb (length vs) (length l))) seen-not in (
+        let l = vectorsAt d (heldBy (w .manager)) in
+        let e = nine (unseen (heldBy (w .manager)) (w .book) d) (ltb (length ts) (length l) || (ltb (length rs) (length l) || ltb (length vs) (length l))) seen-not in (
           says .answer ∙ ap (λ (v : Verdict). told v (length l ∷ [])) e,
-          says .tables ∙ ap (λ (v : Verdict). after v (over (column 0 l) ts) ts) e,
-          says .rowsets ∙ ap (λ (v : Verdict). after v (over (column 1 l) rs) rs) e,
-          says .vectors ∙ ap (λ (v : Verdict). after v (over (column 2 l) vs) vs) e,
+          says .tables ∙ ap (λ (v : Verdict). after v (over (shownField 0 l) ts) ts) e,
+          says .rowsets ∙ ap (λ (v : Verdict). after v (over (shownField 1 l) rs) rs) e,
+          says .vectors ∙ ap (λ (v : Verdict). after v (over (shownField 2 l) vs) vs) e,
         )
 
 -- what the rows of tables say is what the manager's tables say
@@ -81,19 +82,19 @@ names-plain : (l : List TableEntry) → namesRun l ≡ namesOf (map plainTable l
 names-plain [] = refl
 names-plain (t ∷ l) = ap (λ k. padded (t .name) ++ k) (names-plain l)
 
-module _ (w : World) (good : badManager (w .manager .inner) ≡ false) (book : badBook (w .manager .inner .epoch) (w .book) ≡ false) (d : ℕ) (now : d ≡ w .manager .inner .epoch) where
-  current-not : notCurrent (w .manager .inner) (w .book) d ≡ false
+module _ (w : World) (good : badManager (w .manager) ≡ false) (book : badBook (w .manager .inner .epoch) (w .book) ≡ false) (d : ℕ) (now : d ≡ w .manager .inner .epoch) where
+  current-not : notCurrent (heldBy (w .manager)) (w .book) d ≡ false
   current-not = rw (eq-eqb d (w .manager .inner .epoch) now)
 
   abbrev short : ℕ → ℕ → ℕ → ℕ → ℕ → Bool
   short i h l n k = ltb i k || (ltb h k || (ltb l k || ltb n (longestName * k)))
 
-  tables-shown : ShowsTables w d (map plainTable (stateOf (w .manager .inner) .tables))
+  tables-shown : ShowsTables w d (map plainTable (heldBy (w .manager) .tables))
   tables-shown is hs ls ns a is′ hs′ ls′ ns′ says =
-      let l = stateOf (w .manager .inner) .tables in
+      let l = heldBy (w .manager) .tables in
       let k = sym (length-map l plainTable) in
-      let e : tablesVerdict (w .manager .inner) (w .book) d (length is) (length hs) (length ls) (length ns) ≡ nineAlone (short (length is) (length hs) (length ls) (length ns) (length (map plainTable l))) =
-      nine w good book (notCurrent (w .manager .inner) (w .book) d) (short (length is) (length hs) (length ls) (length ns) (length l)) current-not
+      let e : showVerdict (w .manager) (showTablesRules (heldBy (w .manager)) (w .book) d (length is) (length hs) (length ls) (length ns)) ≡ nineAlone (short (length is) (length hs) (length ls) (length ns) (length (map plainTable l))) =
+      nine w good book (notCurrent (heldBy (w .manager)) (w .book) d) (short (length is) (length hs) (length ls) (length ns) (length l)) current-not
       ∙ ap (λ (n : ℕ). nineAlone (short (length is) (length hs) (length ls) (length ns) n)) k in (
         says .answer ∙ ap₂ (λ (v : Verdict) (n : ℕ). told v (n ∷ [])) e k,
         says .ids ∙ ap₂ (λ (v : Verdict) (x : List ℕ). after v (over x is) is) e (ids-plain l),
@@ -171,7 +172,7 @@ agree w r i =
       vectors = λ d h. subst (ShowsVectors w d) (i .vectors d (seen d h)) (vectors-shown w (i .sound) (i .book) d (shows d h));
       book = i .pins;
       waiting = i .waiting;
-      apart = pairs-apart (stateOf (w .manager .inner)) (r .whole) (ascend-to byIds (stateOf (w .manager .inner) .pairs) (sound-of (w .manager .inner) (i .sound) .ordered .pairs)) (i .waiting);
+      apart = pairs-apart (heldBy (w .manager)) (r .whole) (ascend-to byIds (heldBy (w .manager) .pairs) (sound-of (w .manager .inner) (i .sound) .ordered .pairs)) (i .waiting);
       next = i .next;
     }
   where

@@ -1,6 +1,6 @@
 -- The manifest after an accepted commit, whole and with its last bytes missing. Assumes nothing.
 use mathlib.Core.Path.{_≡_, sym, ap, _∙_}
-use mathlib.Core.Bool.{cond}
+use mathlib.Core.Bool.{false, cond}
 use mathlib.Core.List.{List, _++_}
 use Prim.Native.Nat.{ℕ, _+_, _-_, _≤_, _<_}
 use native.Mathlib.Omega.{arith}
@@ -10,12 +10,12 @@ use lib.Seq.{take-append-le, take-all}
 use borrow.Author.Tests.{eqb-true, eqb-false}
 use Rattle.lists.specs.Written.{over}
 use Rattle.lists.proofs.Tests.{by-cases}
-use Rattle.manifest.specs.declared.operation.Batch.{Batch}
-use Rattle.manifest.specs.Operations.{batchOf}
+use Rattle.manifest.specs.Operations.{Operation}
 use Rattle.frames.specs.Frames.{frameOf}
 use Rattle.frames.proofs.Texts.{frame-long}
 use Rattle.version_state.specs.declared.VersionManagerInner.{VersionManagerInner}
 use Rattle.version_state.specs.State.{State, stateOf, Hands}
+use Rattle.version_state.specs.Sound.{badInner}
 use Rattle.operations.specs.Steps.{left}
 use Rattle.commit.specs.Commit.{commitOf}
 use Rattle.recovery.specs.Sets as shows
@@ -32,61 +32,61 @@ use Rattle.plain_record.proofs.CommitState.{commit-manifest, commit-fit
 pub append-taken : (f out : List ℕ) (n : ℕ) → n ≤ length f → take n (over f out) ≡ take n f
 append-taken f out n h = take-append-le n f (drop (length f) out) h
 
-module _ (f : List ℕ) (p : Plain) (m n : VersionManagerInner) (b : Batch) (room : ℕ) (s : State) (h : commitOf m b room ≡ left s) (k : Hands n s) (c : ℕ) (i : Filed f (stateOf m) p) where
-  appended : manifest.Holds (f ++ frameOf (batchOf b)) (manifest.followed (batchOf b) (i .state)) × (shows.setsOf (manifest.followed (batchOf b) (i .state)) ≡ shows.setsOf s)
-  appended = whole-appended f (i .state) m b room s (i .holds) (i .same) h
+module _ (f : List ℕ) (p : Plain) (m n : VersionManagerInner) (z : ℕ) (os : List Operation) (room : ℕ) (s : State) (b : badInner m ≡ false) (few : length os ≤ z) (h : commitOf (stateOf m) z os room ≡ left s) (k : Hands n s) (c : ℕ) (i : Filed f (stateOf m) p) where
+  appended : manifest.Holds (f ++ frameOf os) (manifest.followed os (i .state)) × (shows.setsOf (manifest.followed os (i .state)) ≡ shows.setsOf s)
+  appended = whole-appended f (i .state) m z os room s (i .holds) (i .same) b few h
 
-  long-after : length (f ++ frameOf (batchOf b)) ≡ n .manifest
+  long-after : length (f ++ frameOf os) ≡ n .manifest
   long-after =
-      length-append f (frameOf (batchOf b))
-      ∙ ap (λ (x : ℕ). x + length (frameOf (batchOf b))) (i .long)
-      ∙ sym (commit-manifest m b room s h)
+      length-append f (frameOf os)
+      ∙ ap (λ (x : ℕ). x + length (frameOf os)) (i .long)
+      ∙ sym (commit-manifest m z os room s b h)
       ∙ sym (ap (λ (x : State). x .manifest) (k .state))
 
-  pub filed-after : Filed (f ++ frameOf (batchOf b)) (stateOf n) (counted c (batchOf b) p)
+  pub filed-after : Filed (f ++ frameOf os) (stateOf n) (counted c os p)
   filed-after =
       record {
-        state = manifest.followed (batchOf b) (i .state);
+        state = manifest.followed os (i .state);
         holds = appended .0;
         same = ap shows.setsOf (k .state) ∙ sym (appended .1);
         long = long-after;
-        next = followed-next (batchOf b) (i .state) (p .added) (i .next);
+        next = followed-next os (i .state) (p .added) (i .next);
       }
 
-  short-after : length (f ++ frameOf (batchOf b)) ≤ 65536
-  short-after = omega (arith, length-append f (frameOf (batchOf b)), i .long, commit-fits m b room s h)
+  short-after : length (f ++ frameOf os) ≤ 65536
+  short-after = omega (arith, length-append f (frameOf os), i .long, commit-fits m z os room s b h)
 
-  torn-whole : plainSets (stateOf n) ≡ applyAll (batchOf b) (p .now) → Torn (f ++ frameOf (batchOf b)) (counted c (batchOf b) p)
+  torn-whole : plainSets (stateOf n) ≡ applyAll os (p .now) → Torn (f ++ frameOf os) (counted c os p)
   torn-whole q =
       record {
         state = filed-after .state;
-        replayed = holds-replayed (f ++ frameOf (batchOf b)) (filed-after .state) (filed-after .holds) short-after;
+        replayed = holds-replayed (f ++ frameOf os) (filed-after .state) (filed-after .holds) short-after;
         sets = sym (sets-plain (stateOf n) (filed-after .state) (filed-after .same)) ∙ q;
         next = filed-after .next;
       }
 
-  short-cut : (j : ℕ) → length (f ++ take j (frameOf (batchOf b))) ≤ 65536
+  short-cut : (j : ℕ) → length (f ++ take j (frameOf os)) ≤ 65536
   short-cut j =
-      omega (arith, length-append f (take j (frameOf (batchOf b))), length-take j (frameOf (batchOf b)), i .long, commit-fits m b room s h)
+      omega (arith, length-append f (take j (frameOf os)), length-take j (frameOf os), i .long, commit-fits m z os room s b h)
 
-  torn-cut : (j : ℕ) → j < length (frameOf (batchOf b)) → plainSets (stateOf m) ≡ p .now → Torn (f ++ take j (frameOf (batchOf b))) p
+  torn-cut : (j : ℕ) → j < length (frameOf os) → plainSets (stateOf m) ≡ p .now → Torn (f ++ take j (frameOf os)) p
   torn-cut j l q =
       record {
         state = i .state;
-        replayed = torn-replayed f (i .state) (batchOf b) j (i .holds) (commit-well m b room s h f (i .state) (i .holds) (i .same)) (commit-few m b room s h) l (short-cut j);
+        replayed = torn-replayed f (i .state) os j (i .holds) (commit-well m z os room s b h f (i .state) (i .holds) (i .same)) (commit-few m z os room s b h few) l (short-cut j);
         sets = sym (sets-plain (stateOf m) (i .state) (i .same)) ∙ q;
         next = i .next;
       }
 
   -- with the last bytes missing
-  pub torn-after : (missing : ℕ) → plainSets (stateOf m) ≡ p .now → plainSets (stateOf n) ≡ applyAll (batchOf b) (p .now)
-      → Torn (f ++ take (length (frameOf (batchOf b)) - missing) (frameOf (batchOf b))) (cond (eqb missing 0) (counted c (batchOf b) p) p)
+  pub torn-after : (missing : ℕ) → plainSets (stateOf m) ≡ p .now → plainSets (stateOf n) ≡ applyAll os (p .now)
+      → Torn (f ++ take (length (frameOf os) - missing) (frameOf os)) (cond (eqb missing 0) (counted c os p) p)
   torn-after missing q r =
       by-cases (eqb missing 0)
       (λ t.
-      let z : missing ≡ 0 = eqb-true missing 0 t in
-      let w : take (length (frameOf (batchOf b)) - missing) (frameOf (batchOf b)) ≡ frameOf (batchOf b) = take-all (length (frameOf (batchOf b)) - missing) (frameOf (batchOf b)) (omega arith) in
+      let none : missing ≡ 0 = eqb-true missing 0 t in
+      let w : take (length (frameOf os) - missing) (frameOf os) ≡ frameOf os = take-all (length (frameOf os) - missing) (frameOf os) (omega arith) in
       rw (t, w) (torn-whole r))
       (λ t.
-      let z = eqb-false missing 0 t in
-      rw t (torn-cut (length (frameOf (batchOf b)) - missing) (omega (arith, frame-long (batchOf b), z)) q))
+      let some = eqb-false missing 0 t in
+      rw t (torn-cut (length (frameOf os) - missing) (omega (arith, frame-long os, some)) q))

@@ -11,7 +11,8 @@ use Rattle.version_state.proofs.Facts.{Ordered}
 use Rattle.operations.specs.Effect.{applied}
 use Rattle.operations.specs.Judge.{opRules}
 use Rattle.operations.specs.Steps.{Outcome, left, stopped, andThen, stepOf, stepsOf}
-use Rattle.commit.proofs.Stepwise.{ordered-applied, halt, step-left}
+use Rattle.operations.proofs.Keeps.{ordered-applied}
+use Rattle.commit.proofs.Stepwise.{halt, step-left}
 use Rattle.replay.proofs.Maps.{map-put, map-without}
 use Rattle.recovery.specs.Sets as shows
 use Rattle.recovery.proofs.Effects as effects

@@ -1,24 +1,22 @@
 -- What the epochs show after an accepted commit is what the record remembers of them. Assumes nothing.
 use mathlib.Core.Path.{_≡_, refl, sym, ap, _∙_}
-use mathlib.Core.Bool.{true, false, not, _&&_}
+use mathlib.Core.Bool.{false}
 use mathlib.Core.List.{List, [], _∷_, _++_, map}
 use Prim.Native.Nat.{ℕ, zero, suc, _+_, _≤_}
 use native.Mathlib.Omega.{arith}
 use native.Mathlib.Nat.{not-suc-le-zero, le-of-suc-le-suc}
-use lib.Dec.{leb, ltb}
+use lib.Dec.{leb}
 use lib.ListN.{length, getD, length-append}
-use borrow.Author.Tests.{le-leb, leb-true, leb-false, not-false}
-use Rattle.lists.specs.Keyed.{allOf, ascending}
-use Rattle.lists.proofs.Tests.{by-cases, both, neither}
-use Rattle.lists.proofs.Keyed.{All, all-map, allOf-all, all-allOf, keep-same}
+use borrow.Author.Tests.{le-leb, leb-true, leb-false}
+use Rattle.lists.proofs.Tests.{by-cases}
+use Rattle.lists.proofs.Keyed.{All, all-map, allOf-all, keep-same}
 use Rattle.snapshot.specs.Entries.{Entry, goneAt, shownAt, shownBy, shown, byIds}
 use Rattle.version_state.specs.declared.VersionManagerInner.{VersionManagerInner}
 use Rattle.version_state.specs.State.{stateOf, pairsAt, vectorsAt}
-use Rattle.version_state.specs.Sound.{badManager}
+use Rattle.version_state.specs.Sound.{badInner}
 use Rattle.version_state.proofs.Within.{Within, within-of}
 use Rattle.version_state.proofs.Facts.{sound-of}
-use Rattle.pins.specs.declared.PinBook.{PinBook}
-use Rattle.pins.specs.Book.{PinEntry, byEpoch, pinsOf, validPin, badBook, bound}
+use Rattle.pins.specs.Book.{PinEntry, bound}
 use Rattle.plain_record.specs.Sets.{Sets}
 
 -- The record's past, with one more epoch.
@@ -39,21 +37,6 @@ bound-rise : (e d : ℕ) (l : List PinEntry) → e ≤ d → bound e l ≤ bound
 bound-rise e d [] h = h
 bound-rise e d (p ∷ l) h = omega (arith, bound-rise e d l h)
 
--- 28 still passes then
-valid-later : (e d : ℕ) (p : PinEntry) → e ≤ d → validPin e p ≡ true → validPin d p ≡ true
-valid-later e d p h v =
-    let a = both (ltb 0 (p .count)) (ltb 0 (p .epoch) && leb (p .epoch) e) v in
-    let b = both (ltb 0 (p .epoch)) (leb (p .epoch) e) (a .1) in
-    rw (a .0, b .0) (le-leb (p .epoch) d (omega (arith, leb-true (p .epoch) e (b .1))))
-
-pub book-later : (e d : ℕ) (b : PinBook) → e ≤ d → badBook e b ≡ false → badBook d b ≡ false
-book-later e d b h g =
-    let l = pinsOf b in
-    let x = neither (ltb 64 (b .count)) (not (allOf (validPin e) l && ascending byEpoch l)) g in
-    let y = both (allOf (validPin e) l) (ascending byEpoch l) (not-false _ (x .1)) in
-    let v = all-allOf (validPin d) l (all-map l (λ p k. valid-later e d p h k) (allOf-all (validPin e) l (y .0))) in
-    rw (x .0, v, y .1)
-
 -- an epoch that nothing reaches shows what an earlier one does
 still-shown : (e d : ℕ) (ns : List ℕ) (x : Entry) → e ≤ d → Within e ns x → shownBy d x ≡ shownBy e x
 unfolding shownAt goneAt
@@ -63,10 +46,10 @@ still-shown e d ns x h w =
 still-shows : (e d : ℕ) (ns : List ℕ) (l : List Entry) → e ≤ d → All (Within e ns) l → shown d l ≡ shown e l
 still-shows e d ns l h a = ap (map byIds) (keep-same (shownBy d) (shownBy e) l (all-map l (λ x. still-shown e d ns x h) a))
 
-pub later-pairs : (m : VersionManagerInner) (d : ℕ) → badManager m ≡ false → m .epoch ≤ d → pairsAt d (stateOf m) ≡ pairsAt (m .epoch) (stateOf m)
+pub later-pairs : (m : VersionManagerInner) (d : ℕ) → badInner m ≡ false → m .epoch ≤ d → pairsAt d (stateOf m) ≡ pairsAt (m .epoch) (stateOf m)
 later-pairs m d g h = still-shows (m .epoch) d _ (stateOf m .pairs) h (all-map (stateOf m .pairs) (within-of (m .epoch) _) (allOf-all _ (stateOf m .pairs) (sound-of m g .pairs)))
 
-pub later-vectors : (m : VersionManagerInner) (d : ℕ) → badManager m ≡ false → m .epoch ≤ d → vectorsAt d (stateOf m) ≡ vectorsAt (m .epoch) (stateOf m)
+pub later-vectors : (m : VersionManagerInner) (d : ℕ) → badInner m ≡ false → m .epoch ≤ d → vectorsAt d (stateOf m) ≡ vectorsAt (m .epoch) (stateOf m)
 later-vectors m d g h = still-shows (m .epoch) d _ (stateOf m .vectors) h (all-map (stateOf m .vectors) (within-of (m .epoch) _) (allOf-all _ (stateOf m .vectors) (sound-of m g .vectors)))
 
 -- what a manager shows of each epoch before and after a commit that makes the epoch e + 1, beside g of the record's sets

@@ -21,7 +21,7 @@ use Rattle.version_state.proofs.Facts.{Ordered}
 use Rattle.operations.specs.Effect.{applied}
 use Rattle.operations.specs.Judge.{isShown, opRules}
 use Rattle.operations.specs.Steps.{left, stepsOf}
-use Rattle.commit.proofs.Stepwise.{ordered-applied}
+use Rattle.operations.proofs.Keeps.{ordered-applied}
 use Rattle.plain_record.specs.Sets.{itself}
 use Rattle.plain_record.specs.Plain.{Waiting, byEpochAndPair, deletions, await}
 use Rattle.plain_record.specs.Claim.{waitingIn}

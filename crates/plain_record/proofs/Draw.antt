@@ -9,8 +9,9 @@ use Rattle.lists.specs.Keyed.{allOf}
 use Rattle.lists.proofs.Keyed.{all-map, allOf-all, all-allOf}
 use Rattle.ids.specs.declared.refusal.Verdict.{Verdict}
 use Rattle.ids.specs.Answers.{Told}
-use Rattle.version_state.specs.State.{State, stateOf, HandsBack}
+use Rattle.version_state.specs.State.{State}
 use Rattle.pins.specs.declared.PinBook.{PinBook}
+use Rattle.version_manager.specs.Managers.{heldBy, HandsBack}
 use Rattle.version_manager.specs.Draw.{rowsetVerdict, vectorVerdict, rowsetDrawn, vectorDrawn}
 use Rattle.version_manager.proofs.Laws.{draw-laws}
 use Rattle.plain_record.specs.Calls.{drawRowset, drawVector}
@@ -59,21 +60,21 @@ module _ (w : World) (r : Record) (t : Told) (l : List (List ℕ)) (v : World) (
   pub draw-rowset-kept : DrewRowset port w t l v → Inv v (turn drawRowset (isAccepted t) r)
   draw-rowset-kept d =
       let m = w .manager in
-      let s = stateOf (w .manager .inner) in
+      let s = heldBy (w .manager) in
       subst (λ (u : World). Inv u (turn drawRowset (isAccepted t) r)) (sym (d .after))
       (by-verdict (λ a. Inv (world (d .result .manager) (w .book) (w .file) (cond a (w .file) (w .torn))) (turn drawRowset a r))
       (rowsetVerdict m) (s .nextRowset ∷ []) t (d .told ∙ d .says .answer)
-      (λ a. let h = subst (λ (x : Verdict). HandsBack x (m .inner) (rowsetDrawn s) (d .result .manager .inner)) a (d .says .manager) in
+      (λ a. let h = subst (λ (x : Verdict). HandsBack x m (rowsetDrawn s) (d .result .manager)) a (d .says .manager) in
       accepted-stands (d .result .manager) (w .book) (w .file) (rowsetDrawn s) (r .whole) (r .place + 1) (draw-laws .rowset m (d .result) (d .says) a) (h .state) (stands-rowset s (w .book) (w .file) (r .whole) (stands-of w r i)))
-      (λ k a. refused-stands w r (d .result .manager) (w .book) (subst (λ (x : Verdict). HandsBack x (m .inner) (rowsetDrawn s) (d .result .manager .inner)) a (d .says .manager)) refl i))
+      (λ k a. refused-stands w r (d .result .manager) (w .book) (subst (λ (x : Verdict). HandsBack x m (rowsetDrawn s) (d .result .manager)) a (d .says .manager)) refl i))
 
   pub draw-vector-kept : DrewVector port w t l v → Inv v (turn drawVector (isAccepted t) r)
   draw-vector-kept d =
       let m = w .manager in
-      let s = stateOf (w .manager .inner) in
+      let s = heldBy (w .manager) in
       subst (λ (u : World). Inv u (turn drawVector (isAccepted t) r)) (sym (d .after))
       (by-verdict (λ a. Inv (world (d .result .manager) (w .book) (w .file) (cond a (w .file) (w .torn))) (turn drawVector a r))
       (vectorVerdict m) (s .nextVector ∷ []) t (d .told ∙ d .says .answer)
-      (λ a. let h = subst (λ (x : Verdict). HandsBack x (m .inner) (vectorDrawn s) (d .result .manager .inner)) a (d .says .manager) in
+      (λ a. let h = subst (λ (x : Verdict). HandsBack x m (vectorDrawn s) (d .result .manager)) a (d .says .manager) in
       accepted-stands (d .result .manager) (w .book) (w .file) (vectorDrawn s) (r .whole) (r .place + 1) (draw-laws .vector m (d .result) (d .says) a) (h .state) (stands-vector s (w .book) (w .file) (r .whole) (stands-of w r i)))
-      (λ k a. refused-stands w r (d .result .manager) (w .book) (subst (λ (x : Verdict). HandsBack x (m .inner) (vectorDrawn s) (d .result .manager .inner)) a (d .says .manager)) refl i))
+      (λ k a. refused-stands w r (d .result .manager) (w .book) (subst (λ (x : Verdict). HandsBack x m (vectorDrawn s) (d .result .manager)) a (d .says .manager)) refl i))

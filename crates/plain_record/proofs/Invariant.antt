@@ -6,9 +6,9 @@ use Prim.Native.Nat.{ℕ, _≤_}
 use lib.ListN.{length}
 use Rattle.lists.specs.Keyed.{allOf}
 use Rattle.snapshot.specs.Tables.{TableEntry}
-use Rattle.version_state.specs.State.{State, stateOf, pairsAt, vectorsAt}
-use Rattle.version_state.specs.Sound.{badManager}
+use Rattle.version_state.specs.State.{State, pairsAt, vectorsAt}
 use Rattle.pins.specs.Book.{pinsOf, badBook, bound}
+use Rattle.version_manager.specs.Managers.{heldBy, badManager}
 use Rattle.replay.specs.Replay.{given, replayOf}
 use Rattle.recovery.specs.Sets.{setsOf}
 use Rattle.recovery.specs.Holds as manifest
@@ -40,17 +40,17 @@ pub record Torn (f : List ℕ) (p : Plain) : Type 0 where
   pub next : allOf (belowNext state) (p .added) ≡ true
 
 pub record Inv (w : World) (r : Record) : Type 0 where
-  pub sound : badManager (w .manager .inner) ≡ false
+  pub sound : badManager (w .manager) ≡ false
   pub book : badBook (w .manager .inner .epoch) (w .book) ≡ false
   pub epoch : w .manager .inner .epoch ≡ epochOf (r .whole)
-  pub tables : map plainTable (stateOf (w .manager .inner) .tables) ≡ r .whole .now .tables
+  pub tables : map plainTable (heldBy (w .manager) .tables) ≡ r .whole .now .tables
   -- every epoch from the vacuum's bound on, those to come too
-  pub pairs : (d : ℕ) → bound (w .manager .inner .epoch) (pinsOf (w .book)) ≤ d → pairsAt d (stateOf (w .manager .inner)) ≡ setsAt d (r .whole) .pairs
-  pub vectors : (d : ℕ) → bound (w .manager .inner .epoch) (pinsOf (w .book)) ≤ d → vectorsAt d (stateOf (w .manager .inner)) ≡ setsAt d (r .whole) .vectors
+  pub pairs : (d : ℕ) → bound (w .manager .inner .epoch) (pinsOf (w .book)) ≤ d → pairsAt d (heldBy (w .manager)) ≡ setsAt d (r .whole) .pairs
+  pub vectors : (d : ℕ) → bound (w .manager .inner .epoch) (pinsOf (w .book)) ≤ d → vectorsAt d (heldBy (w .manager)) ≡ setsAt d (r .whole) .vectors
   pub pins : map pinsIn (pinsOf (w .book)) ≡ r .whole .pinned
-  pub waiting : waitingIn (stateOf (w .manager .inner)) ≡ waitingOf (r .whole)
-  pub next : allOf (belowNext (stateOf (w .manager .inner))) (r .whole .added) ≡ true
-  pub file : Filed (w .file) (stateOf (w .manager .inner)) (r .whole)
+  pub waiting : waitingIn (heldBy (w .manager)) ≡ waitingOf (r .whole)
+  pub next : allOf (belowNext (heldBy (w .manager))) (r .whole .added) ≡ true
+  pub file : Filed (w .file) (heldBy (w .manager)) (r .whole)
   pub torn : Torn (w .torn) (r .torn)
 
 -- a turn keeps it, and its answer is as claimed

@@ -7,11 +7,12 @@ use native.Mathlib.Omega.{arith}
 use Rattle.lists.proofs.Tests.{clash}
 use Rattle.ids.specs.declared.refusal.Verdict.{Verdict}
 use Rattle.ids.specs.Answers.{Told, told}
-use Rattle.version_state.specs.State.{State, stateOf}
+use Rattle.version_state.specs.State.{State}
 use Rattle.pins.specs.declared.PinBook.{PinBook}
 use Rattle.pins.specs.Book.{pinsOf, Keeps, badBook, bound}
 use Rattle.pins.proofs.Bound.{bound-le}
 use Rattle.pins.proofs.Facts.{good-book}
+use Rattle.version_manager.specs.Managers.{heldBy}
 use Rattle.pinning.specs.Counts.{pinsAt, withPin}
 use Rattle.pinning.specs.Says.{BookAfter, pinVerdict}
 use Rattle.pinning.proofs.Laws.{pin-laws}
@@ -47,14 +48,14 @@ module _ (w : World) (r : Record) (t : Told) (l : List (List ℕ)) (v : World) (
   epoch = w .manager .inner .epoch
 
   stands-pinned : Keeps (d .book) (withPin epoch (pinsOf (w .book)))
-      → Stands (stateOf (w .manager .inner)) (d .book) (w .file) (withPins (onePin (epochOf (r .whole)) (r .whole .pinned)) (r .whole))
+      → Stands (heldBy (w .manager)) (d .book) (w .file) (withPins (onePin (epochOf (r .whole)) (r .whole .pinned)) (r .whole))
   stands-pinned k =
       let g = good-book epoch (w .book) (i .book) in
       let e : map pinsIn (pinsOf (d .book)) ≡ onePin (epochOf (r .whole)) (r .whole .pinned) =
       ap (map pinsIn) (k .pins) ∙ with-pin epoch (pinsOf (w .book)) (g .valid) ∙ ap₂ onePin (i .epoch) (i .pins) in
       let h : bound epoch (pinsOf (w .book)) ≤ bound epoch (pinsOf (d .book)) =
       rw (k .pins) (bound-recounted epoch epoch (pinsAt epoch (pinsOf (w .book)) + 1) (pinsOf (w .book)) (bound-le epoch (pinsOf (w .book))) (bound-le epoch (pinsOf (w .book)))) in
-      stands-pins (stateOf (w .manager .inner)) (w .book) (d .book) (w .file) (onePin (epochOf (r .whole)) (r .whole .pinned)) (r .whole) (stands-of w r i)
+      stands-pins (heldBy (w .manager)) (w .book) (d .book) (w .file) (onePin (epochOf (r .whole)) (r .whole .pinned)) (r .whole) (stands-of w r i)
       (pin-laws .pin (w .manager) (w .book) (d .answer) (d .book) (d .says) (i .book)) e h
 
   pub pin-kept : Inv v (turn pin (isAccepted t) r)
@@ -62,7 +63,7 @@ module _ (w : World) (r : Record) (t : Told) (l : List (List ℕ)) (v : World) (
       subst (λ (u : World). Inv u (turn pin (isAccepted t) r)) (sym (d .after))
       (by-verdict (λ a. Inv (world (w .manager) (d .book) (w .file) (cond a (w .file) (w .torn))) (turn pin a r))
       (pinVerdict (w .manager) (w .book)) (epoch ∷ []) t (d .told ∙ d .says .answer)
-      (λ a. accepted-stands (w .manager) (d .book) (w .file) (stateOf (w .manager .inner)) (withPins (onePin (epochOf (r .whole)) (r .whole .pinned)) (r .whole)) (r .place + 1) (i .sound) refl
+      (λ a. accepted-stands (w .manager) (d .book) (w .file) (heldBy (w .manager)) (withPins (onePin (epochOf (r .whole)) (r .whole .pinned)) (r .whole)) (r .place + 1) (i .sound) refl
       (stands-pinned (subst (λ (x : Verdict). BookAfter x (w .book) (withPin epoch (pinsOf (w .book))) (d .book)) a (d .says .book))))
       (λ k a. refused-stands w r (w .manager) (d .book) refl (subst (λ (x : Verdict). BookAfter x (w .book) (withPin epoch (pinsOf (w .book))) (d .book)) a (d .says .book)) i))
 

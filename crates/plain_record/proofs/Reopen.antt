@@ -17,7 +17,6 @@ use Rattle.ids.specs.declared.refusal.Verdict.the-variants.{Accepted, Refused}
 use Rattle.ids.specs.declared.refusal.Refusal.the-variants.{OutputTooShort}
 use Rattle.snapshot.specs.Entries.{Entry, byIds, byDeletion, waits}
 use Rattle.version_state.specs.State.{State, start, stateOf, withEpoch, Hands, pairsAt, vectorsAt}
-use Rattle.version_state.specs.Sound.{badManager}
 use Rattle.ids.specs.Limits.{longestManifest}
 use Rattle.pins.specs.declared.PinBook.{PinBook}
 use Rattle.pins.specs.Book.{PinEntry, pinsOf, badBook, bound, Keeps}

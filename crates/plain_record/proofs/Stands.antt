@@ -13,13 +13,13 @@ use Rattle.ids.specs.declared.refusal.Verdict.{Verdict}
 use Rattle.ids.specs.declared.refusal.Verdict.the-variants.{Accepted, Refused}
 use Rattle.ids.specs.Refusals.{numberOf}
 use Rattle.ids.specs.Answers.{Told, told}
-use Rattle.version_state.specs.State.{State, stateOf, pairsAt, vectorsAt}
-use Rattle.version_state.specs.Sound.{badManager}
+use Rattle.version_state.specs.State.{State, pairsAt, vectorsAt}
 use Rattle.version_state.proofs.Facts.{sound-of}
 use Rattle.pins.specs.declared.PinBook.{PinBook}
 use Rattle.pins.specs.Book.{pinsOf, badBook, bound}
 use Rattle.pins.proofs.Bound.{bound-le}
 use Rattle.version_manager.specs.declared.VersionManager.{VersionManager}
+use Rattle.version_manager.specs.Managers.{heldBy, badManager}
 use Rattle.plain_record.specs.Sets.{Sets, sets}
 use Rattle.plain_record.specs.Plain.{Plain, epochOf, setsAt, Record, recorded}
 use Rattle.plain_record.specs.Run.{World, world, isAccepted}
@@ -40,11 +40,11 @@ pub record Stands (s : State) (b : PinBook) (f : List ℕ) (p : Plain) : Type 0 
   pub next : allOf (belowNext s) (p .added) ≡ true
   pub file : Filed f s p
 
-pub stands-of : (w : World) (r : Record) → Inv w r → Stands (stateOf (w .manager .inner)) (w .book) (w .file) (r .whole)
+pub stands-of : (w : World) (r : Record) → Inv w r → Stands (heldBy (w .manager)) (w .book) (w .file) (r .whole)
 stands-of w r i =
     record { book = i .book; epoch = i .epoch; tables = i .tables; pairs = i .pairs; vectors = i .vectors; pins = i .pins; waiting = i .waiting; next = i .next; file = i .file }
 
-pub of-stands : (m : VersionManager) (b : PinBook) (f t : List ℕ) (p q : Plain) (n : ℕ) → badManager (m .inner) ≡ false → Stands (stateOf (m .inner)) b f p → Torn t q
+pub of-stands : (m : VersionManager) (b : PinBook) (f t : List ℕ) (p q : Plain) (n : ℕ) → badManager m ≡ false → Stands (heldBy m) b f p → Torn t q
     → Inv (world m b f t) (recorded p q n)
 of-stands m b f t p q n good s k =
     record { sound = good; book = s .book; epoch = s .epoch; tables = s .tables; pairs = s .pairs; vectors = s .vectors; pins = s .pins; waiting = s .waiting; next = s .next; file = s .file; torn = k }
@@ -61,14 +61,14 @@ shows-now s b f p k =
     λ i. sets (k .tables i) (x i) (y i)
 
 -- an accepted call that hands on a manager in the state s
-pub accepted-stands : (m : VersionManager) (b : PinBook) (f : List ℕ) (s : State) (p : Plain) (n : ℕ) → badManager (m .inner) ≡ false → stateOf (m .inner) ≡ s → Stands s b f p
+pub accepted-stands : (m : VersionManager) (b : PinBook) (f : List ℕ) (s : State) (p : Plain) (n : ℕ) → badManager m ≡ false → heldBy m ≡ s → Stands s b f p
     → Inv (world m b f f) (recorded p p n)
 accepted-stands m b f s p n good e k =
     let q = subst (λ (u : State). Stands u b f p) (sym e) k in
-    of-stands m b f f p p n good q (landed f (stateOf (m .inner)) p (sound-of (m .inner) good .manifest) (shows-now (stateOf (m .inner)) b f p q) (q .file))
+    of-stands m b f f p p n good q (landed f (heldBy m) p (sound-of (m .inner) good .manifest) (shows-now (heldBy m) b f p q) (q .file))
 
 -- after a refused call all stands as it stood, but the place
-pub inv-stays : (w v : World) (r : Record) (n : ℕ) → v .manager .inner ≡ w .manager .inner → v .book ≡ w .book → v .file ≡ w .file → v .torn ≡ w .torn
+pub inv-stays : (w v : World) (r : Record) (n : ℕ) → v .manager ≡ w .manager → v .book ≡ w .book → v .file ≡ w .file → v .torn ≡ w .torn
     → Inv w r → Inv v (recorded (r .whole) (r .torn) n)
 inv-stays w v r n m b f t i =
     record {
@@ -85,7 +85,7 @@ inv-stays w v r n m b f t i =
       torn = rw t (i .torn);
     }
 
-pub refused-stands : (w : World) (r : Record) (m : VersionManager) (b : PinBook) → m .inner ≡ w .manager .inner → b ≡ w .book → Inv w r
+pub refused-stands : (w : World) (r : Record) (m : VersionManager) (b : PinBook) → m ≡ w .manager → b ≡ w .book → Inv w r
     → Inv (world m b (w .file) (w .torn)) (recorded (r .whole) (r .torn) (r .place + 1))
 refused-stands w r m b e h i = inv-stays w (world m b (w .file) (w .torn)) r (r .place + 1) e h refl refl i
 

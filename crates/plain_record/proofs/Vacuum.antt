@@ -2,31 +2,33 @@
 use mathlib.Core.Path.{_≡_, refl, sym, ap, subst, _∙_}
 use mathlib.Core.Bool.{Bool, true, false, cond, not, _&&_}
 use mathlib.Core.List.{List, [], _∷_, map}
-use Prim.Native.Nat.{ℕ, _+_, _≤_}
+use Prim.Native.Nat.{ℕ, zero, suc, _+_, _≤_}
 use native.Mathlib.Omega.{arith}
 use lib.Dec.{leb, ltb}
-use lib.ListN.{length, take, drop, getD, length-map}
+use lib.ListN.{length, drop, getD, length-map}
 use lib.Seq.{take-at}
 use borrow.Author.Tests.{leb-true}
 use Rattle.lists.specs.Keyed.{keep, placed, arranged}
 use Rattle.lists.specs.Written.{over}
 use Rattle.lists.proofs.Tests.{by-cases, clash, both}
-use Rattle.lists.proofs.Keyed.{All, all-map, all-any, allOf-all, all-keep, all-mapped, all-placed, keep-same, keep-keep, keep-map, anyOf-map, sorted-arranged, keep-placed, keep-placed-out}
+use Rattle.lists.proofs.Keyed.{All, all-map, all-any, allOf-all, all-keep, all-placed, keep-same, keep-keep, keep-map, anyOf-map, sorted-arranged, keep-placed, keep-placed-out}
+use Rattle.columns.specs.Rows.{rowsFrom, rows}
 use Rattle.ids.specs.declared.refusal.Verdict.{Verdict}
 use Rattle.ids.specs.declared.refusal.Verdict.the-variants.{Accepted, Refused}
 use Rattle.ids.specs.Answers.{Told, told, after}
-use Rattle.snapshot.specs.declared.rowsets.Rowset.{Rowset}
+use Rattle.snapshot.specs.Views.{rowsetsOf}
 use Rattle.snapshot.specs.Entries.{Entry, goneAt, goneBy, waits, byDeletion, belowNext, within, field}
-use Rattle.snapshot.specs.Views.{rowsetEntry}
 use Rattle.version_state.specs.declared.VersionManagerInner.{VersionManagerInner}
-use Rattle.version_state.specs.State.{State, stateOf, HandsBack}
+use Rattle.version_state.specs.State.{State, stateOf}
 use Rattle.version_state.proofs.Facts.{sound-of}
 use Rattle.pins.specs.Book.{PinEntry, pinsOf, bound}
 use Rattle.pins.specs.Book as pins
 use Rattle.pins.proofs.Bound.{bound-le, free-is}
 use Rattle.vacuum.specs.LetGo.{vacuumList, staysBy, vacuumed}
-use Rattle.vacuum.specs.Says.{boundOf, listOf, vacuumVerdict}
+use Rattle.vacuum.specs.Says.{boundOf, listOf}
 use Rattle.vacuum.proofs.Laws.{pairs-after, vectors-after, vacuum-sound}
+use Rattle.version_manager.specs.Managers.{heldBy, HandsBack}
+use Rattle.version_manager.specs.Vacuum.{vacuumVerdict}
 use Rattle.recovery.specs.Sets.{setsOf}
 use Rattle.plain_record.specs.Calls.{vacuum}
 use Rattle.plain_record.specs.Plain.{Pins, Waiting, byEpochAndPair, Plain, blocked, listed, swept, Record, turn}
@@ -142,27 +144,31 @@ pub pairs-written : (l : List Entry) (ts rs : List ℕ) → All TwoIds l → pai
 pairs-written l ts rs h =
     rw (take-at (field 0 l) (drop (length (field 0 l)) ts) (length l) (length-map l _), take-at (field 1 l) (drop (length (field 1 l)) rs) (length l) (length-map l _)) (paired-fields l h)
 
+rows-all : {A : Type 0} (f : ℕ → A) (P : A → Type 0) → ((i : ℕ) → P (f i)) → (i n : ℕ) → All P (rowsFrom f i n)
+rows-all f P h i zero = tt
+rows-all f P h i (suc n) = (h i, rows-all f P h (suc i) n)
+
 pub two-ids : (m : VersionManagerInner) (b : ℕ) → All TwoIds (vacuumList b (stateOf m))
+unfolding rows
 two-ids m b =
-    let l = take (m .rowsets .count) (m .rowsets .items) in
-    all-arranged byDeletion TwoIds (keep (goneBy b) (map rowsetEntry l))
-    (all-keep TwoIds (goneBy b) (map rowsetEntry l) (all-mapped TwoIds rowsetEntry l (all-any l (λ (x : Rowset). refl))))
+    let l = rowsetsOf (m .rowsets) in
+    all-arranged byDeletion TwoIds (keep (goneBy b) l) (all-keep TwoIds (goneBy b) l (rows-all _ TwoIds (λ i. refl) 0 (m .rowsets .count)))
 
 module _ (w : World) (r : Record) (t : Told) (l : List (List ℕ)) (v : World) (ts rs : List ℕ) (i : Inv w r) (d : DidVacuum port w t l v ts rs) where
   abbrev inner : VersionManagerInner
   inner = w .manager .inner
 
   abbrev to : ℕ
-  to = boundOf inner (w .book)
+  to = boundOf (heldBy (w .manager)) (w .book)
 
   abbrev swept-state : State
   swept-state = vacuumed to (stateOf inner)
 
   abbrev verdict : Verdict
-  verdict = vacuumVerdict inner (w .book) (length ts) (length rs)
+  verdict = vacuumVerdict (w .manager) (w .book) (length ts) (length rs)
 
   abbrev Handed : Verdict → Type 0
-  Handed x = HandsBack x inner swept-state (d .result .manager .inner)
+  Handed x = HandsBack x (w .manager) swept-state (d .result .manager)
 
   -- by 29
   deletions-below : All (λ (x : Entry). x .deleted ≤ inner .epoch) (stateOf inner .pairs)
@@ -193,23 +199,23 @@ module _ (w : World) (r : Record) (t : Told) (l : List (List ℕ)) (v : World) (
         file = record { state = i .file .state; holds = i .file .holds; same = sets-stay ∙ i .file .same; long = i .file .long; next = i .file .next };
       }
 
-  tells : t ≡ told verdict (length (listOf inner (w .book)) ∷ [])
+  tells : t ≡ told verdict (length (listOf (heldBy (w .manager)) (w .book)) ∷ [])
   tells = d .told ∙ d .says .answer
 
   pub vacuum-kept : Inv v (turn (vacuum ts rs) (isAccepted t) r)
   vacuum-kept =
       subst (λ (u : World). Inv u (turn (vacuum ts rs) (isAccepted t) r)) (sym (d .after))
       (by-verdict (λ a. Inv (world (d .result .manager) (w .book) (w .file) (cond a (w .file) (w .torn))) (turn (vacuum ts rs) a r))
-      verdict (length (listOf inner (w .book)) ∷ []) t tells
-      (λ a. let h = subst Handed a (d .says .inner) in
+      verdict (length (listOf (heldBy (w .manager)) (w .book)) ∷ []) t tells
+      (λ a. let h = subst Handed a (d .says .manager) in
       accepted-stands (d .result .manager) (w .book) (w .file) swept-state (swept (r .whole)) (r .place + 1)
       (vacuum-sound inner (d .result .manager .inner) to (bound-le (inner .epoch) (pinsOf (w .book))) (i .sound) h) (h .state) stands-swept)
-      (λ k a. refused-stands w r (d .result .manager) (w .book) (subst Handed a (d .says .inner)) refl i))
+      (λ k a. refused-stands w r (d .result .manager) (w .book) (subst Handed a (d .says .manager)) refl i))
 
-  lists-by : (c : Verdict) (ts′ rs′ : List ℕ) → t ≡ told c (length (listOf inner (w .book)) ∷ []) → ts′ ≡ after c (over (field 0 (listOf inner (w .book))) ts) ts
-      → rs′ ≡ after c (over (field 1 (listOf inner (w .book))) rs) rs → isAccepted t ≡ true → listedIf t ts′ rs′ ≡ map (λ (x : Waiting). x .pair) (listed (r .whole))
+  lists-by : (c : Verdict) (ts′ rs′ : List ℕ) → t ≡ told c (length (listOf (heldBy (w .manager)) (w .book)) ∷ []) → ts′ ≡ after c (over (field 0 (listOf (heldBy (w .manager)) (w .book))) ts) ts
+      → rs′ ≡ after c (over (field 1 (listOf (heldBy (w .manager)) (w .book))) rs) rs → isAccepted t ≡ true → listedIf t ts′ rs′ ≡ map (λ (x : Waiting). x .pair) (listed (r .whole))
   lists-by Accepted ts′ rs′ e f g a =
-      rw (e, f, g) (pairs-written (listOf inner (w .book)) ts rs (two-ids inner to)
+      rw (e, f, g) (pairs-written (listOf (heldBy (w .manager)) (w .book)) ts rs (two-ids inner to)
       ∙ list-pairs (inner .epoch) (pinsOf (w .book)) (stateOf inner) deletions-below (r .whole) (i .pins) (i .waiting))
   lists-by (Refused q) ts′ rs′ e f g a = clash a (rw e (refused-number q))
 

@@ -14,11 +14,13 @@ use Rattle.ids.specs.Names.{longestName}
 use Rattle.ids.specs.Verdicts.{_⇒_, judged}
 use Rattle.ids.specs.Answers.{told, after}
 use Rattle.snapshot.specs.Entries.{Entry, byDeletion, waits}
-use Rattle.version_state.specs.State.{State, stateOf}
+use Rattle.version_state.specs.State.{State}
 use Rattle.pins.specs.Book.{PinEntry, pinsOf, mayShow}
 use Rattle.show.specs.declared.ShowAnswer.{ShowAnswer}
 use Rattle.show.specs.Names.{padded}
-use Rattle.show.specs.Says.{showTold, column, ShowTablesSays, ShowPairsSays, ShowVectorsSays}
+use Rattle.show.specs.Says.{showTold, shownField}
+use Rattle.version_manager.specs.Managers.{heldBy}
+use Rattle.version_manager.specs.Show.{ShowTablesSays, ShowPairsSays, ShowVectorsSays}
 use Rattle.rewrite.specs.Rewritten.{longestRewritten}
 use Rattle.plain_record.specs.Sets.{Table, Sets}
 use Rattle.plain_record.specs.Calls.{Call, drawRowset, drawVector, commit, pin, unpin, vacuum, reopen}
@@ -32,15 +34,15 @@ nineAlone short = judged ((short ⇒ OutputTooShort) ∷ [])
 
 abbrev pub ShowsPairs : World → ℕ → List (List ℕ) → Type 0
 ShowsPairs w d l =
-    (ts rs : List ℕ) (a : ShowAnswer) (ts′ rs′ : List ℕ) → ShowPairsSays (w .manager .inner) (w .book) d ts rs a ts′ rs′
+    (ts rs : List ℕ) (a : ShowAnswer) (ts′ rs′ : List ℕ) → ShowPairsSays (w .manager) (w .book) d ts rs a ts′ rs′
     → let v = nineAlone (ltb (length ts) (length l) || ltb (length rs) (length l)) in
-    (showTold a ≡ told v (length l ∷ [])) × (ts′ ≡ after v (over (column 0 l) ts) ts) × (rs′ ≡ after v (over (column 1 l) rs) rs)
+    (showTold a ≡ told v (length l ∷ [])) × (ts′ ≡ after v (over (shownField 0 l) ts) ts) × (rs′ ≡ after v (over (shownField 1 l) rs) rs)
 
 abbrev pub ShowsVectors : World → ℕ → List (List ℕ) → Type 0
 ShowsVectors w d l =
-    (ts rs vs : List ℕ) (a : ShowAnswer) (ts′ rs′ vs′ : List ℕ) → ShowVectorsSays (w .manager .inner) (w .book) d ts rs vs a ts′ rs′ vs′
+    (ts rs vs : List ℕ) (a : ShowAnswer) (ts′ rs′ vs′ : List ℕ) → ShowVectorsSays (w .manager) (w .book) d ts rs vs a ts′ rs′ vs′
     → let v = nineAlone (ltb (length ts) (length l) || (ltb (length rs) (length l) || ltb (length vs) (length l))) in
-    (showTold a ≡ told v (length l ∷ [])) × (ts′ ≡ after v (over (column 0 l) ts) ts) × (rs′ ≡ after v (over (column 1 l) rs) rs) × (vs′ ≡ after v (over (column 2 l) vs) vs)
+    (showTold a ≡ told v (length l ∷ [])) × (ts′ ≡ after v (over (shownField 0 l) ts) ts) × (rs′ ≡ after v (over (shownField 1 l) rs) rs) × (vs′ ≡ after v (over (shownField 2 l) vs) vs)
 
 -- the names of tables, 32 bytes each
 abbrev pub namesOf : List Table → List ℕ
@@ -49,7 +51,7 @@ namesOf (t ∷ l) = padded (t .name) ++ namesOf l
 
 abbrev pub ShowsTables : World → ℕ → List Table → Type 0
 ShowsTables w d l =
-    (is hs ls ns : List ℕ) (a : ShowAnswer) (is′ hs′ ls′ ns′ : List ℕ) → ShowTablesSays (w .manager .inner) (w .book) d is hs ls ns a is′ hs′ ls′ ns′
+    (is hs ls ns : List ℕ) (a : ShowAnswer) (is′ hs′ ls′ ns′ : List ℕ) → ShowTablesSays (w .manager) (w .book) d is hs ls ns a is′ hs′ ls′ ns′
     → let v = nineAlone (ltb (length is) (length l) || (ltb (length hs) (length l) || (ltb (length ls) (length l) || ltb (length ns) (longestName * length l)))) in
     (showTold a ≡ told v (length l ∷ []))
     × (is′ ≡ after v (over (map (λ (t : Table). t .id) l) is) is)
@@ -81,16 +83,16 @@ belowNext s (vectorId v) = ltb v (s .nextVector)
 
 -- equal after the list
 pub record Agrees (w : World) (p : Plain) : Type 0 where
-  pub epoch : stateOf (w .manager .inner) .epoch ≡ epochOf p
+  pub epoch : heldBy (w .manager) .epoch ≡ epochOf p
   pub tables : ShowsTables w (epochOf p) (p .now .tables)
   -- of the current epoch and of each pinned one
   pub pairs : (d : ℕ) → mayShow (epochOf p) (pinsOf (w .book)) d ≡ true → ShowsPairs w d (setsAt d p .pairs)
   pub vectors : (d : ℕ) → mayShow (epochOf p) (pinsOf (w .book)) d ≡ true → ShowsVectors w d (setsAt d p .vectors)
   pub book : map pinsIn (pinsOf (w .book)) ≡ p .pinned
-  pub waiting : waitingIn (stateOf (w .manager .inner)) ≡ waitingOf p
+  pub waiting : waitingIn (heldBy (w .manager)) ≡ waitingOf p
   pub apart : differ (map (λ (x : Waiting). x .pair) (p .waiting)) ≡ true
   -- next ids exceed every id that a counted commit added
-  pub next : allOf (belowNext (stateOf (w .manager .inner))) (p .added) ≡ true
+  pub next : allOf (belowNext (heldBy (w .manager))) (p .added) ≡ true
 
 -- each answer, where the record was r before the call
 abbrev pub AnswerBy : Record → Event → Call → Type 0

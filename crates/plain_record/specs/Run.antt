@@ -2,23 +2,22 @@
 use mathlib.Core.Path.{_≡_}
 use mathlib.Core.Bool.{Bool, true, false, cond}
 use mathlib.Core.List.{List, [], _∷_, _++_}
-use Prim.Native.Nat.{ℕ, _-_}
+use Prim.Native.Nat.{ℕ, _-_, _≤_}
 use lib.Dec.{eqb}
-use lib.ListN.{getD, take}
+use lib.ListN.{length, getD, take}
 use Rattle.ids.specs.Answers.{Told}
-use Rattle.manifest.specs.declared.operation.Batch.{Batch}
-use Rattle.manifest.specs.Operations.{Operation, batchOf}
+use Rattle.manifest.specs.Operations.{Operation}
 use Rattle.pins.specs.declared.PinBook.{PinBook}
-use Rattle.commit.specs.Commit.{commitTold, CommitSays}
-use Rattle.vacuum.specs.Says.{vacuumTold, VacuumSays}
 use Rattle.version_manager.specs.declared.VersionManager.{VersionManager}
 use Rattle.version_manager.specs.declared.Opened.{Opened}
 use Rattle.version_manager.specs.declared.DrawnRowset.{DrawnRowset}
 use Rattle.version_manager.specs.declared.DrawnVector.{DrawnVector}
 use Rattle.version_manager.specs.declared.Committed.{Committed}
 use Rattle.version_manager.specs.declared.Vacuumed.{Vacuumed}
-use Rattle.version_manager.specs.Managers.{FreshSays, committedOf, vacuumedOf}
+use Rattle.version_manager.specs.Managers.{FreshSays}
 use Rattle.version_manager.specs.Draw.{rowsetTold, vectorTold, DrawRowsetSays, DrawVectorSays}
+use Rattle.version_manager.specs.Commit.{commitTold, CommitSays}
+use Rattle.version_manager.specs.Vacuum.{vacuumTold, VacuumSays}
 use Rattle.pinning.specs.declared.PinAnswer.{PinAnswer}
 use Rattle.pinning.specs.declared.UnpinAnswer.{UnpinAnswer}
 use Rattle.pinning.specs.Says.{pinTold, unpinTold, PinSays, UnpinSays}
@@ -31,7 +30,7 @@ pub record Steps : Type 1 where
   pub fresh : Opened → Type 0
   pub drawRowset : VersionManager → DrawnRowset → Type 0
   pub drawVector : VersionManager → DrawnVector → Type 0
-  pub commit : VersionManager → Batch → List ℕ → Committed → List ℕ → Type 0
+  pub commit : VersionManager → ℕ → List Operation → List ℕ → Committed → List ℕ → Type 0
   pub pin : VersionManager → PinBook → PinAnswer → PinBook → Type 0
   pub unpin : VersionManager → ℕ → PinBook → UnpinAnswer → PinBook → Type 0
   pub vacuum : VersionManager → PinBook → List ℕ → List ℕ → Vacuumed → List ℕ → List ℕ → Type 0
@@ -44,10 +43,10 @@ port =
       fresh = FreshSays;
       drawRowset = DrawRowsetSays;
       drawVector = DrawVectorSays;
-      commit = λ m b out r out′. CommitSays (m .inner) b out (committedOf r) out′;
+      commit = CommitSays;
       pin = PinSays;
       unpin = UnpinSays;
-      vacuum = λ m b ts rs r ts′ rs′. VacuumSays (m .inner) b ts rs (vacuumedOf r) ts′ rs′;
+      vacuum = VacuumSays;
       reopen = ReopenSays;
     }
 
@@ -118,11 +117,12 @@ module _ (S : Steps) (w : World) (t : Told) (l : List (List ℕ)) (v : World) wh
     pub after : v ≡ onward (result .manager) (w .book) t w
 
   pub record DidCommit (os : List Operation) (out : List ℕ) (missing : ℕ) : Type 0 where
-    pub batch : Batch
-    pub operations : batchOf batch ≡ os
+    -- the count that came with the operations: a batch may hold fewer than its count says
+    pub count : ℕ
+    pub counted : length os ≤ count
     pub result : Committed
     pub left : List ℕ
-    pub says : S .commit (w .manager) batch out result left
+    pub says : S .commit (w .manager) count os out result left
     pub told : t ≡ commitTold (result .answer)
     pub none : l ≡ []
     pub after : v ≡ afterCommit (result .manager) t left missing w

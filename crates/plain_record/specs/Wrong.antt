@@ -7,26 +7,26 @@ use lib.ListN.{length}
 use Rattle.lists.specs.Order.{same}
 use Rattle.lists.specs.Written.{over}
 use Rattle.text.specs.Class.{newline}
-use Rattle.ids.specs.Verdicts.{judged}
+use Rattle.ids.specs.declared.refusal.Refusal.the-variants.{BadManager}
+use Rattle.ids.specs.Verdicts.{_⇒_, judged}
 use Rattle.ids.specs.Answers.{told, after}
-use Rattle.manifest.specs.declared.operation.Batch.{Batch}
-use Rattle.manifest.specs.Operations.{Operation, end, batchOf}
+use Rattle.manifest.specs.Operations.{Operation, end}
 use Rattle.manifest.specs.Lines.{lineText}
 use Rattle.manifest.specs.Split.{restOn, lines, joined}
 use Rattle.snapshot.specs.Entries.{field}
-use Rattle.version_state.specs.declared.VersionManagerInner.{VersionManagerInner}
-use Rattle.version_state.specs.State.{State, stateOf, withTables, withPairs, withVectors, withNext, HandsBack}
+use Rattle.version_state.specs.State.{State, withTables, withPairs, withVectors, withNext}
 use Rattle.pins.specs.declared.PinBook.{PinBook}
 use Rattle.pins.specs.Book.{PinEntry, pinsOf, bound}
 use Rattle.operations.specs.Effect.{applied}
 use Rattle.operations.specs.Steps.{Outcome, left, stopped, onward}
-use Rattle.commit.specs.Commit.{firstRules, finishOf, commitOf, CommitIs}
+use Rattle.commit.specs.Commit.{firstRules, finishOf}
 use Rattle.vacuum.specs.LetGo.{vacuumList, vacuumed}
-use Rattle.vacuum.specs.Says.{vacuumTold, vacuumVerdict}
 use Rattle.version_manager.specs.declared.VersionManager.{VersionManager}
 use Rattle.version_manager.specs.declared.Committed.{Committed}
 use Rattle.version_manager.specs.declared.Vacuumed.{Vacuumed}
-use Rattle.version_manager.specs.Managers.{committedOf}
+use Rattle.version_manager.specs.Managers.{heldBy, badManager, HandsBack}
+use Rattle.version_manager.specs.Commit.{outcomeOf, CommitEnds}
+use Rattle.version_manager.specs.Vacuum.{vacuumTold, vacuumVerdict}
 use Rattle.pinning.specs.declared.PinAnswer.{PinAnswer}
 use Rattle.pinning.specs.Counts.{withPin}
 use Rattle.pinning.specs.Says.{current, BookAfter, pinVerdict, pinTold}
@@ -37,7 +37,7 @@ use Rattle.plain_record.specs.Run.{Steps, port}
 use Rattle.plain_record.specs.Claim.{Claim}
 
 -- the port with one call replaced
-abbrev pub committing : (VersionManager → Batch → List ℕ → Committed → List ℕ → Type 0) → Steps
+abbrev pub committing : (VersionManager → ℕ → List Operation → List ℕ → Committed → List ℕ → Type 0) → Steps
 committing c =
     record {
       fresh = port .fresh;
@@ -94,22 +94,23 @@ abbrev pub withSets : State → Outcome → Outcome
 withSets old (left s) = left (withVectors (withPairs (withTables s (old .tables)) (old .pairs)) (old .vectors))
 withSets old (stopped k) = stopped k
 
-abbrev pub unchanged : VersionManagerInner → Batch → ℕ → Outcome
-unchanged m b room = withSets (stateOf m) (commitOf m b room)
+abbrev pub unchanged : VersionManager → ℕ → List Operation → ℕ → Outcome
+unchanged m n os room = withSets (heldBy m) (outcomeOf m n os room)
 
 abbrev pub keepsSets : Steps
-keepsSets = committing (λ m b out r out′. CommitIs (unchanged (m .inner) b (length out)) (m .inner) b out (committedOf r) out′)
+keepsSets = committing (λ m n os out r out′. CommitEnds (unchanged m n os (length out)) m os out r out′)
 
 -- a commit judges no operation, so that a pair that waits may be added again
 abbrev pub appliedAt : ℕ → List Operation → State → State
 appliedAt e [] s = s
 appliedAt e (o ∷ os) s = appliedAt e os (applied e o s)
 
-abbrev pub unjudged : VersionManagerInner → Batch → ℕ → Outcome
-unjudged m b room = onward (judged (firstRules m b)) (finishOf (m .epoch + 1) (batchOf b) room (appliedAt (m .epoch + 1) (batchOf b) (stateOf m)))
+abbrev pub unjudged : VersionManager → ℕ → List Operation → ℕ → Outcome
+unjudged m n os room =
+    onward (judged ((badManager m ⇒ BadManager) ∷ firstRules (heldBy m) n)) (finishOf (heldBy m .epoch + 1) os room (appliedAt (heldBy m .epoch + 1) os (heldBy m)))
 
 abbrev pub judgesNothing : Steps
-judgesNothing = committing (λ m b out r out′. CommitIs (unjudged (m .inner) b (length out)) (m .inner) b out (committedOf r) out′)
+judgesNothing = committing (λ m n os out r out′. CommitEnds (unjudged m n os (length out)) m os out r out′)
 
 -- a pin answers the next epoch
 pub record PinsNext (m : VersionManager) (b : PinBook) (a : PinAnswer) (b′ : PinBook) : Type 0 where
@@ -129,10 +130,10 @@ countsNoPin = pinning PinsNothing
 
 -- a vacuum lists and lets go up to an epoch of its own; its verdict is the port's
 pub record VacuumsTo (to : VersionManager → PinBook → ℕ) (m : VersionManager) (b : PinBook) (ts rs : List ℕ) (r : Vacuumed) (ts′ rs′ : List ℕ) : Type 0 where
-  pub answer : vacuumTold (r .answer) ≡ told (vacuumVerdict (m .inner) b (length ts) (length rs)) (length (vacuumList (to m b) (stateOf (m .inner))) ∷ [])
-  pub tables : ts′ ≡ after (vacuumVerdict (m .inner) b (length ts) (length rs)) (over (field 0 (vacuumList (to m b) (stateOf (m .inner)))) ts) ts
-  pub rowsets : rs′ ≡ after (vacuumVerdict (m .inner) b (length ts) (length rs)) (over (field 1 (vacuumList (to m b) (stateOf (m .inner)))) rs) rs
-  pub inner : HandsBack (vacuumVerdict (m .inner) b (length ts) (length rs)) (m .inner) (vacuumed (to m b) (stateOf (m .inner))) (r .manager .inner)
+  pub answer : vacuumTold (r .answer) ≡ told (vacuumVerdict m b (length ts) (length rs)) (length (vacuumList (to m b) (heldBy m)) ∷ [])
+  pub tables : ts′ ≡ after (vacuumVerdict m b (length ts) (length rs)) (over (field 0 (vacuumList (to m b) (heldBy m))) ts) ts
+  pub rowsets : rs′ ≡ after (vacuumVerdict m b (length ts) (length rs)) (over (field 1 (vacuumList (to m b) (heldBy m))) rs) rs
+  pub manager : HandsBack (vacuumVerdict m b (length ts) (length rs)) m (vacuumed (to m b) (heldBy m)) (r .manager)
 
 -- it lists nothing
 abbrev pub listsNothing : Steps

@@ -1,14 +1,13 @@
 -- What a manifest that holds a state is read to, by itself and with a frame after it, whole or torn. Assumes nothing.
 use mathlib.Core.Path.{_≡_, refl, sym, ap, _∙_}
-use mathlib.Core.Bool.{true}
+use mathlib.Core.Bool.{true, false}
 use mathlib.Core.List.{List, [], _++_, map}
 use Prim.Native.Nat.{ℕ, _+_, _≤_, _<_}
 use native.Mathlib.Omega.{arith}
-use lib.ListN.{length, take, length-map, length-take}
+use lib.ListN.{length, take}
 use borrow.Author.Tests.{le-ltb}
 use Rattle.lists.specs.Keyed.{allOf}
-use Rattle.manifest.specs.declared.operation.Batch.{Batch}
-use Rattle.manifest.specs.Operations.{Operation, Line, wellFormed, operationOf, batchOf}
+use Rattle.manifest.specs.Operations.{Operation, Line, wellFormed}
 use Rattle.manifest.specs.Lines.{lineOf}
 use Rattle.manifest.specs.Split.{restOn, lines, linesOn}
 use Rattle.manifest.proofs.Split.{lines-append}
@@ -16,6 +15,7 @@ use Rattle.ids.specs.Limits.{mostOperations, longestManifest}
 use Rattle.frames.specs.Frames.{frameOf}
 use Rattle.version_state.specs.declared.VersionManagerInner.{VersionManagerInner}
 use Rattle.version_state.specs.State.{State, start, withEpoch, stateOf}
+use Rattle.version_state.specs.Sound.{badInner}
 use Rattle.version_state.proofs.Facts.{sound-of}
 use Rattle.operations.specs.Steps.{left}
 use Rattle.commit.specs.Commit.{commitOf}
@@ -66,22 +66,18 @@ torn-replayed src s os k h w few q short =
     ∙ torn-append os (r .0) s (h .frame) (h .line) few (r .1)
     ∙ holds-finished src s h
 
-batch-length : (b : Batch) → b .count ≤ 600 → length (batchOf b) ≤ 600
-batch-length b h = omega (arith, length-map (take (b .count) (b .changes)) operationOf, length-take (b .count) (b .changes), h)
-
 -- an accepted commit of a manager with the same sets
-module _ (src : List ℕ) (s : State) (m : VersionManagerInner) (b : Batch) (room : ℕ) (u : State) (h : Holds src s) (k : setsOf (stateOf m) ≡ setsOf s) (c : commitOf m b room ≡ left u) where
-  a : Accepts m b room u
-  a = accepts m b room u c
+module _ (src : List ℕ) (s : State) (m : VersionManagerInner) (n : ℕ) (os : List Operation) (room : ℕ) (u : State) (h : Holds src s) (k : setsOf (stateOf m) ≡ setsOf s) (g : badInner m ≡ false) (few : length os ≤ n) (c : commitOf (stateOf m) n os room ≡ left u) where
+  a : Accepts (stateOf m) n os room u
+  a = accepts (stateOf m) n os room u c
 
-  went : Went (m .epoch + 1) (batchOf b) (a .done) s
+  went : Went (m .epoch + 1) os (a .done) s
   went =
-      let start = beside-start m s (sound-of m (a .bad)) (holds-read src s h) k in
-      beside-steps (m .epoch + 1) 0 (batchOf b) (stateOf m) (a .done) s (omega arith) start (a .steps)
+      let start = beside-start m s (sound-of m g) (holds-read src s h) k in
+      beside-steps (m .epoch + 1) 0 os (stateOf m) (a .done) s (omega arith) start (a .steps)
 
-  whole-holds : Holds (src ++ frameOf (batchOf b)) (followed (batchOf b) s)
+  whole-holds : Holds (src ++ frameOf os) (followed os s)
   whole-holds =
-      let os = batchOf b in
       let e = m .epoch + 1 in
       let v = appliedAll os s in
       record {
@@ -91,18 +87,18 @@ module _ (src : List ℕ) (s : State) (m : VersionManagerInner) (b : Batch) (roo
         read =
             read-on src (frameOf os) s h
             ∙ ap (λ (ls : List Line). saidRead ls (carried s (h .frame) (h .line))) (frame-lines os (went .well))
-            ∙ whole-append os s (h .frame) (h .line) (batch-length b (a .short)) (went .free) (none-over e (a .done) v (went .beside));
+            ∙ whole-append os s (h .frame) (h .line) (omega (arith, few, a .short)) (went .free) (none-over e (a .done) v (went .beside));
         tables = none-tableless e (a .done) v (went .beside) (a .whole);
         rowsets = none-orphaned e (a .done) v (went .beside) (a .whole);
       }
 
-  whole-sets : setsOf (followed (batchOf b) s) ≡ setsOf u
+  whole-sets : setsOf (followed os s) ≡ setsOf u
   whole-sets =
-      sets-settled (appliedAll (batchOf b) s) (went .beside .read)
+      sets-settled (appliedAll os s) (went .beside .read)
       ∙ sym (went .beside .same)
       ∙ ap setsOf (a .state)
 
-  pub whole-appended : Holds (src ++ frameOf (batchOf b)) (followed (batchOf b) s) × (setsOf (followed (batchOf b) s) ≡ setsOf u)
+  pub whole-appended : Holds (src ++ frameOf os) (followed os s) × (setsOf (followed os s) ≡ setsOf u)
   whole-appended = (whole-holds, whole-sets)
 
 -- a state that the manifest holds, with the manager's sets
@@ -113,10 +109,10 @@ pub record Held (src : List ℕ) (m : VersionManagerInner) : Type 0 where
 
 held : (src : List ℕ) (m : VersionManagerInner) → Appended src m → Held src m
 held _ _ (first m h) = record { state = withEpoch start reopened 0; holds = empty-holds; same = ap setsOf (h .state) }
-held _ _ (committed src m n b room u p c h) =
+held _ _ (committed src m n k os room u p g few c h) =
     let i = held src m p in
-    let w = whole-appended src (i .state) m b room u (i .holds) (i .same) c in
-    record { state = followed (batchOf b) (i .state); holds = w .0; same = ap setsOf (h .state) ∙ sym (w .1) }
+    let w = whole-appended src (i .state) m k os room u (i .holds) (i .same) g few c in
+    record { state = followed os (i .state); holds = w .0; same = ap setsOf (h .state) ∙ sym (w .1) }
 held _ _ (other src m n p q) =
     let i = held src m p in
     record { state = i .state; holds = i .holds; same = q ∙ i .same }

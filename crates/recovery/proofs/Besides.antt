@@ -5,12 +5,14 @@ use mathlib.Core.List.{List, [], _∷_, map}
 use Prim.Native.Nat.{ℕ, _+_, _≤_}
 use native.Mathlib.Omega.{arith}
 use lib.Dec.{leb}
-use lib.ListN.{length, length-map, length-take, take}
+use lib.ListN.{length, length-map}
 use borrow.Author.Tests.{le-leb, leb-false, ltb-true, eqb-true, ne-eqb, not-false}
 use Rattle.lists.specs.Order.{same}
 use Rattle.lists.specs.Keyed.{allOf, has, isAt, put, without, changed}
 use Rattle.lists.proofs.Tests.{join}
 use Rattle.lists.proofs.Keyed.{All, all-map, allOf-all, none-anyOf, anyOf-map, keep-same, length-keep, length-put}
+use Rattle.columns.specs.Rows.{rows}
+use Rattle.columns.proofs.Rows.{rows-length}
 use Rattle.ids.specs.declared.refusal.Verdict.the-variants.{Accepted}
 use Rattle.ids.specs.Verdicts.{judged}
 use Rattle.ids.proofs.Verdicts.{none-judged}
@@ -24,7 +26,8 @@ use Rattle.version_state.proofs.Facts.{Ordered, Sound}
 use Rattle.operations.specs.Effect.{applied}
 use Rattle.operations.specs.Judge.{isLive, opRules}
 use Rattle.operations.specs.Steps.{Outcome, left, stopped, andThen, stepOf, stepsOf}
-use Rattle.commit.proofs.Stepwise.{Below, below-applied, ordered-applied, halt, step-left}
+use Rattle.operations.proofs.Keeps.{Below, below-applied, ordered-applied}
+use Rattle.commit.proofs.Stepwise.{halt, step-left}
 use Rattle.replay.specs.Replay.{reopened, conflicts}
 use Rattle.recovery.specs.Sets.{Sets, sets, unlocked, setsOf}
 use Rattle.recovery.specs.Holds.{appliedAll}
@@ -155,15 +158,15 @@ next-sets m s =
     ap (λ (l : List (List ℕ)). sets (map unlocked (t .tables)) l (vectorsAt (m .epoch + 1) t)) (next-shows (m .epoch) _ (t .pairs) p)
     ∙ ap (λ (l : List (List ℕ)). sets (map unlocked (t .tables)) (pairsAt (m .epoch) t) l) (next-shows (m .epoch) _ (t .vectors) v)
 
-few-view : {A B : Type 0} (f : A → B) (n k : ℕ) (l : List A) → n ≤ k → length (map f (take n l)) ≤ k
-few-view f n k l h = omega (arith, length-map (take n l) f, length-take n l)
+few-rows : {A : Type 0} (f : ℕ → A) (n k : ℕ) → n ≤ k → length (rows f n) ≤ k
+few-rows f n k h = omega (arith, rows-length f n, h)
 
 few-start : (m : VersionManagerInner) → Sound m → Few (stateOf m)
 few-start m s =
     record {
-      tables = few-view _ (m .tables .count) 16 (m .tables .items) (s .fits .tables);
-      pairs = few-view _ (m .rowsets .count) 256 (m .rowsets .items) (s .fits .rowsets);
-      vectors = few-view _ (m .vectors .count) 256 (m .vectors .items) (s .fits .vectors);
+      tables = few-rows _ (m .tables .count) 16 (s .fits .tables);
+      pairs = few-rows _ (m .rowsets .count) 256 (s .fits .rowsets);
+      vectors = few-rows _ (m .vectors .count) 256 (s .fits .vectors);
     }
 
 pub beside-start : (m : VersionManagerInner) (s : State) → Sound m → Read s → setsOf (stateOf m) ≡ setsOf s → Beside (m .epoch + 1) (stateOf m) s

@@ -16,7 +16,7 @@ use Rattle.snapshot.specs.Entries.{Entry, addedAt, deletedAt, goneAt, shownAt, 
 use Rattle.version_state.specs.State.{State, pairsAt, vectorsAt}
 use Rattle.version_state.proofs.Facts.{Ordered}
 use Rattle.operations.specs.Effect.{applied}
-use Rattle.commit.proofs.Stepwise.{ordered-applied}
+use Rattle.operations.proofs.Keeps.{ordered-applied}
 use Rattle.replay.specs.Replay.{Result, refused, given, andThen, Frame, none, opened, Carried, carried, reopened, atStart, conflicts, framed, stands, settled, overLimit, limited, ended, noted, lineRead, linesRead}
 use Rattle.recovery.specs.Sets.{sets, unlocked, setsOf}
 use Rattle.recovery.specs.Holds.{Holds}

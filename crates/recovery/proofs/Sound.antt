@@ -20,7 +20,7 @@ use Rattle.snapshot.specs.Tables.{byTable}
 use Rattle.version_state.specs.declared.VersionManagerInner.{VersionManagerInner}
 use Rattle.ids.specs.Limits.{longestManifest}
 use Rattle.version_state.specs.State.{State, withEpoch, Hands}
-use Rattle.version_state.specs.Sound.{leftBehind, badManager}
+use Rattle.version_state.specs.Sound.{leftBehind, badInner}
 use Rattle.version_state.proofs.Within.{Within, of-within}
 use Rattle.version_state.proofs.Facts.{Ordered, of-sound}
 use Rattle.rewrite.specs.Rewritten.{createOf, addOf, addVectorOf, rewriteOf, rewrittenOf, longestRewritten}
@@ -121,7 +121,7 @@ module _ (s : State) (w : Whole s) where
   complete : leftBehind (s .epoch) s ≡ false
   complete = rw (pairs-shown, vectors-shown, all-allOf _ (s .vectors) owned) (w .tables)
 
-  whole-sound : (m : VersionManagerInner) (n : ℕ) → n ≤ longestManifest → Hands m (withEpoch s (s .epoch) n) → badManager m ≡ false
+  whole-sound : (m : VersionManagerInner) (n : ℕ) → n ≤ longestManifest → Hands m (withEpoch s (s .epoch) n) → badInner m ≡ false
   whole-sound m n h k =
       let q = sym (k .state) in
       of-sound m
@@ -172,7 +172,7 @@ module _ (s : State) (w : Whole s) where
   whole-room : length (rewrittenOf s) ≤ longestRewritten
   whole-room = rewritten-fits s (w .rests .tableCount) (w .rests .pairCount) (w .rests .vectorCount) well-rewrite
 
-pub replay-sound : (src : List ℕ) (s : State) (m : VersionManagerInner) (n : ℕ) → replayOf src ≡ given s → n ≤ longestManifest → Hands m (withEpoch s (s .epoch) n) → badManager m ≡ false
+pub replay-sound : (src : List ℕ) (s : State) (m : VersionManagerInner) (n : ℕ) → replayOf src ≡ given s → n ≤ longestManifest → Hands m (withEpoch s (s .epoch) n) → badInner m ≡ false
 replay-sound src s m n h = whole-sound s (whole-replayed src s h) m n
 
 pub replay-room : (src : List ℕ) (s : State) → replayOf src ≡ given s → length (rewrittenOf s) ≤ longestRewritten

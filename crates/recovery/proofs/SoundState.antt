@@ -20,7 +20,7 @@ use Rattle.version_state.specs.State.{State}
 use Rattle.version_state.proofs.Facts.{Ordered}
 use Rattle.operations.specs.Effect.{applied}
 use Rattle.operations.specs.Judge.{isLive}
-use Rattle.commit.proofs.Stepwise.{ordered-applied}
+use Rattle.operations.proofs.Keeps.{ordered-applied}
 use Rattle.replay.specs.Replay.{reopened, conflicts}
 
 -- each entry to each later one

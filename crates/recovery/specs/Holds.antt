@@ -4,13 +4,13 @@ use mathlib.Core.Bool.{false}
 use mathlib.Core.List.{List, [], _∷_, _++_}
 use Prim.Native.Nat.{ℕ, _≤_}
 use lib.ListN.{length}
-use Rattle.manifest.specs.declared.operation.Batch.{Batch}
-use Rattle.manifest.specs.Operations.{Operation, batchOf}
+use Rattle.manifest.specs.Operations.{Operation}
 use Rattle.manifest.specs.Split.{restOn, lines}
 use Rattle.frames.specs.Frames.{frameOf}
 use Rattle.version_state.specs.declared.VersionManagerInner.{VersionManagerInner}
 use Rattle.ids.specs.Limits.{longestManifest}
 use Rattle.version_state.specs.State.{State, start, stateOf, Hands}
+use Rattle.version_state.specs.Sound.{badInner}
 use Rattle.operations.specs.Effect.{applied}
 use Rattle.operations.specs.Steps.{left}
 use Rattle.commit.specs.Commit.{commitOf}
@@ -38,6 +38,6 @@ followed os s = settled (appliedAll os s)
 -- the bytes that accepted commits hand out for appending, one after another; between commits a call may hand out any manager that shows the same
 pub data Appended : List ℕ → VersionManagerInner → Type 0 where
   first : (m : VersionManagerInner) → Hands m start → Appended [] m
-  committed : (src : List ℕ) (m n : VersionManagerInner) (b : Batch) (room : ℕ) (u : State)
-      → Appended src m → commitOf m b room ≡ left u → Hands n u → Appended (src ++ frameOf (batchOf b)) n
+  committed : (src : List ℕ) (m n : VersionManagerInner) (k : ℕ) (os : List Operation) (room : ℕ) (u : State)
+      → Appended src m → badInner m ≡ false → length os ≤ k → commitOf (stateOf m) k os room ≡ left u → Hands n u → Appended (src ++ frameOf os) n
   other : (src : List ℕ) (m n : VersionManagerInner) → Appended src m → setsOf (stateOf n) ≡ setsOf (stateOf m) → Appended src n

@@ -5,13 +5,12 @@ use mathlib.Core.List.{List, [], _++_}
 use Prim.Native.Nat.{ℕ, _≤_, _<_}
 use lib.ListN.{length, take}
 use Rattle.lists.specs.Keyed.{allOf}
-use Rattle.manifest.specs.declared.operation.Batch.{Batch}
-use Rattle.manifest.specs.Operations.{Operation, wellFormed, batchOf}
+use Rattle.manifest.specs.Operations.{Operation, wellFormed}
 use Rattle.ids.specs.Limits.{mostOperations, longestManifest}
 use Rattle.frames.specs.Frames.{frameOf}
 use Rattle.version_state.specs.declared.VersionManagerInner.{VersionManagerInner}
 use Rattle.version_state.specs.State.{State, start, withEpoch, stateOf, Hands}
-use Rattle.version_state.specs.Sound.{badManager}
+use Rattle.version_state.specs.Sound.{badInner}
 use Rattle.operations.specs.Steps.{left}
 use Rattle.commit.specs.Commit.{commitOf}
 use Rattle.rewrite.specs.Rewritten.{rewrittenOf, longestRewritten}
@@ -23,10 +22,10 @@ use Rattle.recovery.specs.Holds.{Holds, followed, Appended}
 pub record AppendLaws : Type 0 where
   pub empty : Holds [] (withEpoch start reopened 0)
   pub replayed : (src : List ℕ) (s : State) → Holds src s → length src ≤ longestManifest → replayOf src ≡ given s
-  -- followed by a whole append of operations that commit accepts on its sets: the state followed by these operations
-  pub whole : (src : List ℕ) (s : State) (m : VersionManagerInner) (b : Batch) (room : ℕ) (u : State)
-      → Holds src s → setsOf (stateOf m) ≡ setsOf s → commitOf m b room ≡ left u
-      → Holds (src ++ frameOf (batchOf b)) (followed (batchOf b) s) × (setsOf (followed (batchOf b) s) ≡ setsOf u)
+  -- followed by a whole append of operations, at most k, that commit accepts on its sets: the state followed by these operations
+  pub whole : (src : List ℕ) (s : State) (m : VersionManagerInner) (k : ℕ) (os : List Operation) (room : ℕ) (u : State)
+      → Holds src s → setsOf (stateOf m) ≡ setsOf s → badInner m ≡ false → length os ≤ k → commitOf (stateOf m) k os room ≡ left u
+      → Holds (src ++ frameOf os) (followed os s) × (setsOf (followed os s) ≡ setsOf u)
   -- followed by a proper first part of an append, cut at any byte: the state
   pub torn : (src : List ℕ) (s : State) (os : List Operation) (k : ℕ)
       → Holds src s → allOf wellFormed os ≡ true → length os ≤ mostOperations → k < length (frameOf os)
@@ -39,7 +38,7 @@ pub record AppendLaws : Type 0 where
 -- Of any manifest that replay accepts.
 pub record ReopenLaws : Type 0 where
   -- what is handed out passes 29
-  pub sound : (src : List ℕ) (s : State) (m : VersionManagerInner) (n : ℕ) → replayOf src ≡ given s → n ≤ longestManifest → Hands m (withEpoch s (s .epoch) n) → badManager m ≡ false
+  pub sound : (src : List ℕ) (s : State) (m : VersionManagerInner) (n : ℕ) → replayOf src ≡ given s → n ≤ longestManifest → Hands m (withEpoch s (s .epoch) n) → badInner m ≡ false
   -- the rewritten manifest has its room, and holds the same state
   pub room : (src : List ℕ) (s : State) → replayOf src ≡ given s → length (rewrittenOf s) ≤ longestRewritten
   pub again : (src : List ℕ) (s : State) → replayOf src ≡ given s → Holds (rewrittenOf s) s
