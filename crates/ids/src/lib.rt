@@ -25,7 +25,7 @@ impl TableNo {
     pub fn is_id(self) -> bool
         ensures { λ r. ⌜ r ≡ isId32 (self .0) ⌝ }
     {
-        self.0 < 4294967295
+        self.0 < limits::LARGEST_32
     }
 }
 
@@ -33,7 +33,7 @@ impl RowsetNo {
     pub fn is_id(self) -> bool
         ensures { λ r. ⌜ r ≡ isId32 (self .0) ⌝ }
     {
-        self.0 < 4294967295
+        self.0 < limits::LARGEST_32
     }
 }
 
@@ -41,7 +41,7 @@ impl VectorNo {
     pub fn is_id(self) -> bool
         ensures { λ r. ⌜ r ≡ isId64 (self .0) ⌝ }
     {
-        self.0 < 18446744073709551615
+        self.0 < limits::LARGEST_64
     }
 }
 

@@ -14,5 +14,10 @@ pub const MOST_OPERATIONS: usize = 600;
 
 pub const LAST_EPOCH: u32 = 4294967295;
 
+// The largest value of each width: no id.
+pub const LARGEST_32: u32 = 4294967295;
+
+pub const LARGEST_64: u64 = 18446744073709551615;
+
 // Bytes of a manifest.
 pub const LONGEST_MANIFEST: usize = 65536;

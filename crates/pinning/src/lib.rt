@@ -1,21 +1,27 @@
 // Pin and unpin, lent the pin book and altering it there. The work is done by functions that take the book and hand it back by
 // value.
+use ids::limits::MOST_HELD;
 use ids::refusal::Refusal;
 use ids::refusal::Verdict;
 use pins::PinBook;
 use version_manager::VersionManager;
-use version_state::VersionManagerInner;
 ghost use mathlib.Core.Path.{_≡_};
 ghost use mathlib.Core.Bool.{cond, not, _&&_};
 ghost use lib.Dec.{eqb};
 ghost use lib.ListN.{length};
-ghost use Rattle.version_state.specs.State.{Fit};
-ghost use Rattle.pins.specs.Book.{GoodBook};
-ghost use Rattle.vacuum.specs.Says.{listOf};
+ghost use Prim.Native.Nat.{_≤_};
+ghost use Rattle.lists.specs.Keyed.{keep};
+ghost use Rattle.ids.specs.Limits.{mostHeld};
+ghost use Rattle.columns.specs.Rows.{rows, column};
+ghost use Rattle.snapshot.specs.Entries.{goneAt};
+ghost use Rattle.pins.specs.Book.{pinsOf, GoodBook, bound};
 ghost use Rattle.pinning.specs.Says.{pinVerdict, PinSays, unpinVerdict, UnpinSays};
 ghost use Rattle.pinning.specs.Laws.{PinLaws};
 
 mod counts;
+
+// The pins that an epoch may have.
+const MOST_PINS: u16 = 65535;
 
 pub enum PinAnswer {
     // The epoch that is pinned.
@@ -47,9 +53,8 @@ pub fn sound()
 fn judge_pin(manager: VersionManager, book: PinBook) -> Verdict
     ensures { λ r. ⌜ r ≡ pinVerdict manager book ⌝ }
 {
-    let inner = manager.inner;
-    let epoch = inner.epoch;
-    if inner.bad() {
+    let epoch = manager.inner.epoch;
+    if manager.bad() {
         return Verdict::Refused(Refusal::BadManager);
     }
     if book.bad(epoch) {
@@ -58,7 +63,7 @@ fn judge_pin(manager: VersionManager, book: PinBook) -> Verdict
     if epoch == 0 {
         return Verdict::Refused(Refusal::PinAtEpochZero);
     }
-    if 65535 <= counts::pins_at(book, epoch) {
+    if MOST_PINS <= counts::pins_at(book, epoch) {
         return Verdict::Refused(Refusal::PinsFull);
     }
     if counts::epochs_full(book, epoch) {
@@ -90,11 +95,10 @@ pub fn after_pin(manager: VersionManager, book: PinBook) -> PinStep
 fn judge_unpin(manager: VersionManager, book: PinBook, epoch: u32) -> Verdict
     ensures { λ r. ⌜ r ≡ unpinVerdict manager epoch book ⌝ }
 {
-    let inner = manager.inner;
-    if inner.bad() {
+    if manager.bad() {
         return Verdict::Refused(Refusal::BadManager);
     }
-    if book.bad(inner.epoch) {
+    if book.bad(manager.inner.epoch) {
         return Verdict::Refused(Refusal::BadPinBook);
     }
     if !book.holds(epoch) {
@@ -103,17 +107,22 @@ fn judge_unpin(manager: VersionManager, book: PinBook, epoch: u32) -> Verdict
     Verdict::Accepted
 }
 
-// The counts are within the limits, and the book has passed 28. How many deletions a vacuum would list where one is due, and else 0.
-fn ready(inner: VersionManagerInner, book: PinBook, due: bool) -> usize
-    requires { ⌜ Fit inner × GoodBook (inner .epoch) book ⌝ }
-    ensures { λ r. ⌜ r ≡ cond due (length (listOf inner book)) 0 ⌝ }
+// The count is within the column, and the book has passed 28. How many deletions a vacuum would list where one is due, and else 0.
+fn ready(
+    deleted: &[u32; MOST_HELD],
+    count: usize,
+    current: u32,
+    book: PinBook,
+    due: bool,
+) -> usize
+    requires { ⌜ (count ≤ mostHeld) × GoodBook current book ⌝ }
+    ensures { λ r. ⌜ r ≡ cond due (length (keep (goneAt (bound current (pinsOf book))) (rows (column (now (deleted .entry))) count))) 0 ⌝ }
 {
     if !due {
         return 0;
     }
-    let bound = book.bound(inner.epoch);
-    let list = vacuum::listed(inner, bound);
-    list.count
+    let bound = book.bound(current);
+    vacuum::counted(deleted, count, bound)
 }
 
 fn is_due(epoch: u32, current: u32, left: u16) -> bool
@@ -136,12 +145,18 @@ pub fn after_unpin(manager: VersionManager, book: PinBook, epoch: u32) -> UnpinS
             answer: UnpinAnswer::Refused(why),
         };
     }
-    let inner = manager.inner;
+    let current = manager.inner.epoch;
     let count = counts::pins_at(book, epoch);
     let left = count - 1;
     let next = counts::recounted(book, epoch, left);
-    let due = is_due(epoch, inner.epoch, left);
-    let ready = ready(inner, next, due);
+    let due = is_due(epoch, current, left);
+    let ready = ready(
+        &manager.inner.rowsets.deleted,
+        manager.inner.rowsets.count,
+        current,
+        next,
+        due,
+    );
     UnpinStep {
         book: next,
         answer: UnpinAnswer::Unpinned(due, ready),

@@ -43,12 +43,11 @@ fn rewrite_into(inner: VersionManagerInner, out: &mut [u8]) -> Reopened
     requires { ⌜ Fit inner ⌝ }
     ensures { λ r. ⌜ ReopenIs (openedOf (length (now (out .entry))) (stateOf inner)) (now (out .entry)) r (now (out .exit)) ⌝ }
 {
-    let batch = rewrite::rewritten(inner);
-    let n = frames::frame_length(batch);
+    let n = rewrite::rewritten_length(inner);
     if out.len() < n {
         return refused(Refusal::OutputTooShort);
     }
-    frames::put_frame(out, batch);
+    rewrite::put_rewritten(inner, out);
     let mut inner = inner;
     inner.manifest = n;
     let manager = version_manager::handed(inner);
