@@ -26,8 +26,8 @@ use Rattle.manifest.proofs.Split.{joined-lines, rest-on-append, rest-ended, lin
 use Rattle.version_state.specs.State.{State}
 use Rattle.operations.specs.Judge.{opRules}
 use Rattle.operations.specs.Steps.{Outcome, left, stopped, andThen, stepOf, stepsOf}
-use Rattle.frames.specs.Frames.{frameOf}
-use Rattle.frames.proofs.Texts.{textsOf, joined-append, frame-long, texts-cons}
+use Rattle.frames.specs.Frames.{textsOf, frameOf}
+use Rattle.frames.proofs.Texts.{joined-append, frame-long, texts-cons}
 use Rattle.commit.specs.Lent.{operationSaid, unended, operationsIn}
 use Rattle.commit.proofs.Stepwise.{halt, step-left}
 

@@ -240,7 +240,8 @@ pub fn commit_lines(inner: VersionManagerInner, ops: &[u8], out: &mut [u8]) -> D
     requires { ⌜ badInner inner ≡ false ⌝ }
     ensures { λ r. ⌜ CommitIs (commitOf (stateOf inner) (length (operationsIn (now (ops .entry)))) (operationsIn (now (ops .entry))) (length (now (out .entry)))) (operationsIn (now (ops .entry))) (now (out .entry)) r (now (out .exit)) ⌝ }
 {
-    if MOST_OPERATIONS < lines::count(ops) {
+    let classes = text::classes();
+    if MOST_OPERATIONS < lines::count(&classes, ops) {
         return refused(inner, Refusal::TooManyOperations(0));
     }
     if LAST_EPOCH <= inner.epoch {
@@ -290,6 +291,7 @@ pub fn commit_lines(inner: VersionManagerInner, ops: &[u8], out: &mut [u8]) -> D
         &mut deleted,
         first,
         epoch,
+        &classes,
         ops,
     );
     let verdict = step.verdict;

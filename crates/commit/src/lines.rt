@@ -18,6 +18,7 @@ ghost use mathlib.Core.List.{[], _∷_, _++_};
 ghost use Prim.Native.Nat.{_+_, _≤_, _<_};
 ghost use lib.ListN.{length, drop};
 ghost use Rattle.lists.specs.Written.{over};
+ghost use Rattle.text.specs.Class.{Classes};
 ghost use Rattle.manifest.specs.Operations.{nextIds, operationOf};
 ghost use Rattle.manifest.specs.Lines.{lineOf};
 ghost use Rattle.operations.specs.Steps.{stepsOf, columns, stateIn, Ready, StepIs};
@@ -39,10 +40,11 @@ fn none(name: Name) -> Change
     }
 }
 
-fn said(line: &[u8]) -> Change
+fn said(classes: &[u8; 256], line: &[u8]) -> Change
+    requires { ⌜ Classes (now classes) ⌝ }
     ensures { λ r. ⌜ operationOf r ≡ operationSaid (lineOf (now (line .entry))) ⌝ }
 {
-    let parsed = manifest::parser::parse(line);
+    let parsed = manifest::parser::parse(classes, line);
     let name = parsed.name;
     let said = parsed.line;
     match said {
@@ -56,14 +58,14 @@ fn said(line: &[u8]) -> Change
 }
 
 // The operation at a place. Bytes after the last newline are one too.
-fn read(ops: &[u8], at: usize) -> Found
-    requires { ⌜ at < length (now ops) ⌝ }
+fn read(classes: &[u8; 256], ops: &[u8], at: usize) -> Found
+    requires { ⌜ (at < length (now ops)) × Classes (now classes) ⌝ }
     ensures { λ r. ⌜ (operationsIn (drop at (now (ops .entry))) ≡ operationOf (r .change) ∷ operationsIn (drop (r .next) (now (ops .entry)))) × (at < r .next) × (r .next ≤ length (now (ops .entry))) ⌝ }
 {
-    let line = manifest::reader::line_at(ops, at);
+    let line = manifest::reader::line_at(classes, ops, at);
     match line {
         LineAt::Line { start, end, next } => {
-            let change = said(&ops[start..end]);
+            let change = said(classes, &ops[start..end]);
             Found { change, next }
         }
         LineAt::None => {
@@ -77,11 +79,11 @@ fn read(ops: &[u8], at: usize) -> Found
 }
 
 // The place after the operation at a place.
-fn after(ops: &[u8], at: usize) -> usize
-    requires { ⌜ at < length (now ops) ⌝ }
+fn after(classes: &[u8; 256], ops: &[u8], at: usize) -> usize
+    requires { ⌜ (at < length (now ops)) × Classes (now classes) ⌝ }
     ensures { λ r. ⌜ (length (operationsIn (drop at (now (ops .entry)))) ≡ length (operationsIn (drop r (now (ops .entry)))) + 1) × (at < r) × (r ≤ length (now (ops .entry))) ⌝ }
 {
-    let line = manifest::reader::line_at(ops, at);
+    let line = manifest::reader::line_at(classes, ops, at);
     match line {
         LineAt::Line {
             start: _,
@@ -93,13 +95,14 @@ fn after(ops: &[u8], at: usize) -> usize
 }
 
 // How many there are.
-pub fn count(ops: &[u8]) -> usize
+pub fn count(classes: &[u8; 256], ops: &[u8]) -> usize
+    requires { ⌜ Classes (now classes) ⌝ }
     ensures { λ r. ⌜ r ≡ length (operationsIn (now (ops .entry))) ⌝ }
 {
     let mut n: usize = 0;
     let mut at: usize = 0;
     while at < ops.len() {
-        at = after(ops, at);
+        at = after(classes, ops, at);
         n += 1;
     }
     n
@@ -123,16 +126,17 @@ pub fn steps(
     deleted: &mut [u32; MOST_HELD],
     held: Held,
     epoch: u32,
+    classes: &[u8; 256],
     ops: &[u8],
 ) -> Stepped
-    requires { ⌜ Ready held (columns (now ids) (now shapes) (now lengths) (now names) (now locked) (now «pair_tables») (now «pair_rowsets») (now «pair_added») (now «pair_deleted») (now tables) (now rowsets) (now vectors) (now added) (now deleted)) ⌝ }
+    requires { ⌜ Classes (now classes) × Ready held (columns (now ids) (now shapes) (now lengths) (now names) (now locked) (now «pair_tables») (now «pair_rowsets») (now «pair_added») (now «pair_deleted») (now tables) (now rowsets) (now vectors) (now added) (now deleted)) ⌝ }
     ensures { λ r. ⌜ StepIs (stepsOf 0 epoch (operationsIn (now (ops .entry))) (stateIn held (columns (now (ids .entry)) (now (shapes .entry)) (now (lengths .entry)) (now (names .entry)) (now (locked .entry)) (now («pair_tables» .entry)) (now («pair_rowsets» .entry)) (now («pair_added» .entry)) (now («pair_deleted» .entry)) (now (tables .entry)) (now (rowsets .entry)) (now (vectors .entry)) (now (added .entry)) (now (deleted .entry))))) r (columns (now (ids .exit)) (now (shapes .exit)) (now (lengths .exit)) (now (names .exit)) (now (locked .exit)) (now («pair_tables» .exit)) (now («pair_rowsets» .exit)) (now («pair_added» .exit)) (now («pair_deleted» .exit)) (now (tables .exit)) (now (rowsets .exit)) (now (vectors .exit)) (now (added .exit)) (now (deleted .exit))) ⌝ }
 {
     let mut held = held;
     let mut i: usize = 0;
     let mut at: usize = 0;
     while at < ops.len() {
-        let found = read(ops, at);
+        let found = read(classes, ops, at);
         let change = found.change;
         let step = operations::step(
             ids,

@@ -26,7 +26,7 @@ returns c =
 returns-2 : tie.Need-returns-2
 returns-2 c =
     let h = sym (c .before .before .line-at .ensures) ∙ c .enum-told .given .1 in
-    (omega (arith, ap length (lent-rest _ _ (c .before .before .before .before .pre) h)), c .before .before .before .before .pre, omega arith)
+    (omega (arith, ap length (lent-rest _ _ (c .before .before .before .before .pre .0) h)), c .before .before .before .before .pre .0, omega arith)
 
 pub after-spec : {M : Type 1} → statement M
 after-spec =

@@ -11,10 +11,10 @@ use Rattle.commit.proofs.lines.count.Statement.{statement}
 use Rattle.commit.proofs.lines.count.Tie as tie
 
 abbrev Inv-loop : tie.InvT-loop
-Inv-loop ops n₀ at₀ n at = (n ≤ at) × (at ≤ length ops) × (n + length (operationsIn (drop at ops)) ≡ length (operationsIn ops))
+Inv-loop classes ops n₀ at₀ n at = (n ≤ at) × (at ≤ length ops) × (n + length (operationsIn (drop at ops)) ≡ length (operationsIn ops))
 
 abbrev μ-loop : tie.MeasureT-loop
-μ-loop ops n₀ at₀ n at = length ops - at
+μ-loop classes ops n₀ at₀ n at = length ops - at
 
 loop-holds : tie.Need-loop-holds Inv-loop μ-loop
 loop-holds c = (omega arith, omega arith, omega arith)

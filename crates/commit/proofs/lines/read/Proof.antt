@@ -43,7 +43,7 @@ returns c =
 returns-2 : tie.Need-returns-2
 returns-2 c =
     let h = sym (c .before .before .before .before .line-at .ensures) ∙ c .before .before .enum-told .given .1 in
-    (rw (c .none2 .ensures) (lent-rest _ _ (c .before .before .before .before .before .before .pre) h), c .before .before .before .before .before .before .pre, omega arith)
+    (rw (c .none2 .ensures) (lent-rest _ _ (c .before .before .before .before .before .before .pre .0) h), c .before .before .before .before .before .before .pre .0, omega arith)
 
 pub read-spec : {M : Type 1} → statement M
 read-spec =

@@ -15,16 +15,16 @@ use Rattle.commit.proofs.lines.steps.Statement.{statement}
 use Rattle.commit.proofs.lines.steps.Tie as tie
 
 abbrev Inv-loop : tie.InvT-loop
-Inv-loop ids₀ shapes₀ lengths₀ names₀ locked₀ pairtables₀ pairrowsets₀ pairadded₀ pairdeleted₀ tables₀ rowsets₀ vectors₀ added₀ deleted₀ epoch ops held₀ i₀ at₀ ids shapes lengths names locked pairtables pairrowsets pairadded pairdeleted tables rowsets vectors added deleted held i at = (i ≤ at) × (at ≤ length ops) × Going (stateIn held₀ (columns ids₀ shapes₀ lengths₀ names₀ locked₀ pairtables₀ pairrowsets₀ pairadded₀ pairdeleted₀ tables₀ rowsets₀ vectors₀ added₀ deleted₀)) epoch (operationsIn ops) i (operationsIn (drop at ops)) held (columns ids shapes lengths names locked pairtables pairrowsets pairadded pairdeleted tables rowsets vectors added deleted)
+Inv-loop ids₀ shapes₀ lengths₀ names₀ locked₀ pairtables₀ pairrowsets₀ pairadded₀ pairdeleted₀ tables₀ rowsets₀ vectors₀ added₀ deleted₀ epoch classes ops held₀ i₀ at₀ ids shapes lengths names locked pairtables pairrowsets pairadded pairdeleted tables rowsets vectors added deleted held i at = (i ≤ at) × (at ≤ length ops) × Going (stateIn held₀ (columns ids₀ shapes₀ lengths₀ names₀ locked₀ pairtables₀ pairrowsets₀ pairadded₀ pairdeleted₀ tables₀ rowsets₀ vectors₀ added₀ deleted₀)) epoch (operationsIn ops) i (operationsIn (drop at ops)) held (columns ids shapes lengths names locked pairtables pairrowsets pairadded pairdeleted tables rowsets vectors added deleted)
 
 abbrev μ-loop : tie.MeasureT-loop
-μ-loop ids₀ shapes₀ lengths₀ names₀ locked₀ pairtables₀ pairrowsets₀ pairadded₀ pairdeleted₀ tables₀ rowsets₀ vectors₀ added₀ deleted₀ epoch ops held₀ i₀ at₀ ids shapes lengths names locked pairtables pairrowsets pairadded pairdeleted tables rowsets vectors added deleted held i at = length ops - at
+μ-loop ids₀ shapes₀ lengths₀ names₀ locked₀ pairtables₀ pairrowsets₀ pairadded₀ pairdeleted₀ tables₀ rowsets₀ vectors₀ added₀ deleted₀ epoch classes ops held₀ i₀ at₀ ids shapes lengths names locked pairtables pairrowsets pairadded pairdeleted tables rowsets vectors added deleted held i at = length ops - at
 
 loop-holds : tie.Need-loop-holds Inv-loop μ-loop
-loop-holds c = (omega arith, omega arith, record { ready = c .before .pre; same = refl })
+loop-holds c = (omega arith, omega arith, record { ready = c .before .pre .1; same = refl })
 
 read-requires : tie.Need-read-requires Inv-loop μ-loop
-read-requires c κs = c .loop-test .taken
+read-requires c κs = (c .loop-test .taken, c .before .before .before .pre .0)
 
 step-requires : tie.Need-step-requires Inv-loop μ-loop
 step-requires c κs = c .before .before .before .before .before .before .before .before .before .before .before .before .before .before .before .before .before .loop .inv .2 .ready
@@ -40,7 +40,7 @@ returns c =
     halts-step _ _ _ (go-off (stateIn (a .held) (columns (now (a .ids)) (now (a .shapes)) (now (a .lengths)) (now (a .names)) (now (a .locked)) (now (a .pair-tables)) (now (a .pair-rowsets)) (now (a .pair-added)) (now (a .pair-deleted)) (now (a .tables)) (now (a .rowsets)) (now (a .vectors)) (now (a .added)) (now (a .deleted)))) _ (operationsIn (now (a .ops))) (l .i) (operationOf (c .before .before .before .before .before .before .before .before .before .before .before .before .before .before .before .before .before .before .read .result .change)) (operationsIn (drop (c .before .before .before .before .before .before .before .before .before .before .before .before .before .before .before .before .before .before .read .result .next) (now (a .ops)))) (l .held) (columns (l .ids) (l .shapes) (l .lengths) (l .names) (l .locked) (l .pair-tables) (l .pair-rowsets) (l .pair-added) (l .pair-deleted) (l .tables) (l .rowsets) (l .vectors) (l .added) (l .deleted)) _ _ g (c .before .before .step .ensures) (sym (c .before .accepted .ensures) ∙ not-true _ (c .if1 .taken)))
 
 add-i : tie.Need-add-i Inv-loop μ-loop
-add-i c = let i = c .before .before .before .before .before .before .before .before .before .before .before .before .before .before .before .before .before .before .before .before .before .loop .inv in omega (arith, i .0, i .1, c .before .before .before .before .before .before .before .before .before .before .before .before .before .before .before .before .before .before .before .before .loop-test .taken, c .before .before .before .before .before .before .before .before .before .before .before .before .before .before .before .before .before .before .before .before .before .before .before .good .1 .1 .1 .1 .1 .1 .1 .1 .1 .1 .1 .1 .1 .1 .1 .1 .0 .0)
+add-i c = let i = c .before .before .before .before .before .before .before .before .before .before .before .before .before .before .before .before .before .before .before .before .before .loop .inv in omega (arith, i .0, i .1, c .before .before .before .before .before .before .before .before .before .before .before .before .before .before .before .before .before .before .before .before .loop-test .taken, c .before .before .before .before .before .before .before .before .before .before .before .before .before .before .before .before .before .before .before .before .before .before .before .good .1 .1 .1 .1 .1 .1 .1 .1 .1 .1 .1 .1 .1 .1 .1 .1 .1 .0 .0)
 
 loop-less : tie.Need-loop-less Inv-loop μ-loop
 loop-less c = let r = c .before .before .before .before .before .before .before .before .before .before .before .before .before .before .before .before .before .before .before .read .ensures in omega (arith, c .before .before .before .before .before .before .before .before .before .before .before .before .before .before .before .before .before .before .before .before .loop-test .taken, r .1)
