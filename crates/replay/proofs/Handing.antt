@@ -1,19 +1,17 @@
 -- The end of a replay: what the slices hold, as a manager's lists. Assumes nothing.
-use mathlib.Core.Path.{_≡_, refl, sym, ap, _∙_}
-use mathlib.Core.Bool.{Bool, true, false, cond, not, _&&_}
+use mathlib.Core.Path.{_≡_, sym, ap, _∙_}
+use mathlib.Core.Bool.{Bool, true, false, not}
 use mathlib.Core.List.{List, [], _∷_, _++_, map}
 use Prim.Native.Nat.{ℕ, zero, suc, _+_, _/_, _%_, _≤_, _<_}
 use native.Mathlib.Omega.{arith}
 use native.Mathlib.Nat.{not-suc-le-zero, le-of-suc-le-suc}
 use native.Mathlib.Numerals.{add-one}
 use borrow.Author.Tests.{leb-true}
-use lib.Dec.{leb}
 use lib.ListN.{length, getD, take, drop, length-map}
 use lib.Seq.{take-length}
 use Rattle.lists.specs.Keyed.{keep, allOf, has}
 use Rattle.lists.proofs.Tests.{both}
 use Rattle.lists.proofs.Views.{map-drop}
-use Rattle.ids.specs.Ids.{largest32}
 use Rattle.ids.specs.Names.{nameOf}
 use Rattle.snapshot.specs.Entries.{Entry, byIds}
 use Rattle.snapshot.specs.Tables.{TableEntry, byTable}
@@ -22,9 +20,9 @@ use Rattle.snapshot.specs.declared.Pair.{Pair}
 use Rattle.snapshot.specs.declared.rowsets.Rowset.{Rowset}
 use Rattle.snapshot.specs.declared.vectors.Vector.{Vector}
 use Rattle.snapshot.specs.declared.tables.Table.{Table}
-use Rattle.version_state.specs.State.{State, stateOf, Fit, Hands}
+use Rattle.version_state.specs.State.{State, Fit, Hands}
 use Rattle.version_state.specs.declared.VersionManagerInner.{VersionManagerInner}
-use Rattle.replay_lists.specs.Rows.{beside, rows}
+use Rattle.replay_lists.specs.Rows.{rows}
 use Rattle.replay_lists.proofs.Rows.{rows-length, rows-at, rows-seen, rows-end}
 use Rattle.replay.specs.declared.Sets.{Sets}
 use Rattle.replay.specs.Replay.{tableless, withoutOrphans}

@@ -5,6 +5,7 @@ use crate::Replayed;
 use crate::Sets;
 use crate::TABLE_ROOM;
 use crate::TABLES_END;
+use crate::WIDE;
 use crate::WORK_ROOM;
 use ids::RowsetNo;
 use ids::TableNo;
@@ -66,8 +67,8 @@ fn pair_of(key: u64) -> Pair
     ensures { λ r. ⌜ pairIds r ≡ key / wide32 ∷ key % wide32 ∷ [] ⌝ }
 {
     Pair {
-        table: TableNo((key / 4294967296) as u32),
-        rowset: RowsetNo((key % 4294967296) as u32),
+        table: TableNo((key / WIDE) as u32),
+        rowset: RowsetNo((key % WIDE) as u32),
     }
 }
 
