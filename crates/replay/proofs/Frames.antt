@@ -1,12 +1,10 @@
 -- Lines and frames: what the loops over them keep. Assumes nothing.
 use mathlib.Core.Path.{_≡_, refl, sym, ap, _∙_, subst}
-use mathlib.Core.Bool.{Bool, true, false, cond, not, _&&_, _||_, true≢false}
-use mathlib.Core.List.{List, [], _∷_, _++_, map, append-nil, append-assoc}
+use mathlib.Core.Bool.{true, false, _||_}
+use mathlib.Core.List.{List, [], _∷_, _++_, map, append-assoc}
 use Prim.Native.Nat.{ℕ, zero, suc, _+_, _-_, _≤_, _<_}
 use native.Mathlib.Omega.{arith}
-use native.Mathlib.Nat.{add-zero}
-use native.Mathlib.Numerals.{add-one}
-use borrow.Author.Tests.{leb-true, leb-false, ltb-false}
+use borrow.Author.Tests.{leb-false, ltb-false}
 use lib.Dec.{ltb, leb}
 use lib.ListN.{length, take, drop, length-map, length-append}
 use lib.Seq.{take-length}
@@ -17,17 +15,15 @@ use Rattle.lists.proofs.Keyed.{Ascending, ascend-to}
 use Rattle.lists.proofs.Views.{map-append}
 use Rattle.ids.specs.Verdicts.{isAccepted}
 use Rattle.ids.specs.declared.refusal.Refusal.{Refusal}
-use Rattle.ids.specs.declared.refusal.Refusal.the-variants.{Malformed, OverLimit, TooManyOperations}
-use Rattle.ids.specs.declared.refusal.Verdict.{Verdict}
+use Rattle.ids.specs.declared.refusal.Refusal.the-variants.{OverLimit}
 use Rattle.ids.specs.declared.refusal.Verdict.the-variants.{Accepted, Refused}
 use Rattle.manifest.specs.Operations.{Operation, Line, begin, end, operation, bad}
 use Rattle.manifest.specs.Lines.{lineOf}
 use Rattle.manifest.specs.Split.{lines, linesFrom, lineAt}
-use Rattle.manifest.specs.declared.reader.LineAt.{LineAt}
 use Rattle.manifest.specs.declared.reader.LineAt.the-variants as found
 use Rattle.manifest.proofs.Split.{lines-at, lines-none, lines-from-start, line-placed, line-further}
 use Rattle.snapshot.specs.Entries.{Entry, byIds}
-use Rattle.ids.specs.Limits.{longestManifest}
+use Rattle.ids.specs.Limits.{longestManifest, mostOperations}
 use Rattle.version_state.specs.State.{State, withPairs, withVectors}
 use Rattle.replay_lists.specs.Rows.{rows, byBoth, byFirst}
 use Rattle.replay_lists.proofs.Rows.{rows-length, firsts-length, seconds-length}
@@ -36,9 +32,8 @@ use Rattle.replay.specs.declared.Applied.{Applied}
 use Rattle.replay.specs.declared.Begun.{Begun}
 use Rattle.replay.specs.declared.Turn.{Turn}
 use Rattle.replay.specs.declared.Replayed.{Replayed}
-use Rattle.ids.specs.Limits.{mostOperations}
-use Rattle.replay.specs.Replay.{Result, refused, given, andThen, Frame, none, opened, Carried, carried, atStart, framed, stands, settled, overLimit, limited, ended, noted, lineRead, linesRead, finished, ReplayIs}
-use Rattle.replay.specs.Working.{tableRoom, heldRoom, workRoom, tablesPart, pairsPart, vectorsPart, cut, pairRow, vectorRow, Slices, slices, tablesIn, pairsIn, vectorsIn, stateIn, TablesGood, PairsGood, VectorsGood, Good, Grown, oneOf, AppliedIs, saidFrom, leading, framedLightly, Held, FrameIs, Small, EndIs, BegunOk, OpenFrame, BegunIs, Turned, TurnIs, OperationSays, Ready, RunIs, ReadTo}
+use Rattle.replay.specs.Replay.{Result, refused, given, andThen, Frame, none, Carried, carried, atStart, framed, stands, settled, overLimit, limited, ended, noted, lineRead, linesRead, finished, ReplayIs}
+use Rattle.replay.specs.Working.{tableRoom, heldRoom, workRoom, tablesPart, pairsPart, vectorsPart, cut, pairRow, vectorRow, Slices, slices, stateIn, Good, Grown, oneOf, AppliedIs, saidFrom, leading, framedLightly, FrameIs, Small, EndIs, BegunOk, BegunIs, Turned, TurnIs, OperationSays, Ready, RunIs, ReadTo}
 use Rattle.replay.proofs.Maps.{lex-split, ascending-mapped}
 use Rattle.replay.proofs.Working.{tables-whole, pairs-whole, vectors-whole}
 use Rattle.replay.proofs.Light.{Rising, frame-light}

@@ -1,20 +1,19 @@
 -- To take out at once what is deleted, and to mark it and take it out at the `E`, leave the same. Assumes nothing.
 use mathlib.Core.Path.{_≡_, refl, sym, ap, _∙_}
-use mathlib.Core.Bool.{Bool, true, false, cond, not, _&&_}
-use mathlib.Core.List.{List, [], _∷_, _++_, map}
+use mathlib.Core.Bool.{Bool, true, false}
+use mathlib.Core.List.{List, [], _∷_}
 use Prim.Native.Nat.{ℕ, _+_}
 use Rattle.lists.specs.Order.{less, same}
 use Rattle.lists.specs.Keyed.{keep, isAt, put, without, changed}
 use Rattle.lists.proofs.Tests.{by-cases, clash}
 use Rattle.lists.proofs.Order.{less-asym, less-total, less-trans, more-same, same-true, same-eq}
-use Rattle.lists.proofs.Keyed.{All, After, Ascending, all-map, all-keep, keep-all, ascending-put, ascending-changed}
+use Rattle.lists.proofs.Keyed.{After, Ascending, all-map, all-keep, ascending-put, ascending-changed}
 use Rattle.manifest.specs.Operations.{Operation, createTable, dropTable, addRowset, deleteRowset, addVector, deleteVector, nextIds}
 use Rattle.snapshot.specs.Entries.{Entry, addedAt, deletedAt, byIds}
-use Rattle.version_state.specs.State.{State, withTables, withPairs, withVectors, withNext}
+use Rattle.version_state.specs.State.{State, withPairs, withVectors}
 use Rattle.operations.specs.Effect.{applied}
-use Rattle.ids.specs.declared.refusal.Refusal.the-variants.{TableConflict}
-use Rattle.replay.specs.Replay.{Result, refused, given, andThen, reopened, conflicts, framed, stands, settled}
-use Rattle.replay.specs.Working.{lightly, oneOf, framedLightly}
+use Rattle.replay.specs.Replay.{Result, andThen, reopened, conflicts, framed, stands, settled}
+use Rattle.replay.specs.Working.{lightly, framedLightly}
 
 module _ {A : Type 0} (key : A → List ℕ) where
   -- before all others

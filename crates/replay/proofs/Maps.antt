@@ -1,19 +1,19 @@
 -- Keyed lists under a map that keeps the order of the keys. Assumes nothing.
 use mathlib.Core.Path.{_≡_, refl, sym, ap, _∙_}
-use mathlib.Core.Bool.{Bool, true, false, cond, not, _&&_, _||_}
+use mathlib.Core.Bool.{Bool, true, _&&_, _||_}
 use mathlib.Core.List.{List, [], _∷_, map}
 use Prim.Native.Nat.{ℕ, zero, suc, _+_, _*_, _/_, _%_, _≤_, _<_}
 use native.Mathlib.Omega.{arith}
 use native.Mathlib.Nat.{not-suc-le-zero, le-of-suc-le-suc}
 use borrow.Author.Tests.{eq-eqb, ne-eqb}
-use lib.Dec.{ltb, eqb}
+use lib.Dec.{eqb}
 use lib.ListN.{length, take}
 use Rattle.lists.specs.Order.{less, same, lex}
-use Rattle.lists.specs.Keyed.{keep, allOf, anyOf, isAt, has, put, without, changed, ascending}
-use Rattle.lists.proofs.Tests.{by-cases, clash, neither, tri}
-use Rattle.lists.proofs.Order.{lex-lt, lex-eq, lex-gt, less-trans, less-same, same-true}
-use Rattle.lists.proofs.Keyed.{All, After, Ascending, keep-map, anyOf-map, all-map, all-mapped}
-use Rattle.replay_lists.specs.Rows.{beside, rows, byBoth, byFirst}
+use Rattle.lists.specs.Keyed.{anyOf, put, without}
+use Rattle.lists.proofs.Tests.{by-cases, tri}
+use Rattle.lists.proofs.Order.{lex-lt, lex-eq, lex-gt}
+use Rattle.lists.proofs.Keyed.{Ascending, all-map, all-mapped}
+use Rattle.replay_lists.specs.Rows.{rows}
 
 module _ {X A : Type 0} (f : X → A) (kx : X → List ℕ) (ka : A → List ℕ) (below : (x y : X) → less (ka (f x)) (ka (f y)) ≡ less (kx x) (kx y)) (alike : (x y : X) → same (ka (f x)) (ka (f y)) ≡ same (kx x) (kx y)) where
   pub map-put : (x : X) (l : List X) → put ka (f x) (map f l) ≡ map f (put kx x l)

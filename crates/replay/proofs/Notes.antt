@@ -19,8 +19,8 @@ use Rattle.text.specs.Class.{comma}
 use Rattle.text.specs.Name.{isName}
 use Rattle.text.proofs.Names.{name-length}
 use Rattle.ids.specs.Limits.{longestManifest}
-use Rattle.manifest.specs.Operations.{Operation, createTable, operation}
-use Rattle.manifest.specs.Lines.{lineOf, createLetter, fieldsText, textOf}
+use Rattle.manifest.specs.Operations.{createTable}
+use Rattle.manifest.specs.Lines.{createLetter, fieldsText, textOf}
 use Rattle.manifest.proofs.Lines.{text-parse}
 use Rattle.replay.specs.Working.{noted, shapeNoted, nameNoted, ReadTo}
 

@@ -1,20 +1,20 @@
 -- What an operation does to the rows is what it does to the state that they hold. Assumes nothing.
 use mathlib.Core.Path.{_≡_, refl, sym, ap, _∙_, subst⁻¹}
-use mathlib.Core.Bool.{Bool, true, false, cond, not, _&&_, _||_}
+use mathlib.Core.Bool.{Bool, true, false, not, _&&_}
 use mathlib.Core.List.{List, [], _∷_, map}
-use Prim.Native.Nat.{ℕ, _+_, _-_, _*_, _/_, _%_, _≤_, _<_, max}
+use Prim.Native.Nat.{ℕ, _+_, _-_, _*_, _≤_, _<_}
 use native.Mathlib.Omega.{arith}
 use borrow.Author.Tests.{le-leb, ltb-true}
-use lib.Dec.{leb, eqb}
+use lib.Dec.{leb}
 use lib.ListN.{length, take, drop, length-drop}
 use lib.Seq.{length-take-le}
 use Rattle.lists.specs.Order.{less, same}
-use Rattle.lists.specs.Keyed.{keep, allOf, anyOf, isAt, has, put, without, ascending}
-use Rattle.lists.proofs.Tests.{by-cases, both, join}
-use Rattle.lists.proofs.Keyed.{All, Ascending, ascend-to, ascend-from, ascending-put, ascending-keep, all-put, all-keep, allOf-all, all-allOf, anyOf-map}
+use Rattle.lists.specs.Keyed.{allOf, anyOf, isAt, has, put, without, ascending}
+use Rattle.lists.proofs.Tests.{both}
+use Rattle.lists.proofs.Keyed.{ascend-to, ascend-from, ascending-put, ascending-keep, all-put, all-keep, allOf-all, all-allOf, anyOf-map}
 use Rattle.ids.specs.Ids.{largest32, largest64, isId32, isId64}
 use Rattle.text.specs.Name.{isName}
-use Rattle.manifest.specs.Operations.{Operation, createTable, dropTable, addRowset, deleteRowset, addVector, deleteVector, nextIds, Line, operation, bad}
+use Rattle.manifest.specs.Operations.{createTable, addRowset, addVector, operation}
 use Rattle.manifest.specs.Lines.{lineOf}
 use Rattle.manifest.proofs.Lines.{text-parse}
 use Rattle.snapshot.specs.Entries.{Entry, addedAt, byIds}
@@ -26,7 +26,7 @@ use Rattle.replay_lists.proofs.Rows.{firsts-length, seconds-length}
 use Rattle.replay.specs.declared.Sets.{Sets}
 use Rattle.replay.specs.declared.Applied.{Applied}
 use Rattle.replay.specs.Replay.{Result, reopened}
-use Rattle.replay.specs.Working.{shapeNoted, nameNoted, tableRow, pairRow, vectorRow, wide32, Slices, listsOf, cut, tablesPart, pairsPart, vectorsPart, tablesEnd, pairsEnd, workRoom, tablesIn, pairsIn, vectorsIn, stateIn, tableRoom, heldRoom, narrowFirst, TablesGood, PairsGood, VectorsGood, Good, Grown, Stands, AppliedIs}
+use Rattle.replay.specs.Working.{shapeNoted, nameNoted, tableRow, pairRow, vectorRow, wide32, listsOf, cut, tablesPart, pairsPart, vectorsPart, tablesEnd, pairsEnd, workRoom, tablesIn, pairsIn, vectorsIn, stateIn, tableRoom, heldRoom, narrowFirst, TablesGood, PairsGood, VectorsGood, Good, Stands, AppliedIs}
 use Rattle.replay.proofs.Maps.{map-put, map-without, second-any, lex-split, eq-split, high, low}
 
 -- Tables.

@@ -7,6 +7,7 @@ use lib.Dec.{leb}
 use lib.ListN.{length, take, drop}
 use Rattle.lists.specs.Keyed.{allOf, without, ascending}
 use Rattle.ids.specs.Ids.{largest32}
+use Rattle.ids.specs.Names.{longestName}
 use Rattle.ids.specs.declared.refusal.Refusal.the-variants.{TableConflict, TooManyOperations}
 use Rattle.ids.specs.declared.refusal.Verdict.the-variants.{Accepted, Refused}
 use Rattle.manifest.specs.Operations.{Operation, createTable, dropTable, addRowset, deleteRowset, addVector, deleteVector, nextIds, Line, begin, end, operation, bad, operationOf}
@@ -14,7 +15,7 @@ use Rattle.manifest.specs.Lines.{lineOf}
 use Rattle.manifest.specs.Split.{linesFrom}
 use Rattle.snapshot.specs.Entries.{Entry, addedAt, byIds}
 use Rattle.snapshot.specs.Tables.{TableEntry, created}
-use Rattle.ids.specs.Limits.{mostTables, mostHeld, longestManifest}
+use Rattle.ids.specs.Limits.{mostTables, mostHeld, longestManifest, mostOperations}
 use Rattle.version_state.specs.State.{State, withPairs, withVectors}
 use Rattle.operations.specs.Effect.{applied}
 use Rattle.replay_lists.specs.Rows.{rows, firsts, seconds, byBoth, byFirst}
@@ -23,7 +24,6 @@ use Rattle.replay.specs.declared.Applied.{Applied}
 use Rattle.replay.specs.declared.Here.{Here}
 use Rattle.replay.specs.declared.Begun.{Begun}
 use Rattle.replay.specs.declared.Turn.{Turn}
-use Rattle.ids.specs.Limits.{mostOperations}
 use Rattle.replay.specs.Replay.{Result, refused, given, andThen, reopened, conflicts, Frame, none, opened, Carried}
 
 -- one more than a number of 32 bits, and than a name's length, may be
@@ -31,7 +31,7 @@ abbrev pub wide32 : ℕ
 wide32 = 4294967296
 
 abbrev pub nameSpan : ℕ
-nameSpan = 33
+nameSpan = longestName + 1
 
 -- a note of a created table: its shape, the place where its name stands in the manifest, and the name's length
 abbrev pub noted : ℕ → ℕ → ℕ → ℕ
@@ -52,7 +52,6 @@ abbrev pub pairRow : ℕ × ℕ → Entry
 pairRow p = addedAt reopened (p .0 / wide32 ∷ p .0 % wide32 ∷ [])
 
 -- a vector: table and rowset in one number, and the vector
-
 abbrev pub vectorRow : ℕ × ℕ → Entry
 vectorRow p = addedAt reopened (p .0 / wide32 ∷ p .0 % wide32 ∷ p .1 ∷ [])
 
@@ -90,22 +89,22 @@ stateIn src l z =
       manifest = 0;
     }
 
--- the lists have their room, rise, and hold 32-bit ids
+-- a list has room for what may be held, and for a frame's operations on top
 abbrev pub tableRoom : ℕ
-tableRoom = 616
+tableRoom = mostTables + mostOperations
 
 abbrev pub heldRoom : ℕ
-heldRoom = 856
+heldRoom = mostHeld + mostOperations
 
 -- the working slice: the lists of tables, of pairs and of vectors, one after another
 abbrev pub tablesEnd : ℕ
-tablesEnd = 1232
+tablesEnd = tableRoom + tableRoom
 
 abbrev pub pairsEnd : ℕ
-pairsEnd = 2944
+pairsEnd = tablesEnd + (heldRoom + heldRoom)
 
 abbrev pub workRoom : ℕ
-workRoom = 4656
+workRoom = pairsEnd + (heldRoom + heldRoom)
 
 abbrev pub tablesPart : List ℕ → List ℕ
 tablesPart work = take tablesEnd work
@@ -122,6 +121,7 @@ listsOf t p v = slices (firsts tableRoom t) (seconds tableRoom t) (firsts heldRo
 abbrev pub cut : List ℕ → Slices
 cut work = listsOf (tablesPart work) (pairsPart work) (vectorsPart work)
 
+-- the lists have their room and rise, and tables have 32-bit ids
 abbrev pub narrowFirst : ℕ × ℕ → Bool
 narrowFirst p = leb (p .0) largest32
 

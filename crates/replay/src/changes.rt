@@ -5,6 +5,7 @@ use crate::PAIRS_END;
 use crate::Sets;
 use crate::TABLE_ROOM;
 use crate::TABLES_END;
+use crate::WIDE;
 use crate::WORK_ROOM;
 use ids::RowsetNo;
 use ids::TableNo;
@@ -27,19 +28,13 @@ ghost use Rattle.manifest.specs.Operations.{createTable, dropTable, addRowset, 
 ghost use Rattle.snapshot.specs.Tables.{byTable, nameTaken};
 ghost use Rattle.replay_lists.specs.Rows.{firsts, seconds};
 ghost use Rattle.ids.specs.Limits.{longestManifest};
-ghost use Rattle.replay.specs.Working.{shapeNoted, nameNoted, listsOf, cut, tablesIn, stateIn, wide32, tableRoom, heldRoom, tablesEnd, pairsEnd, workRoom, TablesGood, PairsGood, VectorsGood, Good, ReadTo, oneOf, AppliedIs};
-
-fn wide(x: u32) -> u64
-    ensures { λ r. ⌜ r ≡ x ⌝ }
-{
-    x as u64
-}
+ghost use Rattle.replay.specs.Working.{shapeNoted, nameNoted, listsOf, cut, tablesIn, stateIn, wide32, tableRoom, heldRoom, workRoom, TablesGood, PairsGood, VectorsGood, Good, ReadTo, oneOf, AppliedIs};
 
 // Table and rowset in one number.
 fn key(table: TableNo, rowset: RowsetNo) -> u64
     ensures { λ r. ⌜ r ≡ table .0 * wide32 + rowset .0 ⌝ }
 {
-    wide(table.0) * 4294967296 + wide(rowset.0)
+    crate::wide(table.0) * WIDE + crate::wide(rowset.0)
 }
 
 fn larger(x: u32, y: u32) -> u32
@@ -83,7 +78,7 @@ fn clashes(src: &[u8], tables: &[u64], count: usize, table: TableNo, name: Name)
     requires { ⌜ TablesGood (firsts tableRoom (now tables)) (seconds tableRoom (now tables)) count × (tableRoom + tableRoom ≡ length (now tables)) ⌝ }
     ensures { λ r. ⌜ r ≡ has byTable (table .0 ∷ []) (tablesIn (now (src .entry)) (firsts tableRoom (now (tables .entry))) (seconds tableRoom (now (tables .entry))) count) || nameTaken (nameOf name) (tablesIn (now (src .entry)) (firsts tableRoom (now (tables .entry))) (seconds tableRoom (now (tables .entry))) count) ⌝ }
 {
-    if replay_lists::holds(tables, TABLE_ROOM, count, wide(table.0)) {
+    if replay_lists::holds(tables, TABLE_ROOM, count, crate::wide(table.0)) {
         return true;
     }
     crate::names::taken(src, &tables[TABLE_ROOM..TABLES_END], count, name)
@@ -105,7 +100,13 @@ fn create(
     if clashes(src, tables, sets.tables, table, name) {
         return refused(sets, Refusal::TableConflict(line));
     }
-    let count = replay_lists::put_first(tables, TABLE_ROOM, sets.tables, wide(table.0), note);
+    let count = replay_lists::put_first(
+        tables,
+        TABLE_ROOM,
+        sets.tables,
+        crate::wide(table.0),
+        note,
+    );
     let raised = TableNo(larger(sets.next.table.0, table.0 + 1));
     let mut next = sets.next;
     next.table = raised;
@@ -120,7 +121,7 @@ fn drop(line: usize, table: TableNo, sets: Sets, tables: &mut [u64]) -> Applied
     requires { ⌜ TablesGood (firsts tableRoom (now tables)) (seconds tableRoom (now tables)) (sets .tables) × (tableRoom + tableRoom ≡ length (now tables)) ⌝ }
     ensures { λ r. ⌜ ((src p v : List ℕ) → Good (listsOf (now (tables .entry)) p v) sets → AppliedIs (oneOf line (dropTable (table .0)) (stateIn src (listsOf (now (tables .entry)) p v) sets)) src (listsOf (now (tables .exit)) p v) sets r) ⌝ }
 {
-    let t = wide(table.0);
+    let t = crate::wide(table.0);
     if !replay_lists::holds(tables, TABLE_ROOM, sets.tables, t) {
         return refused(sets, Refusal::TableConflict(line));
     }

@@ -5,6 +5,7 @@ use crate::Replayed;
 use crate::Sets;
 use crate::TABLE_ROOM;
 use crate::TABLES_END;
+use crate::WIDE;
 use crate::WORK_ROOM;
 use ids::TableNo;
 use ids::limits::MOST_HELD;
@@ -38,7 +39,7 @@ fn highs(keys: &[u64], count: usize) -> [u32; MOST_HELD]
     let mut out = [0u32; MOST_HELD];
     let mut i = 0;
     while i < count {
-        out[i] = (keys[i] / 4294967296) as u32;
+        out[i] = (keys[i] / WIDE) as u32;
         i += 1;
     }
     out
@@ -52,7 +53,7 @@ fn lows(keys: &[u64], count: usize) -> [u32; MOST_HELD]
     let mut out = [0u32; MOST_HELD];
     let mut i = 0;
     while i < count {
-        out[i] = (keys[i] % 4294967296) as u32;
+        out[i] = (keys[i] % WIDE) as u32;
         i += 1;
     }
     out

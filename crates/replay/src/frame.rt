@@ -2,6 +2,8 @@
 use crate::Applied;
 use crate::Begun;
 use crate::Here;
+use ids::limits::MOST_HELD;
+use ids::limits::MOST_TABLES;
 use crate::Sets;
 use ids::RowsetNo;
 use ids::TableNo;
@@ -16,7 +18,6 @@ use manifest::operation::ParsedLine;
 use manifest::reader::LineAt;
 ghost use mathlib.Core.Path.{_≡_};
 ghost use mathlib.Core.Bool.{true, false, _||_};
-ghost use Prim.Native.Nat.{_≤_};
 ghost use lib.Dec.{ltb};
 ghost use lib.ListN.{length, take};
 ghost use Rattle.text.specs.Class.{Classes};
@@ -24,11 +25,6 @@ ghost use Rattle.manifest.specs.Operations.{lineSaid};
 ghost use Rattle.ids.specs.Limits.{mostTables, mostHeld};
 ghost use Rattle.replay.specs.Replay.{limited, andThen};
 ghost use Rattle.replay.specs.Working.{leading, saidFrom, HereOf, HereSays, framedLightly, FrameIs, EndIs, Ready, cut, workRoom, stateIn};
-
-// The most that document 01 lets be held.
-const MOST_TABLES: usize = 16;
-
-const MOST_HELD: usize = 256;
 
 fn not_here() -> Here
     ensures { λ r. ⌜ r .found ≡ false ⌝ }

@@ -1,5 +1,8 @@
 // Replay: from the bytes of a manifest to the state at its end.
 use ids::limits::LONGEST_MANIFEST;
+use ids::limits::MOST_HELD;
+use ids::limits::MOST_OPERATIONS;
+use ids::limits::MOST_TABLES;
 use ids::name::Name;
 use ids::refusal::Refusal;
 use ids::refusal::Verdict;
@@ -15,17 +18,20 @@ pub mod frame;
 pub mod lines;
 pub mod names;
 
-// The working slice holds the lists of tables, of pairs and of vectors, one after another. A list has room for as many first
-// numbers as rows, and then for as many second ones: 16 tables and 256 pairs and vectors, and a frame's 600 operations on top.
-pub const TABLE_ROOM: usize = 616;
+// One more than a number of 32 bits may be.
+const WIDE: u64 = 4294967296;
 
-pub const HELD_ROOM: usize = 856;
+// The working slice holds the lists of tables, of pairs and of vectors, one after another. A list has room for the first numbers
+// of its rows, and then for the second ones: for what may be held, and for a frame's operations on top.
+const TABLE_ROOM: usize = MOST_TABLES + MOST_OPERATIONS;
 
-pub const TABLES_END: usize = 1232;
+const HELD_ROOM: usize = MOST_HELD + MOST_OPERATIONS;
 
-pub const PAIRS_END: usize = 2944;
+const TABLES_END: usize = 2 * TABLE_ROOM;
 
-pub const WORK_ROOM: usize = 4656;
+const PAIRS_END: usize = TABLES_END + 2 * HELD_ROOM;
+
+const WORK_ROOM: usize = PAIRS_END + 2 * HELD_ROOM;
 
 // Beside the working slice: the next ids, and how many rows of each list are in use.
 pub struct Sets {
@@ -77,6 +83,12 @@ pub struct Turn {
 pub struct Replayed {
     pub verdict: Verdict,
     pub inner: VersionManagerInner,
+}
+
+fn wide(x: u32) -> u64
+    ensures { λ r. ⌜ r ≡ x ⌝ }
+{
+    x as u64
 }
 
 fn no(refusal: Refusal) -> Replayed

@@ -1,6 +1,7 @@
 // The lines of a manifest, one after another.
 use crate::Applied;
 use crate::Begun;
+use ids::limits::MOST_OPERATIONS;
 use crate::Sets;
 use crate::Spot;
 use crate::Turn;
@@ -19,15 +20,13 @@ ghost use mathlib.Core.Bool.{true, false};
 ghost use mathlib.Core.List.{List, _∷_};
 ghost use Prim.Native.Nat.{ℕ, _+_, _≤_, _<_};
 ghost use lib.ListN.{length};
+ghost use Rattle.ids.specs.Ids.{largest64};
 ghost use Rattle.text.specs.Class.{Classes};
 ghost use Rattle.manifest.specs.Operations.{end, lineSaid};
 ghost use Rattle.manifest.specs.Split.{lines};
 ghost use Rattle.ids.specs.Limits.{longestManifest};
 ghost use Rattle.replay.specs.Replay.{atStart, carried, linesRead, lineRead, Frame};
 ghost use Rattle.replay.specs.Working.{saidFrom, OperationSays, BegunOk, BegunIs, TurnIs, Ready, RunIs, cut, workRoom, stateIn};
-
-// The most operations of a frame.
-const MOST_OPERATIONS: usize = 600;
 
 fn stopped(sets: Sets, begun: Begun, refusal: Refusal) -> Turn
     ensures { λ r. ⌜ r .verdict ≡ Verdict.Refused refusal ⌝ }
@@ -77,7 +76,7 @@ fn no_sets() -> Sets
 
 // Internal, as is all that follows: `B` on a line.
 fn begin_line(spot: Spot, sets: Sets) -> Turn
-    requires { ⌜ (spot .line ≤ spot .next) × (spot .next < 18446744073709551615) ⌝ }
+    requires { ⌜ (spot .line ≤ spot .next) × (spot .next < largest64) ⌝ }
     ensures { λ r. ⌜ (r .verdict ≡ Verdict.Accepted) × (r .sets ≡ sets) × (r .begun .running ≡ true) × (r .begun .place ≡ spot .next) × (r .begun .line ≡ spot .line + 1) × (r .begun .count ≡ 0) ⌝ }
 {
     turned(

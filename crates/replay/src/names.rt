@@ -1,8 +1,10 @@
 // The names of created tables: noted by the place where they stand in the manifest, and read there.
 use crate::Said;
+use crate::WIDE;
+use ids::name::LONGEST_NAME;
 use ids::name::Name;
 ghost use mathlib.Core.Path.{_≡_};
-ghost use Prim.Native.Nat.{ℕ, _-_, _≤_};
+ghost use Prim.Native.Nat.{_-_, _≤_};
 ghost use lib.ListN.{length, take};
 ghost use Rattle.lists.specs.Order.{same};
 ghost use Rattle.lists.specs.Keyed.{anyOf};
@@ -10,16 +12,8 @@ ghost use Rattle.ids.specs.Names.{nameOf};
 ghost use Rattle.ids.specs.Limits.{longestManifest};
 ghost use Rattle.replay.specs.Working.{noted, shapeNoted, nameNoted};
 
-// One more than a number of 32 bits, and than a name's length, may be.
-const WIDE: u64 = 4294967296;
-
-const NAME_SPAN: u64 = 33;
-
-fn wide(x: u32) -> u64
-    ensures { λ r. ⌜ r ≡ x ⌝ }
-{
-    x as u64
-}
+// One more than a name's length may be.
+const NAME_SPAN: u64 = LONGEST_NAME as u64 + 1;
 
 fn long(x: usize) -> u64
     ensures { λ r. ⌜ r ≡ x ⌝ }
@@ -34,7 +28,7 @@ pub fn note(shape: u32, end: usize, name: Name) -> u64
 {
     let k = name.length();
     let from = end - k;
-    wide(shape) * WIDE + (long(from) * NAME_SPAN + long(k))
+    crate::wide(shape) * WIDE + (long(from) * NAME_SPAN + long(k))
 }
 
 fn least(n: usize, most: usize) -> usize

@@ -1,11 +1,10 @@
 -- Laws of rows in two lists side by side. Assumes nothing.
 use mathlib.Core.Path.{_≡_, refl, sym, ap, _∙_}
-use mathlib.Core.Bool.{Bool, true, false, _&&_, _||_, cond, not}
-use mathlib.Core.List.{List, [], _∷_, _++_}
+use mathlib.Core.Bool.{Bool, true, false, _&&_, not}
+use mathlib.Core.List.{List, [], _∷_}
 use Prim.Native.Nat.{ℕ, zero, suc, _+_, _-_, _≤_, _<_}
 use native.Mathlib.Omega.{arith}
 use native.Mathlib.Nat.{not-suc-le-zero, le-of-suc-le-suc}
-use native.Mathlib.Numerals.{add-one}
 use borrow.Author.Tests.{ltb-true, ltb-false, le-ltb, lt-ltb, eqb-true}
 use lib.Dec.{ltb, eqb}
 use lib.ListN.{length, getD, take, drop, set, length-drop}
@@ -13,10 +12,10 @@ use lib.Seq.{getD-take, length-take-le, take-set-le, take-set-lt, drop-set-add}
 use Rattle.lists.specs.Order.{less, same, lex}
 use Rattle.lists.specs.Keyed.{isAt, has, put, without, ascending, rank}
 use Rattle.lists.specs.Places.{insertAt, removeAt}
-use Rattle.lists.proofs.Tests.{by-cases, clash, both, neither}
-use Rattle.lists.proofs.Order.{same-true, same-eq}
-use Rattle.lists.proofs.Keyed.{Ascending, ascend-to, without-absent}
-use Rattle.lists.proofs.Places.{rank-le, has-here, has-end, without-at, drop-view, drop-end}
+use Rattle.lists.proofs.Tests.{by-cases, both}
+use Rattle.lists.proofs.Order.{same-true}
+use Rattle.lists.proofs.Keyed.{ascend-to, without-absent}
+use Rattle.lists.proofs.Places.{has-here, has-end, without-at, drop-view, drop-end}
 use Rattle.lists.proofs.Views.{put-here, put-other}
 use Rattle.replay_lists.specs.Rows.{beside, rows, firsts, seconds, held, byBoth, byFirst}
 use Rattle.replay_lists.proofs.Parts.{back, back-in, back-before, back-after, back-length}

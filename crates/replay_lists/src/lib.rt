@@ -6,7 +6,7 @@ ghost use mathlib.Core.List.{[], _∷_};
 ghost use Prim.Native.Nat.{_+_, _-_, _≤_, _<_};
 ghost use lib.Dec.{ltb, eqb};
 ghost use lib.ListN.{length, take, getD};
-ghost use Rattle.lists.specs.Order.{less, same};
+ghost use Rattle.lists.specs.Order.{less};
 ghost use Rattle.lists.specs.Keyed.{has, put, without, ascending, rank};
 ghost use Rattle.lists.specs.Places.{insertAt, removeAt};
 ghost use Rattle.replay_lists.specs.Found.{FoundIs, FirstFoundIs};

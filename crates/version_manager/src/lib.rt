@@ -87,7 +87,7 @@ pub fn handed(inner: VersionManagerInner) -> VersionManager
 }
 
 // What a commit by a manager that passed 29 hands back: on a refusal the very same manager.
-fn committed(manager: VersionManager, done: Done) -> Committed
+fn after_commit(manager: VersionManager, done: Done) -> Committed
     ensures { λ r. ⌜ ((x : Outcome) (os : List Operation) (out out′ : List ℕ) → CommitIs x os out done out′ → CommitEnds x manager os out r out′) ⌝ }
 {
     let verdict = done.verdict;
@@ -197,7 +197,7 @@ impl VersionManager {
         }
         let inner = self.inner;
         let done = commit::commit(inner, batch, out);
-        committed(self, done)
+        after_commit(self, done)
     }
 
     // The operations as manifest lines: each newline ends one, and bytes after the last newline are one more.
@@ -212,7 +212,7 @@ impl VersionManager {
         }
         let inner = self.inner;
         let done = commit::commit_lines(inner, ops, out);
-        committed(self, done)
+        after_commit(self, done)
     }
 
     pub fn vacuum(self, book: PinBook, tables: &mut [u32], rowsets: &mut [u32]) -> Vacuumed

@@ -1,7 +1,6 @@
 -- `replay_lists::both_stand` meets its contract. Assumes nothing.
 use borrow.Author.Tests.{lt-ltb, le-ltb, eq-eqb, ne-eqb}
 use Rattle.lists.proofs.Places.{known}
-use borrow.Author.Needs.{needs}
 use Rattle.replay_lists.proofs.both_stand.Statement.{statement}
 use Rattle.replay_lists.proofs.both_stand.Tie as tie
 

@@ -1,7 +1,6 @@
 -- `replay_lists::stands` meets its contract. Assumes nothing.
 use borrow.Author.Tests.{lt-ltb, le-ltb}
 use Rattle.lists.proofs.Places.{known}
-use borrow.Author.Needs.{needs}
 use Rattle.replay_lists.proofs.stands.Statement.{statement}
 use Rattle.replay_lists.proofs.stands.Tie as tie
 

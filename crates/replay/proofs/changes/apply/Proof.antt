@@ -1,5 +1,5 @@
 -- `replay::changes::apply` meets its contract. Assumes nothing.
-use mathlib.Core.Path.{_≡_, sym, ap, _∙_}
+use mathlib.Core.Path.{sym, ap, _∙_}
 use native.Mathlib.Omega.{arith}
 use lib.ListN.{drop}
 use Rattle.replay.specs.Working.{shapeNoted, tablesPart, pairsPart, vectorsPart}

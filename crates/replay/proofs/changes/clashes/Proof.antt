@@ -2,9 +2,7 @@
 use mathlib.Core.Path.{_≡_, sym, _∙_}
 use mathlib.Core.Bool.{true, false}
 use mathlib.Core.List.{[], _∷_}
-use Prim.Native.Nat.{_≤_}
 use native.Mathlib.Omega.{arith}
-use lib.ListN.{length}
 use Rattle.lists.specs.Keyed.{has}
 use Rattle.ids.specs.Names.{nameOf}
 use Rattle.snapshot.specs.Tables.{byTable}

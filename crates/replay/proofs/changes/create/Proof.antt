@@ -5,7 +5,7 @@ use mathlib.Core.List.{List, [], _∷_}
 use native.Mathlib.Omega.{arith}
 use Rattle.lists.specs.Keyed.{has, put}
 use Rattle.ids.specs.Names.{nameOf}
-use Rattle.snapshot.specs.Tables.{TableEntry, created, byTable, nameTaken}
+use Rattle.snapshot.specs.Tables.{created, byTable, nameTaken}
 use Rattle.replay_lists.specs.Rows.{firsts, seconds}
 use Rattle.replay.specs.declared.Sets.{Sets}
 use Rattle.replay.specs.Working.{AppliedIs, shapeNoted, tableRoom, tablesIn}

@@ -1,6 +1,5 @@
 -- `replay::changes::raise` meets its contract. Assumes nothing.
-use mathlib.Core.Path.{_≡_, sym, ap, _∙_}
-use Prim.Native.Nat.{_+_, _≤_}
+use mathlib.Core.Path.{ap, _∙_}
 use native.Mathlib.Omega.{arith}
 use Rattle.replay.specs.declared.Sets.{Sets}
 use Rattle.replay.specs.Working.{AppliedIs}

@@ -6,7 +6,6 @@ use Rattle.lists.proofs.Places.{known}
 use Rattle.manifest.proofs.Split.{line-placed, line-further}
 use Rattle.replay.specs.Working.{leading}
 use Rattle.replay.proofs.Frames.{said-line, said-none, nothing-leads, read-at}
-use borrow.Author.Needs.{needs}
 use Rattle.replay.proofs.frame.operation_at.Statement.{statement}
 use Rattle.replay.proofs.frame.operation_at.Tie as tie
 

@@ -3,7 +3,6 @@ use mathlib.Core.Path.{refl, sym, _∙_}
 use mathlib.Core.Bool.{true, false, true≢false}
 use Rattle.lists.proofs.Places.{known}
 use Rattle.replay.specs.Working.{leading}
-use borrow.Author.Needs.{needs}
 use Rattle.replay.proofs.frame.operation_of.Statement.{statement}
 use Rattle.replay.proofs.frame.operation_of.Tie as tie
 

@@ -2,7 +2,6 @@
 use mathlib.Core.Path.{ap}
 use Rattle.lists.proofs.Places.{known}
 use Rattle.replay.specs.declared.Begun.{Begun}
-use borrow.Author.Needs.{needs}
 use Rattle.replay.proofs.lines.begin_line.Statement.{statement}
 use Rattle.replay.proofs.lines.begin_line.Tie as tie
 

@@ -4,7 +4,6 @@ use mathlib.Core.Bool.{true, false, true≢false}
 use borrow.Author.Tests.{le-leb, lt-leb, not-true, not-false}
 use Rattle.lists.proofs.Places.{known}
 use Rattle.replay.specs.declared.Begun.{Begun}
-use borrow.Author.Needs.{needs}
 use Rattle.replay.proofs.lines.operation_line.Statement.{statement}
 use Rattle.replay.proofs.lines.operation_line.Tie as tie
 

@@ -1,8 +1,7 @@
 -- `replay::names::said` meets its contract. Assumes nothing.
 use mathlib.Core.Path.{refl, _∙_}
 use native.Mathlib.Omega.{arith}
-use Prim.Native.Nat.{_%_}
-use lib.ListN.{length, take, drop, length-take}
+use lib.ListN.{length-take}
 use Rattle.lists.proofs.Places.{known}
 use Rattle.replay.proofs.names.said.Statement.{statement}
 use Rattle.replay.proofs.names.said.Tie as tie
