@@ -5,12 +5,15 @@ ghost use Rattle.ids.specs.Ids.{isId32, isId64};
 pub mod name;
 pub mod refusal;
 
+#[repr(C)]
 pub struct TableNo(pub u32);
 
+#[repr(C)]
 pub struct RowsetNo(pub u32);
 
 pub struct RowNo(pub u32);
 
+#[repr(C)]
 pub struct VectorNo(pub u64);
 
 // A row of a rowset.

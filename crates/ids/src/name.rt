@@ -6,6 +6,7 @@ ghost use Rattle.lists.specs.Order.{same};
 ghost use Rattle.ids.specs.Names.{nameOf};
 
 // A table's name: the first `len` bytes. A length over 32 is no name's.
+#[repr(C)]
 pub struct Name {
     pub bytes: [u8; 32],
     pub len: usize,

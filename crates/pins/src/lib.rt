@@ -7,12 +7,14 @@ ghost use Rattle.lists.specs.Order.{less};
 ghost use Rattle.lists.specs.Keyed.{allOf, isAt, ascending};
 ghost use Rattle.pins.specs.Book.{pinEntry, pinsOf, byEpoch, validPin, badBook, GoodBook, pinned, mayShow, bound};
 
+#[repr(C)]
 pub struct Pin {
     pub epoch: u32,
     pub count: u16,
 }
 
 // Pinned epochs with their counts, ascending.
+#[repr(C)]
 pub struct PinBook {
     pub items: [Pin; 64],
     pub count: usize,

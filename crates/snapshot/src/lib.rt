@@ -11,12 +11,14 @@ pub mod tables;
 pub mod vectors;
 
 // A rowset of a table.
+#[repr(C)]
 pub struct Pair {
     pub table: TableNo,
     pub rowset: RowsetNo,
 }
 
 // The epochs at which something held was added and deleted; deleted is 0 while it is not.
+#[repr(C)]
 pub struct Epochs {
     pub added: u32,
     pub deleted: u32,

@@ -17,12 +17,14 @@ ghost use Rattle.snapshot.specs.Entries.{byIds, byDeletion, nothing, del
 ghost use Rattle.snapshot.specs.Views.{pairIds, rowsetEntry, rowsetsOf};
 
 // A held rowset: shown now, or deleted and waiting for a vacuum.
+#[repr(C)]
 pub struct Rowset {
     pub pair: Pair,
     pub epochs: Epochs,
 }
 
 // Held rowsets, ascending by pair. The room is for 256 and the 600 operations of a frame on top.
+#[repr(C)]
 pub struct Rowsets {
     pub items: [Rowset; 856],
     pub count: usize,

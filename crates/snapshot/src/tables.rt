@@ -13,6 +13,7 @@ ghost use Rattle.ids.specs.Names.{nameOf};
 ghost use Rattle.snapshot.specs.Tables.{TableEntry, byTable, nameTaken};
 ghost use Rattle.snapshot.specs.Views.{tableEntry, tablesOf};
 
+#[repr(C)]
 pub struct Table {
     pub id: TableNo,
     pub shape: u32,
@@ -21,6 +22,7 @@ pub struct Table {
 }
 
 // Live tables, ascending by id.
+#[repr(C)]
 pub struct Tables {
     pub items: [Table; 16],
     pub count: usize,

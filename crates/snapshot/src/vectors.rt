@@ -18,6 +18,7 @@ ghost use Rattle.snapshot.specs.Entries.{byIds, byDeletion, nothing, del
 ghost use Rattle.snapshot.specs.Views.{vectorIds, vectorEntry, vectorsOf};
 
 // A held delete vector of a rowset: shown now, or deleted and waiting for a vacuum.
+#[repr(C)]
 pub struct Vector {
     pub pair: Pair,
     pub vector: VectorNo,
@@ -25,6 +26,7 @@ pub struct Vector {
 }
 
 // Held delete vectors, ascending by pair and vector. The room is for 256 and the 600 operations of a frame on top.
+#[repr(C)]
 pub struct Vectors {
     pub items: [Vector; 856],
     pub count: usize,

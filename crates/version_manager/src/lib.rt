@@ -16,11 +16,13 @@ ghost use Rattle.version_manager.specs.Managers.{FreshSays, committedOf,
 ghost use Rattle.version_manager.specs.Laws.{DrawLaws};
 ghost use Rattle.version_manager.specs.Draw.{DrawRowsetSays, DrawVectorSays};
 
+#[repr(C)]
 pub struct VersionManager {
     pub inner: VersionManagerInner,
 }
 
 // A manager, and the book that goes with it.
+#[repr(C)]
 pub struct Opened {
     pub manager: VersionManager,
     pub book: PinBook,

@@ -18,12 +18,14 @@ ghost use Rattle.version_state.specs.State.{start, stateOf, countsFit, F
 ghost use Rattle.version_state.specs.Sound.{hasTable, hasRowset, leftBehind, beyondLimits, outOfOrder, aboveOwn, badManager};
 
 // The next id of each kind.
+#[repr(C)]
 pub struct NextIds {
     pub table: TableNo,
     pub rowset: RowsetNo,
     pub vector: VectorNo,
 }
 
+#[repr(C)]
 pub struct VersionManagerInner {
     pub epoch: u32,
     pub next: NextIds,
