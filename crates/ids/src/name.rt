@@ -7,6 +7,7 @@ ghost use Rattle.lists.specs.Order.{same};
 ghost use Rattle.ids.specs.Names.{longestName, nameOf};
 
 // A table's name: the first `len` bytes. A greater length is no name's.
+#[repr(C)]
 pub struct Name {
     pub bytes: [u8; LONGEST_NAME],
     pub len: usize,

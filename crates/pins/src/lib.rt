@@ -10,12 +10,14 @@ ghost use Rattle.pins.specs.Book.{pinEntry, pinsOf, byEpoch, mostPinned,
 // Document 01's limit: epochs that are pinned at a time.
 pub const MOST_PINNED: usize = 64;
 
+#[repr(C)]
 pub struct Pin {
     pub epoch: u32,
     pub count: u16,
 }
 
 // Pinned epochs with their counts, ascending.
+#[repr(C)]
 pub struct PinBook {
     pub items: [Pin; MOST_PINNED],
     pub count: usize,

@@ -1,0 +1,317 @@
+// The library's calls. The manager's layout and how a commit's operations are spelled stand here and nowhere else.
+use crate::layout::{self, Answer, Booked, NextIds, PinBook, VersionManager, LONGEST_NAME};
+
+#[repr(C)]
+#[derive(Clone, Copy)]
+pub struct Name {
+    bytes: [u8; 32],
+    len: usize,
+}
+
+#[repr(C)]
+#[derive(Clone, Copy)]
+pub struct Table {
+    id: u32,
+    shape: u32,
+    name: Name,
+    locked: bool,
+}
+
+#[repr(C)]
+#[derive(Clone, Copy)]
+pub struct Rowset {
+    table: u32,
+    rowset: u32,
+    added: u32,
+    deleted: u32,
+}
+
+#[repr(C)]
+#[derive(Clone, Copy)]
+pub struct Vector {
+    table: u32,
+    rowset: u32,
+    vector: u64,
+    added: u32,
+    deleted: u32,
+}
+
+#[repr(C)]
+#[derive(Clone, Copy)]
+pub struct List<T: Copy, const N: usize> {
+    items: [T; N],
+    pub count: usize,
+}
+
+#[repr(C)]
+#[derive(Clone, Copy)]
+pub struct Manager {
+    pub epoch: u32,
+    pub next: NextIds,
+    pub tables: List<Table, 16>,
+    pub rowsets: List<Rowset, 856>,
+    pub vectors: List<Vector, 856>,
+    pub manifest: usize,
+}
+
+// The same manager in columns.
+pub fn columns(m: &Manager) -> VersionManager {
+    let mut s: VersionManager = unsafe { std::mem::zeroed() };
+    s.epoch = m.epoch;
+    s.next = m.next;
+    s.manifest = m.manifest;
+    s.tables.count = m.tables.count;
+    for (i, t) in m.tables.items[..m.tables.count].iter().enumerate() {
+        s.tables.ids[i] = t.id;
+        s.tables.shapes[i] = t.shape;
+        s.tables.lengths[i] = t.name.len as u32;
+        s.tables.names[i * LONGEST_NAME..][..LONGEST_NAME].copy_from_slice(&t.name.bytes);
+        s.tables.locked[i] = t.locked;
+    }
+    s.rowsets.count = m.rowsets.count;
+    for (i, x) in m.rowsets.items[..m.rowsets.count].iter().enumerate() {
+        s.rowsets.tables[i] = x.table;
+        s.rowsets.rowsets[i] = x.rowset;
+        s.rowsets.added[i] = x.added;
+        s.rowsets.deleted[i] = x.deleted;
+    }
+    s.vectors.count = m.vectors.count;
+    for (i, x) in m.vectors.items[..m.vectors.count].iter().enumerate() {
+        s.vectors.tables[i] = x.table;
+        s.vectors.rowsets[i] = x.rowset;
+        s.vectors.vectors[i] = x.vector;
+        s.vectors.added[i] = x.added;
+        s.vectors.deleted[i] = x.deleted;
+    }
+    s
+}
+
+// A commit's operations, given as lines, as the library takes them: a blank before each.
+pub fn spelled(lines: &[u8]) -> Vec<u8> {
+    let mut words = vec![];
+    for line in lines.split_inclusive(|b| *b == b'\n') {
+        words.push(b' ');
+        words.extend(line.iter().filter(|b| **b != b'\n'));
+    }
+    words
+}
+
+pub type Handed = layout::Handed<Manager>;
+pub type Begun = layout::Begun<Manager>;
+
+#[repr(C)]
+#[derive(Clone, Copy)]
+pub struct Opened {
+    pub manager: Manager,
+    pub book: PinBook,
+}
+
+// A slice crosses as its pointer and its length.
+#[link(name = "host", kind = "static")]
+extern "C" {
+    fn seqapti_fresh() -> Opened;
+    fn seqapti_draw_rowset(m: Manager) -> Handed;
+    fn seqapti_draw_vector(m: Manager) -> Handed;
+    fn seqapti_commit(m: Manager, ops: *const u8, n: usize, out: *mut u8, room: usize) -> Handed;
+    fn seqapti_vacuum(
+        m: Manager,
+        b: PinBook,
+        t: *mut u32,
+        tn: usize,
+        r: *mut u32,
+        rn: usize,
+    ) -> Handed;
+    fn seqapti_show_tables(
+        m: Manager,
+        b: PinBook,
+        e: u32,
+        i: *mut u32,
+        ni: usize,
+        h: *mut u32,
+        nh: usize,
+        l: *mut u32,
+        nl: usize,
+        s: *mut u8,
+        ns: usize,
+    ) -> Answer;
+    fn seqapti_show_pairs(
+        m: Manager,
+        b: PinBook,
+        e: u32,
+        t: *mut u32,
+        tn: usize,
+        r: *mut u32,
+        rn: usize,
+    ) -> Answer;
+    fn seqapti_show_vectors(
+        m: Manager,
+        b: PinBook,
+        e: u32,
+        t: *mut u32,
+        tn: usize,
+        r: *mut u32,
+        rn: usize,
+        v: *mut u64,
+        vn: usize,
+    ) -> Answer;
+    fn seqapti_bootstrap(src: *const u8, n: usize, out: *mut u8, room: usize) -> Begun;
+    fn seqapti_pin(m: Manager, b: PinBook) -> Booked;
+    fn seqapti_unpin(m: Manager, b: PinBook, e: u32) -> Booked;
+    fn seqapti_write_all(rows: *const u32, n: usize, out: *mut u8, room: usize) -> Answer;
+    fn seqapti_read_all(bytes: *const u8, n: usize, rows: *mut u32, room: usize) -> Answer;
+    fn seqapti_in_memory(rows: *const u32, n: usize, out: *mut u32, room: usize) -> Answer;
+    fn seqapti_apply_to(rows: *const u32, n: usize, bits: *mut u8, k: usize, offset: u32)
+        -> Answer;
+}
+
+#[inline(always)]
+pub fn fresh() -> Opened {
+    unsafe { seqapti_fresh() }
+}
+
+#[inline(always)]
+pub fn draw_rowset(m: Manager) -> Handed {
+    unsafe { seqapti_draw_rowset(m) }
+}
+
+#[inline(always)]
+#[allow(dead_code)]
+pub fn draw_vector(m: Manager) -> Handed {
+    unsafe { seqapti_draw_vector(m) }
+}
+
+#[inline(always)]
+pub fn commit(m: Manager, ops: &[u8], out: &mut [u8]) -> Handed {
+    unsafe { seqapti_commit(m, ops.as_ptr(), ops.len(), out.as_mut_ptr(), out.len()) }
+}
+
+#[inline(always)]
+pub fn vacuum(m: Manager, b: PinBook, tables: &mut [u32], rowsets: &mut [u32]) -> Handed {
+    unsafe {
+        seqapti_vacuum(
+            m,
+            b,
+            tables.as_mut_ptr(),
+            tables.len(),
+            rowsets.as_mut_ptr(),
+            rowsets.len(),
+        )
+    }
+}
+
+#[inline(always)]
+#[allow(dead_code)]
+pub fn show_tables(
+    m: Manager,
+    b: PinBook,
+    e: u32,
+    ids: &mut [u32],
+    shapes: &mut [u32],
+    lengths: &mut [u32],
+    names: &mut [u8],
+) -> Answer {
+    unsafe {
+        seqapti_show_tables(
+            m,
+            b,
+            e,
+            ids.as_mut_ptr(),
+            ids.len(),
+            shapes.as_mut_ptr(),
+            shapes.len(),
+            lengths.as_mut_ptr(),
+            lengths.len(),
+            names.as_mut_ptr(),
+            names.len(),
+        )
+    }
+}
+
+#[inline(always)]
+pub fn show_pairs(
+    m: Manager,
+    b: PinBook,
+    e: u32,
+    tables: &mut [u32],
+    rowsets: &mut [u32],
+) -> Answer {
+    unsafe {
+        seqapti_show_pairs(
+            m,
+            b,
+            e,
+            tables.as_mut_ptr(),
+            tables.len(),
+            rowsets.as_mut_ptr(),
+            rowsets.len(),
+        )
+    }
+}
+
+#[inline(always)]
+#[allow(dead_code)]
+pub fn show_vectors(
+    m: Manager,
+    b: PinBook,
+    e: u32,
+    tables: &mut [u32],
+    rowsets: &mut [u32],
+    vectors: &mut [u64],
+) -> Answer {
+    unsafe {
+        seqapti_show_vectors(
+            m,
+            b,
+            e,
+            tables.as_mut_ptr(),
+            tables.len(),
+            rowsets.as_mut_ptr(),
+            rowsets.len(),
+            vectors.as_mut_ptr(),
+            vectors.len(),
+        )
+    }
+}
+
+#[inline(always)]
+pub fn bootstrap(src: &[u8], out: &mut [u8]) -> Begun {
+    unsafe { seqapti_bootstrap(src.as_ptr(), src.len(), out.as_mut_ptr(), out.len()) }
+}
+
+#[inline(always)]
+pub fn pin(m: Manager, b: PinBook) -> Booked {
+    unsafe { seqapti_pin(m, b) }
+}
+
+#[inline(always)]
+pub fn unpin(m: Manager, b: PinBook, e: u32) -> Booked {
+    unsafe { seqapti_unpin(m, b, e) }
+}
+
+#[inline(always)]
+pub fn write_all(rows: &[u32], out: &mut [u8]) -> Answer {
+    unsafe { seqapti_write_all(rows.as_ptr(), rows.len(), out.as_mut_ptr(), out.len()) }
+}
+
+#[inline(always)]
+pub fn read_all(bytes: &[u8], rows: &mut [u32]) -> Answer {
+    unsafe { seqapti_read_all(bytes.as_ptr(), bytes.len(), rows.as_mut_ptr(), rows.len()) }
+}
+
+#[inline(always)]
+pub fn in_memory(rows: &[u32], out: &mut [u32]) -> Answer {
+    unsafe { seqapti_in_memory(rows.as_ptr(), rows.len(), out.as_mut_ptr(), out.len()) }
+}
+
+#[inline(always)]
+pub fn apply_to(rows: &[u32], bits: &mut [u8], offset: u32) -> Answer {
+    unsafe {
+        seqapti_apply_to(
+            rows.as_ptr(),
+            rows.len(),
+            bits.as_mut_ptr(),
+            bits.len(),
+            offset,
+        )
+    }
+}

@@ -1,0 +1,78 @@
+-- What each call over the border promises: the entry point's own proposition, told in numbers. Assumes nothing.
+use mathlib.Core.List.{List}
+use Prim.Native.Nat.{ℕ}
+use Rattle.manifest.specs.declared.operation.Batch.{Batch}
+use Rattle.pins.specs.declared.PinBook.{PinBook}
+use Rattle.commit.specs.declared.CommitAnswer.{CommitAnswer}
+use Rattle.commit.specs.Commit.{commitTold, CommitSays}
+use Rattle.vacuum.specs.declared.VacuumAnswer.{VacuumAnswer}
+use Rattle.vacuum.specs.Says.{vacuumTold, VacuumSays}
+use Rattle.show.specs.declared.ShowAnswer.{ShowAnswer}
+use Rattle.show.specs.Says.{showTold, ShowTablesSays, ShowPairsSays, ShowVectorsSays}
+use Rattle.version_manager.specs.declared.VersionManager.{VersionManager}
+use Rattle.version_manager.specs.declared.RowsetAnswer.{RowsetAnswer}
+use Rattle.version_manager.specs.declared.VectorAnswer.{VectorAnswer}
+use Rattle.version_manager.specs.Managers.{committedOf, vacuumedOf}
+use Rattle.version_manager.specs.Draw.{rowsetTold, vectorTold, DrawRowsetSays, DrawVectorSays}
+use Rattle.pinning.specs.declared.PinAnswer.{PinAnswer}
+use Rattle.pinning.specs.declared.UnpinAnswer.{UnpinAnswer}
+use Rattle.pinning.specs.Says.{pinTold, unpinTold, PinSays, UnpinSays}
+use Rattle.storage.specs.declared.ReopenAnswer.{ReopenAnswer}
+use Rattle.storage.specs.Reopen.{reopenTold, ReopenSays}
+use Rattle.delete_vector.specs.declared.Written.{Written}
+use Rattle.delete_vector.specs.declared.Loaded.{Loaded}
+use Rattle.delete_vector.specs.declared.Held.{Held}
+use Rattle.delete_vector.specs.declared.Masked.{Masked}
+use Rattle.delete_vector.specs.Answers.{writtenTold, loadedTold, heldTold, maskedTold}
+use Rattle.delete_vector.specs.Says.{WriteSays, ReadSays, MemorySays, MaskSays}
+use Rattle.host.specs.declared.answers.Answer.{Answer}
+use Rattle.host.specs.declared.Handed.{Handed}
+use Rattle.host.specs.declared.Booked.{Booked}
+use Rattle.host.specs.declared.Begun.{Begun}
+use Rattle.host.specs.Numbers.{Tells}
+
+abbrev pub WriteTold : List ℕ → List ℕ → Answer → List ℕ → Type 0
+WriteTold rows out r out′ = Tells Written writtenTold (λ a. WriteSays rows out a out′) r
+
+abbrev pub ReadTold : List ℕ → List ℕ → Answer → List ℕ → Type 0
+ReadTold file rows r rows′ = Tells Loaded loadedTold (λ a. ReadSays file rows a rows′) r
+
+abbrev pub MemoryTold : List ℕ → List ℕ → Answer → List ℕ → Type 0
+MemoryTold rows out r out′ = Tells Held heldTold (λ a. MemorySays rows out a out′) r
+
+abbrev pub MaskTold : List ℕ → List ℕ → ℕ → Answer → List ℕ → Type 0
+MaskTold rows bits offset r bits′ = Tells Masked maskedTold (λ a. MaskSays rows bits offset a bits′) r
+
+abbrev pub DrawRowsetTold : VersionManager → Handed → Type 0
+DrawRowsetTold m r = Tells RowsetAnswer rowsetTold (λ a. DrawRowsetSays m (record { manager = r .manager; answer = a })) (r .answer)
+
+abbrev pub DrawVectorTold : VersionManager → Handed → Type 0
+DrawVectorTold m r = Tells VectorAnswer vectorTold (λ a. DrawVectorSays m (record { manager = r .manager; answer = a })) (r .answer)
+
+-- of the batch that was read from the lent text
+pub record CommitTold (m : VersionManager) (out : List ℕ) (r : Handed) (out′ : List ℕ) : Type 0 where
+  pub batch : Batch
+  pub tells : Tells CommitAnswer commitTold (λ a. CommitSays (m .inner) batch out (committedOf (record { manager = r .manager; answer = a })) out′) (r .answer)
+
+abbrev pub VacuumTold : VersionManager → PinBook → List ℕ → List ℕ → Handed → List ℕ → List ℕ → Type 0
+VacuumTold m b ts rs r ts′ rs′ =
+    Tells VacuumAnswer vacuumTold (λ a. VacuumSays (m .inner) b ts rs (vacuumedOf (record { manager = r .manager; answer = a })) ts′ rs′) (r .answer)
+
+abbrev pub ShowTablesTold : VersionManager → PinBook → ℕ → List ℕ → List ℕ → List ℕ → List ℕ → Answer → List ℕ → List ℕ → List ℕ → List ℕ → Type 0
+ShowTablesTold m b e is hs ls ns r is′ hs′ ls′ ns′ = Tells ShowAnswer showTold (λ a. ShowTablesSays (m .inner) b e is hs ls ns a is′ hs′ ls′ ns′) r
+
+abbrev pub ShowPairsTold : VersionManager → PinBook → ℕ → List ℕ → List ℕ → Answer → List ℕ → List ℕ → Type 0
+ShowPairsTold m b e ts rs r ts′ rs′ = Tells ShowAnswer showTold (λ a. ShowPairsSays (m .inner) b e ts rs a ts′ rs′) r
+
+abbrev pub ShowVectorsTold : VersionManager → PinBook → ℕ → List ℕ → List ℕ → List ℕ → Answer → List ℕ → List ℕ → List ℕ → Type 0
+ShowVectorsTold m b e ts rs vs r ts′ rs′ vs′ = Tells ShowAnswer showTold (λ a. ShowVectorsSays (m .inner) b e ts rs vs a ts′ rs′ vs′) r
+
+abbrev pub ReopenTold : List ℕ → List ℕ → Begun → List ℕ → Type 0
+ReopenTold src out r out′ =
+    Tells ReopenAnswer reopenTold (λ a. ReopenSays src out (record { manager = r .manager; book = r .book; answer = a }) out′) (r .answer)
+
+abbrev pub PinTold : VersionManager → PinBook → Booked → Type 0
+PinTold m b r = Tells PinAnswer pinTold (λ a. PinSays m b a (r .book)) (r .answer)
+
+abbrev pub UnpinTold : VersionManager → ℕ → PinBook → Booked → Type 0
+UnpinTold m e b r = Tells UnpinAnswer unpinTold (λ a. UnpinSays m e b a (r .book)) (r .answer)
