@@ -41,7 +41,7 @@ impl Both {
         self.said(what, p.answer, b.answer);
         self.port = p.manager;
         self.bound = b.manager;
-        let same = port::columns(&self.port).same(&self.bound);
+        let same = self.port.same(&self.bound);
         assert!(same, "{what}: managers differ");
     }
 
@@ -76,7 +76,7 @@ impl Both {
         let lines = texts::lines(&ops);
         let room = if self.random.one_in(20) { 10 } else { 65536 };
         let (mut x, mut y) = (vec![0u8; room], vec![0u8; room]);
-        let p = port::commit(self.port, &port::spelled(&lines), &mut x);
+        let p = port::commit(self.port, &lines, &mut x);
         let b = bound::commit(self.bound, &lines, &mut y);
         self.handed("commit", p, b);
         assert!(x == y, "commit: appends differ");
@@ -134,7 +134,7 @@ impl Both {
         let p = port::bootstrap(s.as_bytes(), &mut x);
         let b = bound::bootstrap(s.as_bytes(), &mut y);
         self.said("reopen", p.answer, b.answer);
-        let same = port::columns(&p.manager).same(&b.manager) && p.book.same(&b.book);
+        let same = p.manager.same(&b.manager) && p.book.same(&b.book);
         assert!(same, "reopen: managers differ");
         assert!(x == y, "reopen: rewritten manifests differ");
         if p.answer.number == 0 {
@@ -208,7 +208,7 @@ impl Both {
 pub fn some(calls: usize) {
     let opened = port::fresh();
     let bound = bound::fresh();
-    assert!(port::columns(&opened.manager).same(&bound) && opened.book.count == 0);
+    assert!(opened.manager.same(&bound) && opened.book.count == 0);
     let (port, book) = (opened.manager, opened.book);
     let mut s = Both {
         port,

@@ -33,7 +33,7 @@ fn equal(name: &str, p: Answer, b: Answer) {
 }
 
 fn same(name: &str, p: &port::Manager, b: &VersionManager) {
-    assert!(port::columns(p).same(b), "{name}: managers differ");
+    assert!(p.same(b), "{name}: managers differ");
 }
 
 pub fn reopened(text: &str) -> port::Manager {
@@ -48,7 +48,7 @@ pub fn reopened(text: &str) -> port::Manager {
 }
 
 pub fn committed(m: port::Manager, ops: &[String]) -> port::Manager {
-    let r = port::commit(m, &port::spelled(&texts::lines(ops)), &mut vec![0; 65536]);
+    let r = port::commit(m, &texts::lines(ops), &mut vec![0; 65536]);
     assert!(
         r.answer.number == 0,
         "refused by {} at {}",
@@ -120,10 +120,9 @@ fn pinned_epochs(held: usize, pinned: usize) -> (port::Manager, PinBook) {
 
 fn commit(rows: &mut Rows, name: String, m: port::Manager, ops: &[String]) {
     let lines = kept(texts::lines(ops));
-    let words = kept(port::spelled(lines));
-    let (m, c) = (kept(m), kept(port::columns(&m)));
+    let (m, c) = (kept(m), kept(m));
     let out = buffer::<u8>(65536);
-    let p = port::commit(*m, words, at(out));
+    let p = port::commit(*m, lines, at(out));
     let written = copied(out);
     at(out).fill(0);
     let b = bound::commit(*c, lines, at(out));
@@ -135,7 +134,7 @@ fn commit(rows: &mut Rows, name: String, m: port::Manager, ops: &[String]) {
     rows.add(
         name,
         move || {
-            *p = port::commit(*black_box(m), black_box(words), at(out));
+            *p = port::commit(*black_box(m), black_box(lines), at(out));
             black_box(&p);
         },
         move || {
@@ -146,7 +145,7 @@ fn commit(rows: &mut Rows, name: String, m: port::Manager, ops: &[String]) {
 }
 
 fn draw(rows: &mut Rows, name: String, m: port::Manager) {
-    let (m, c) = (kept(m), kept(port::columns(&m)));
+    let (m, c) = (kept(m), kept(m));
     let mut p = Box::new(port::draw_rowset(*m));
     let mut b = Box::new(bound::draw_rowset(*c));
     equal(&name, p.answer, b.answer);
@@ -165,7 +164,7 @@ fn draw(rows: &mut Rows, name: String, m: port::Manager) {
 }
 
 fn pin(rows: &mut Rows, name: String, m: port::Manager, book: PinBook) {
-    let (m, c, book) = (kept(m), kept(port::columns(&m)), kept(book));
+    let (m, c, book) = (kept(m), kept(m), kept(book));
     let p = port::pin(*m, *book);
     let b = bound::pin(*c, *book);
     equal(&name, p.answer, b.answer);
@@ -183,7 +182,7 @@ fn pin(rows: &mut Rows, name: String, m: port::Manager, book: PinBook) {
 
 // The oldest pin is taken off.
 fn unpin(rows: &mut Rows, name: String, m: port::Manager, book: PinBook) {
-    let (m, c, book) = (kept(m), kept(port::columns(&m)), kept(book));
+    let (m, c, book) = (kept(m), kept(m), kept(book));
     let epoch = book.items[0].epoch;
     let p = port::unpin(*m, *book, epoch);
     let b = bound::unpin(*c, *book, epoch);
@@ -201,7 +200,7 @@ fn unpin(rows: &mut Rows, name: String, m: port::Manager, book: PinBook) {
 }
 
 fn vacuum(rows: &mut Rows, name: String, m: port::Manager) {
-    let (m, c, book) = (kept(m), kept(port::columns(&m)), kept(PinBook::none()));
+    let (m, c, book) = (kept(m), kept(m), kept(PinBook::none()));
     let (ts, rs) = (buffer::<u32>(MOST_HELD), buffer::<u32>(MOST_HELD));
     let mut p = Box::new(port::vacuum(*m, *book, at(ts), at(rs)));
     let listed = (copied(ts), copied(rs));
@@ -223,7 +222,7 @@ fn vacuum(rows: &mut Rows, name: String, m: port::Manager) {
 }
 
 fn show(rows: &mut Rows, name: String, m: port::Manager) {
-    let (m, c, book) = (kept(m), kept(port::columns(&m)), kept(PinBook::none()));
+    let (m, c, book) = (kept(m), kept(m), kept(PinBook::none()));
     let (ts, rs) = (buffer::<u32>(MOST_HELD), buffer::<u32>(MOST_HELD));
     let p = port::show_pairs(*m, *book, c.epoch, at(ts), at(rs));
     let listed = (copied(ts), copied(rs));

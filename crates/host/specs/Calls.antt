@@ -1,18 +1,19 @@
 -- What each call over the border promises: the entry point's own proposition, told in numbers. Assumes nothing.
 use mathlib.Core.List.{List}
 use Prim.Native.Nat.{ℕ}
-use Rattle.manifest.specs.declared.operation.Batch.{Batch}
+use lib.ListN.{length}
 use Rattle.pins.specs.declared.PinBook.{PinBook}
-use Rattle.commit.specs.declared.CommitAnswer.{CommitAnswer}
-use Rattle.commit.specs.Commit.{commitTold, CommitSays}
-use Rattle.vacuum.specs.declared.VacuumAnswer.{VacuumAnswer}
-use Rattle.vacuum.specs.Says.{vacuumTold, VacuumSays}
+use Rattle.commit.specs.Lent.{operationsIn}
 use Rattle.show.specs.declared.ShowAnswer.{ShowAnswer}
-use Rattle.show.specs.Says.{showTold, ShowTablesSays, ShowPairsSays, ShowVectorsSays}
+use Rattle.show.specs.Says.{showTold}
 use Rattle.version_manager.specs.declared.VersionManager.{VersionManager}
 use Rattle.version_manager.specs.declared.RowsetAnswer.{RowsetAnswer}
 use Rattle.version_manager.specs.declared.VectorAnswer.{VectorAnswer}
-use Rattle.version_manager.specs.Managers.{committedOf, vacuumedOf}
+use Rattle.version_manager.specs.declared.CommitAnswer.{CommitAnswer}
+use Rattle.version_manager.specs.declared.VacuumAnswer.{VacuumAnswer}
+use Rattle.version_manager.specs.Commit.{commitTold, CommitSays}
+use Rattle.version_manager.specs.Vacuum.{vacuumTold, VacuumSays}
+use Rattle.version_manager.specs.Show.{ShowTablesSays, ShowPairsSays, ShowVectorsSays}
 use Rattle.version_manager.specs.Draw.{rowsetTold, vectorTold, DrawRowsetSays, DrawVectorSays}
 use Rattle.pinning.specs.declared.PinAnswer.{PinAnswer}
 use Rattle.pinning.specs.declared.UnpinAnswer.{UnpinAnswer}
@@ -49,23 +50,21 @@ DrawRowsetTold m r = Tells RowsetAnswer rowsetTold (λ a. DrawRowsetSays m (reco
 abbrev pub DrawVectorTold : VersionManager → Handed → Type 0
 DrawVectorTold m r = Tells VectorAnswer vectorTold (λ a. DrawVectorSays m (record { manager = r .manager; answer = a })) (r .answer)
 
--- of the batch that was read from the lent text
-pub record CommitTold (m : VersionManager) (out : List ℕ) (r : Handed) (out′ : List ℕ) : Type 0 where
-  pub batch : Batch
-  pub tells : Tells CommitAnswer commitTold (λ a. CommitSays (m .inner) batch out (committedOf (record { manager = r .manager; answer = a })) out′) (r .answer)
+abbrev pub CommitTold : VersionManager → List ℕ → List ℕ → Handed → List ℕ → Type 0
+CommitTold m ops out r out′ = Tells CommitAnswer commitTold (λ a. CommitSays m (length (operationsIn ops)) (operationsIn ops) out (record { manager = r .manager; answer = a }) out′) (r .answer)
 
 abbrev pub VacuumTold : VersionManager → PinBook → List ℕ → List ℕ → Handed → List ℕ → List ℕ → Type 0
 VacuumTold m b ts rs r ts′ rs′ =
-    Tells VacuumAnswer vacuumTold (λ a. VacuumSays (m .inner) b ts rs (vacuumedOf (record { manager = r .manager; answer = a })) ts′ rs′) (r .answer)
+    Tells VacuumAnswer vacuumTold (λ a. VacuumSays m b ts rs (record { manager = r .manager; answer = a }) ts′ rs′) (r .answer)
 
 abbrev pub ShowTablesTold : VersionManager → PinBook → ℕ → List ℕ → List ℕ → List ℕ → List ℕ → Answer → List ℕ → List ℕ → List ℕ → List ℕ → Type 0
-ShowTablesTold m b e is hs ls ns r is′ hs′ ls′ ns′ = Tells ShowAnswer showTold (λ a. ShowTablesSays (m .inner) b e is hs ls ns a is′ hs′ ls′ ns′) r
+ShowTablesTold m b e is hs ls ns r is′ hs′ ls′ ns′ = Tells ShowAnswer showTold (λ a. ShowTablesSays m b e is hs ls ns a is′ hs′ ls′ ns′) r
 
 abbrev pub ShowPairsTold : VersionManager → PinBook → ℕ → List ℕ → List ℕ → Answer → List ℕ → List ℕ → Type 0
-ShowPairsTold m b e ts rs r ts′ rs′ = Tells ShowAnswer showTold (λ a. ShowPairsSays (m .inner) b e ts rs a ts′ rs′) r
+ShowPairsTold m b e ts rs r ts′ rs′ = Tells ShowAnswer showTold (λ a. ShowPairsSays m b e ts rs a ts′ rs′) r
 
 abbrev pub ShowVectorsTold : VersionManager → PinBook → ℕ → List ℕ → List ℕ → List ℕ → Answer → List ℕ → List ℕ → List ℕ → Type 0
-ShowVectorsTold m b e ts rs vs r ts′ rs′ vs′ = Tells ShowAnswer showTold (λ a. ShowVectorsSays (m .inner) b e ts rs vs a ts′ rs′ vs′) r
+ShowVectorsTold m b e ts rs vs r ts′ rs′ vs′ = Tells ShowAnswer showTold (λ a. ShowVectorsSays m b e ts rs vs a ts′ rs′ vs′) r
 
 abbrev pub ReopenTold : List ℕ → List ℕ → Begun → List ℕ → Type 0
 ReopenTold src out r out′ =

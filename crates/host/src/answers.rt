@@ -1,5 +1,4 @@
 // Each answer of the library as numbers.
-use commit::CommitAnswer;
 use delete_vector::Held;
 use delete_vector::Loaded;
 use delete_vector::Masked;
@@ -10,14 +9,15 @@ use pinning::PinAnswer;
 use pinning::UnpinAnswer;
 use show::ShowAnswer;
 use storage::ReopenAnswer;
-use vacuum::VacuumAnswer;
+use version_manager::CommitAnswer;
 use version_manager::RowsetAnswer;
+use version_manager::VacuumAnswer;
 use version_manager::VectorAnswer;
 ghost use mathlib.Core.Path.{_≡_};
 ghost use mathlib.Core.List.{[], _∷_};
 ghost use Rattle.ids.specs.Answers.{told};
-ghost use Rattle.commit.specs.Commit.{commitTold};
-ghost use Rattle.vacuum.specs.Says.{vacuumTold};
+ghost use Rattle.version_manager.specs.Commit.{commitTold};
+ghost use Rattle.version_manager.specs.Vacuum.{vacuumTold};
 ghost use Rattle.show.specs.Says.{showTold};
 ghost use Rattle.version_manager.specs.Draw.{rowsetTold, vectorTold};
 ghost use Rattle.pinning.specs.Says.{flag, pinTold, unpinTold};

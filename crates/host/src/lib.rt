@@ -89,13 +89,12 @@ pub extern "C" fn seqapti_draw_vector(manager: VersionManager) -> Handed
     Handed { manager, answer }
 }
 
-// The operations as text: a blank and a manifest line for each.
+// The operations as manifest lines: each newline ends one, and bytes after the last newline are one more.
 #[no_mangle]
 pub extern "C" fn seqapti_commit(manager: VersionManager, ops: &[u8], out: &mut [u8]) -> Handed
-    ensures { λ r. ⌜ CommitTold manager (now (out .entry)) r (now (out .exit)) ⌝ }
+    ensures { λ r. ⌜ CommitTold manager (now (ops .entry)) (now (out .entry)) r (now (out .exit)) ⌝ }
 {
-    let batch = script::batches::batch(ops);
-    let done = manager.commit(batch, out);
+    let done = manager.commit_lines(ops, out);
     let told = done.answer;
     let answer = answers::committed(told);
     let manager = done.manager;

@@ -1,6 +1,6 @@
 -- `host::answers::committed` meets its contract. Assumes nothing.
 use mathlib.Core.Path.{sym, ap, _∙_}
-use Rattle.commit.specs.Commit.{commitTold}
+use Rattle.version_manager.specs.Commit.{commitTold}
 use Rattle.host.proofs.Told.{two-told}
 use borrow.Author.Needs.{needs}
 use Rattle.host.proofs.answers.committed.Statement.{statement}

@@ -1,6 +1,6 @@
 -- `host::answers::vacuumed` meets its contract. Assumes nothing.
 use mathlib.Core.Path.{sym, ap, _∙_}
-use Rattle.vacuum.specs.Says.{vacuumTold}
+use Rattle.version_manager.specs.Vacuum.{vacuumTold}
 use Rattle.host.proofs.Told.{one-told}
 use borrow.Author.Needs.{needs}
 use Rattle.host.proofs.answers.vacuumed.Statement.{statement}
