@@ -1,7 +1,7 @@
 // The names of created tables: noted by the place where they stand in the manifest, and read there.
 use crate::Said;
 use crate::WIDE;
-use ids::name::LONGEST_NAME;
+use ids::limits::LONGEST_NAME;
 use ids::name::Name;
 ghost use mathlib.Core.Path.{_≡_};
 ghost use Prim.Native.Nat.{_-_, _≤_};
