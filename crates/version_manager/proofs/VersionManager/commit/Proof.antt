@@ -1,35 +1,34 @@
-use borrow.Author.Needs.{needs}
+-- `version_manager::VersionManager::commit` meets its contract. Assumes nothing.
+use mathlib.Core.Path.{refl, sym, _∙_}
+use denote.Ref.{now}
+use lib.ListN.{length}
+use Rattle.lists.proofs.Places.{known}
+use Rattle.manifest.specs.Operations.{batchOf}
+use Rattle.version_state.specs.State.{stateOf}
+use Rattle.commit.specs.Commit.{commitOf}
 use Rattle.version_manager.proofs.VersionManager.commit.Statement.{statement}
 use Rattle.version_manager.proofs.VersionManager.commit.Tie as tie
-use Rattle.version_manager.proofs.VersionManager.commit.Reads as reads
-use Rattle.version_manager.proofs.VersionManager.commit.Lts as lts
-use Rattle.commit.proofs.commit.Reads as commit-reads
-use Rattle.version_manager.proofs.VersionManager.bad.Reads as bad-reads
-use Rattle.version_manager.proofs.after_commit.Reads as after-commit-reads
 
--- src/lib.rt:192:12
 bad-requires : tie.Need-bad-requires
-bad-requires c κs = search needs
+bad-requires c κs = search known
 
--- src/lib.rt:193:13
 returns : tie.Need-returns
-returns c = ?
+returns c = let b = sym (c .before .bad .ensures) ∙ c .if1 .taken in rw b (refl, refl, refl)
 
--- src/lib.rt:199:13
 commit-requires : tie.Need-commit-requires
-commit-requires c κs = ?
+commit-requires c κs = sym (c .before .before .before .bad .ensures) ∙ c .before .before .if1 .left
 
--- src/lib.rt:200:9
 after-commit-requires : tie.Need-after-commit-requires
-after-commit-requires c κs = search needs
+after-commit-requires c κs = search known
 
--- src/lib.rt:189:5
 same-length : tie.Need-same-length
-same-length c = search needs
+same-length c = search known
 
--- src/lib.rt:189:5
 returns-2 : tie.Need-returns-2
-returns-2 c = ?
+returns-2 c =
+    let b = sym (c .before .before .before .before .before .before .before .bad .ensures) ∙ c .before .before .before .before .before .before .if1 .left in
+    let a = c .before .before .before .before .before .before .before .before .before .args in
+    rw b (c .after-commit .ensures (commitOf (stateOf (a .self .inner)) (a .batch .count) (batchOf (a .batch)) (length (now (a .out)))) (batchOf (a .batch)) (now (a .out)) _ (c .before .before .before .commit .ensures))
 
 pub commit-spec : {M : Type 1} → statement M
 commit-spec =

@@ -1,35 +1,34 @@
-use borrow.Author.Needs.{needs}
+-- `version_manager::VersionManager::commit_lines` meets its contract. Assumes nothing.
+use mathlib.Core.Path.{refl, sym, _∙_}
+use denote.Ref.{now}
+use lib.ListN.{length}
+use Rattle.lists.proofs.Places.{known}
+use Rattle.commit.specs.Lent.{operationsIn}
+use Rattle.version_state.specs.State.{stateOf}
+use Rattle.commit.specs.Commit.{commitOf}
 use Rattle.version_manager.proofs.VersionManager.commit_lines.Statement.{statement}
 use Rattle.version_manager.proofs.VersionManager.commit_lines.Tie as tie
-use Rattle.version_manager.proofs.VersionManager.commit_lines.Reads as reads
-use Rattle.version_manager.proofs.VersionManager.commit_lines.Lts as lts
-use Rattle.commit.proofs.commit_lines.Reads as commit-lines-reads
-use Rattle.version_manager.proofs.VersionManager.bad.Reads as bad-reads
-use Rattle.version_manager.proofs.after_commit.Reads as after-commit-reads
 
--- src/lib.rt:207:12
 bad-requires : tie.Need-bad-requires
-bad-requires c κs = search needs
+bad-requires c κs = search known
 
--- src/lib.rt:208:13
 returns : tie.Need-returns
-returns c = ?
+returns c = let b = sym (c .before .bad .ensures) ∙ c .if1 .taken in rw b (refl, refl, refl)
 
--- src/lib.rt:214:13
 commit-lines-requires : tie.Need-commit-lines-requires
-commit-lines-requires c κs = ?
+commit-lines-requires c κs = sym (c .before .before .before .bad .ensures) ∙ c .before .before .if1 .left
 
--- src/lib.rt:215:9
 after-commit-requires : tie.Need-after-commit-requires
-after-commit-requires c κs = search needs
+after-commit-requires c κs = search known
 
--- src/lib.rt:204:5
 same-length : tie.Need-same-length
-same-length c = search needs
+same-length c = search known
 
--- src/lib.rt:204:5
 returns-2 : tie.Need-returns-2
-returns-2 c = ?
+returns-2 c =
+    let b = sym (c .before .before .before .before .before .before .before .bad .ensures) ∙ c .before .before .before .before .before .before .if1 .left in
+    let a = c .before .before .before .before .before .before .before .before .before .before .args in
+    rw b (c .after-commit .ensures (commitOf (stateOf (a .self .inner)) (length (operationsIn (now (a .ops)))) (operationsIn (now (a .ops))) (length (now (a .out)))) (operationsIn (now (a .ops))) (now (a .out)) _ (c .before .before .before .commit-lines .ensures))
 
 pub commit-lines-spec : {M : Type 1} → statement M
 commit-lines-spec =

@@ -1,34 +1,26 @@
-use borrow.Author.Needs.{needs}
+-- `version_manager::VersionManager::show_pairs` meets its contract. Assumes nothing.
+use mathlib.Core.Path.{refl, sym, _∙_}
+use Rattle.lists.proofs.Places.{known}
 use Rattle.version_manager.proofs.VersionManager.show_pairs.Statement.{statement}
 use Rattle.version_manager.proofs.VersionManager.show_pairs.Tie as tie
-use Rattle.version_manager.proofs.VersionManager.show_pairs.Reads as reads
-use Rattle.version_manager.proofs.VersionManager.show_pairs.Lts as lts
-use Rattle.show.proofs.show_pairs.Reads as show-pairs-reads
-use Rattle.version_manager.proofs.VersionManager.bad.Reads as bad-reads
 
--- src/lib.rt:271:12
 bad-requires : tie.Need-bad-requires
-bad-requires c κs = search needs
+bad-requires c κs = search known
 
--- src/lib.rt:272:13
 returns : tie.Need-returns
-returns c = ?
+returns c = let b = sym (c .before .bad .ensures) ∙ c .if1 .taken in record { answer = rw b; tables = rw b; rowsets = rw b }
 
--- src/lib.rt:275:9
 show-pairs-requires : tie.Need-show-pairs-requires
-show-pairs-requires c κs = ?
+show-pairs-requires c κs = sym (c .before .before .before .before .bad .ensures) ∙ c .before .before .before .if1 .left
 
--- src/lib.rt:262:5
 same-length : tie.Need-same-length
-same-length c = search needs
+same-length c = search known
 
--- src/lib.rt:262:5
 same-length-2 : tie.Need-same-length-2
-same-length-2 c = search needs
+same-length-2 c = search known
 
--- src/lib.rt:262:5
 returns-2 : tie.Need-returns-2
-returns-2 c = ?
+returns-2 c = let b = sym (c .before .before .before .before .before .before .before .before .before .bad .ensures) ∙ c .before .before .before .before .before .before .before .before .if1 .left in rw b (c .before .before .before .before .show-pairs .ensures)
 
 pub show-pairs-spec : {M : Type 1} → statement M
 show-pairs-spec =

@@ -1,42 +1,32 @@
-use borrow.Author.Needs.{needs}
+-- `version_manager::VersionManager::show_tables` meets its contract. Assumes nothing.
+use mathlib.Core.Path.{refl, sym, _∙_}
+use Rattle.lists.proofs.Places.{known}
 use Rattle.version_manager.proofs.VersionManager.show_tables.Statement.{statement}
 use Rattle.version_manager.proofs.VersionManager.show_tables.Tie as tie
-use Rattle.version_manager.proofs.VersionManager.show_tables.Reads as reads
-use Rattle.version_manager.proofs.VersionManager.show_tables.Lts as lts
-use Rattle.show.proofs.show_tables.Reads as show-tables-reads
-use Rattle.version_manager.proofs.VersionManager.bad.Reads as bad-reads
 
--- src/lib.rt:255:12
 bad-requires : tie.Need-bad-requires
-bad-requires c κs = search needs
+bad-requires c κs = search known
 
--- src/lib.rt:256:13
 returns : tie.Need-returns
-returns c = ?
+returns c = let b = sym (c .before .bad .ensures) ∙ c .if1 .taken in record { answer = rw b; ids = rw b; shapes = rw b; lengths = rw b; names = rw b }
 
--- src/lib.rt:259:9
 show-tables-requires : tie.Need-show-tables-requires
-show-tables-requires c κs = ?
+show-tables-requires c κs = sym (c .before .before .before .before .before .before .bad .ensures) ∙ c .before .before .before .before .before .if1 .left
 
--- src/lib.rt:244:5
 same-length : tie.Need-same-length
-same-length c = search needs
+same-length c = search known
 
--- src/lib.rt:244:5
 same-length-2 : tie.Need-same-length-2
-same-length-2 c = search needs
+same-length-2 c = search known
 
--- src/lib.rt:244:5
 same-length-3 : tie.Need-same-length-3
-same-length-3 c = search needs
+same-length-3 c = search known
 
--- src/lib.rt:244:5
 same-length-4 : tie.Need-same-length-4
-same-length-4 c = search needs
+same-length-4 c = search known
 
--- src/lib.rt:244:5
 returns-2 : tie.Need-returns-2
-returns-2 c = ?
+returns-2 c = let b = sym (c .before .before .before .before .before .before .before .before .before .before .before .before .before .before .before .bad .ensures) ∙ c .before .before .before .before .before .before .before .before .before .before .before .before .before .before .if1 .left in rw b (c .before .before .before .before .before .before .before .before .show-tables .ensures)
 
 pub show-tables-spec : {M : Type 1} → statement M
 show-tables-spec =

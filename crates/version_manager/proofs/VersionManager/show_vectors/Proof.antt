@@ -1,38 +1,29 @@
-use borrow.Author.Needs.{needs}
+-- `version_manager::VersionManager::show_vectors` meets its contract. Assumes nothing.
+use mathlib.Core.Path.{refl, sym, _∙_}
+use Rattle.lists.proofs.Places.{known}
 use Rattle.version_manager.proofs.VersionManager.show_vectors.Statement.{statement}
 use Rattle.version_manager.proofs.VersionManager.show_vectors.Tie as tie
-use Rattle.version_manager.proofs.VersionManager.show_vectors.Reads as reads
-use Rattle.version_manager.proofs.VersionManager.show_vectors.Lts as lts
-use Rattle.show.proofs.show_vectors.Reads as show-vectors-reads
-use Rattle.version_manager.proofs.VersionManager.bad.Reads as bad-reads
 
--- src/lib.rt:288:12
 bad-requires : tie.Need-bad-requires
-bad-requires c κs = search needs
+bad-requires c κs = search known
 
--- src/lib.rt:289:13
 returns : tie.Need-returns
-returns c = ?
+returns c = let b = sym (c .before .bad .ensures) ∙ c .if1 .taken in record { answer = rw b; tables = rw b; rowsets = rw b; vectors = rw b }
 
--- src/lib.rt:292:9
 show-vectors-requires : tie.Need-show-vectors-requires
-show-vectors-requires c κs = ?
+show-vectors-requires c κs = sym (c .before .before .before .before .before .bad .ensures) ∙ c .before .before .before .before .if1 .left
 
--- src/lib.rt:278:5
 same-length : tie.Need-same-length
-same-length c = search needs
+same-length c = search known
 
--- src/lib.rt:278:5
 same-length-2 : tie.Need-same-length-2
-same-length-2 c = search needs
+same-length-2 c = search known
 
--- src/lib.rt:278:5
 same-length-3 : tie.Need-same-length-3
-same-length-3 c = search needs
+same-length-3 c = search known
 
--- src/lib.rt:278:5
 returns-2 : tie.Need-returns-2
-returns-2 c = ?
+returns-2 c = let b = sym (c .before .before .before .before .before .before .before .before .before .before .before .before .bad .ensures) ∙ c .before .before .before .before .before .before .before .before .before .before .before .if1 .left in rw b (c .before .before .before .before .before .before .show-vectors .ensures)
 
 pub show-vectors-spec : {M : Type 1} → statement M
 show-vectors-spec =

@@ -1,58 +1,45 @@
-use borrow.Author.Needs.{needs}
+-- `version_manager::VersionManager::vacuum` meets its contract. Assumes nothing.
+use mathlib.Core.Path.{refl, sym, _∙_}
+use Rattle.lists.proofs.Places.{known}
+use Rattle.version_manager.proofs.Calls.{vacuum-no, vacuum-yes}
 use Rattle.version_manager.proofs.VersionManager.vacuum.Statement.{statement}
 use Rattle.version_manager.proofs.VersionManager.vacuum.Tie as tie
-use Rattle.version_manager.proofs.VersionManager.vacuum.Reads as reads
-use Rattle.version_manager.proofs.VersionManager.vacuum.Lts as lts
-use Rattle.vacuum.proofs.vacuum.Reads as vacuum-reads
-use Rattle.version_manager.proofs.VersionManager.bad.Reads as bad-reads
-use Rattle.version_manager.proofs.handed.Reads as handed-reads
 
--- src/lib.rt:221:12
 bad-requires : tie.Need-bad-requires
-bad-requires c κs = search needs
+bad-requires c κs = search known
 
--- src/lib.rt:222:13
 returns : tie.Need-returns
-returns c = ?
+returns c = let b = sym (c .before .bad .ensures) ∙ c .if1 .taken in record { answer = rw b; tables = rw b; rowsets = rw b; manager = rw b refl }
 
--- src/lib.rt:228:13
 vacuum-requires : tie.Need-vacuum-requires
-vacuum-requires c κs = ?
+vacuum-requires c κs = sym (c .before .before .before .before .bad .ensures) ∙ c .before .before .before .if1 .left
 
--- src/lib.rt:230:33
 enum-known-verdict : tie.Need-enum-known-verdict
-enum-known-verdict c = search needs
+enum-known-verdict c = search known
 
--- src/lib.rt:231:13
 same-length : tie.Need-same-length
-same-length c = search needs
+same-length c = search known
 
--- src/lib.rt:231:13
 same-length-2 : tie.Need-same-length-2
-same-length-2 c = search needs
+same-length-2 c = search known
 
--- src/lib.rt:231:13
 returns-2 : tie.Need-returns-2
-returns-2 c = ?
+returns-2 c = vacuum-no (c .before .before .before .before .before .before .before .before .before .before .before .before .before .before .before .args .self) _ _ _ _ _ _ (sym (c .before .before .before .before .before .before .before .before .before .before .before .before .bad .ensures) ∙ c .before .before .before .before .before .before .before .before .before .before .before .if1 .left) (c .before .before .before .before .before .before .before .vacuum .ensures) _ _ (c .before .verdict .given .1) refl refl
 
 enum-told : tie.Need-enum-told
-enum-told c = search needs
+enum-told c = search known
 
--- src/lib.rt:237:13
 handed-requires : tie.Need-handed-requires
-handed-requires c κs = search needs
+handed-requires c κs = search known
 
--- src/lib.rt:218:5
 same-length-3 : tie.Need-same-length-3
-same-length-3 c = search needs
+same-length-3 c = search known
 
--- src/lib.rt:218:5
 same-length-4 : tie.Need-same-length-4
-same-length-4 c = search needs
+same-length-4 c = search known
 
--- src/lib.rt:218:5
 returns-3 : tie.Need-returns-3
-returns-3 c = ?
+returns-3 c = vacuum-yes (c .before .before .before .before .before .before .before .before .before .before .before .before .before .before .before .before .args .self) _ _ _ _ _ _ (sym (c .before .before .before .before .before .before .before .before .before .before .before .before .before .bad .ensures) ∙ c .before .before .before .before .before .before .before .before .before .before .before .before .if1 .left) (c .before .before .before .before .before .before .before .before .vacuum .ensures) _ (c .before .before .enum-told .given .1) (c .handed .ensures) refl
 
 pub vacuum-spec : {M : Type 1} → statement M
 vacuum-spec =
