@@ -1,6 +1,9 @@
 -- `pinning::after_unpin` meets its contract. Assumes nothing.
-use mathlib.Core.Path.{sym, _∙_}
+use mathlib.Core.Path.{sym, ap, _∙_}
+use mathlib.Core.Bool.{cond}
+use Prim.Native.Nat.{ℕ}
 use native.Mathlib.Omega.{arith}
+use Rattle.vacuum.proofs.Laws.{counted-list}
 use Rattle.lists.proofs.Places.{known}
 use Rattle.pinning.proofs.Says.{unpinnable, unpin-refuses, unpin-accepts}
 use Rattle.pinning.proofs.Counting.{at-most}
@@ -17,26 +20,26 @@ enum-known-verdict c = search known
 returns : tie.Need-returns
 returns c =
     let a = c .before .before .before .before .args in
-    unpin-refuses (a .manager) (a .book) (a .epoch) _ (sym (c .before .before .before .judge-unpin .ensures) ∙ c .before .verdict .given .1)
+    unpin-refuses (a .t1) (a .book) (a .epoch) _ (sym (c .before .before .before .judge-unpin .ensures) ∙ c .before .verdict .given .1)
 
 enum-told : tie.Need-enum-told
 enum-told c = search known
 
 pins-at-requires : tie.Need-pins-at-requires
 pins-at-requires c κs =
-    let a = c .before .before .before .before .args in
-    unpinnable (a .manager) (a .book) (a .epoch) (sym (c .before .before .before .judge-unpin .ensures) ∙ c .before .enum-told .given .1) .good .fits
+    let a = c .before .before .before .args in
+    unpinnable (a .t1) (a .book) (a .epoch) (sym (c .before .before .judge-unpin .ensures) ∙ c .enum-told .given .1) .good .fits
 
 sub-left : tie.Need-sub-left
 sub-left c =
-    let a = c .before .before .before .before .before .args in
-    let p = unpinnable (a .manager) (a .book) (a .epoch) (sym (c .before .before .before .before .judge-unpin .ensures) ∙ c .before .before .enum-told .given .1) in
+    let a = c .before .before .before .before .args in
+    let p = unpinnable (a .t1) (a .book) (a .epoch) (sym (c .before .before .before .judge-unpin .ensures) ∙ c .before .enum-told .given .1) in
     omega (arith, p .pins .some, c .pins-at .ensures)
 
 recounted-requires : tie.Need-recounted-requires
 recounted-requires c κs =
-    let a = c .before .before .before .before .before .args in
-    let p = unpinnable (a .manager) (a .book) (a .epoch) (sym (c .before .before .before .before .judge-unpin .ensures) ∙ c .before .before .enum-told .given .1) in
+    let a = c .before .before .before .before .args in
+    let p = unpinnable (a .t1) (a .book) (a .epoch) (sym (c .before .before .before .judge-unpin .ensures) ∙ c .before .enum-told .given .1) in
     (p .good .fits, p .good .ordered, p .place)
 
 is-due-requires : tie.Need-is-due-requires
@@ -44,16 +47,16 @@ is-due-requires c κs = search known
 
 ready-requires : tie.Need-ready-requires
 ready-requires c κs =
-    let a = c .before .before .before .before .before .before .before .args in
-    let d = sym (c .before .before .before .before .before .before .judge-unpin .ensures) ∙ c .before .before .before .before .enum-told .given .1 in
-    let p = unpinnable (a .manager) (a .book) (a .epoch) d in
-    (p .fits, unpinned-good (a .manager) (a .epoch) (a .book) _ d (rw (c .before .before .pins-at .ensures) at (c .before .recounted .ensures)))
+    let a = c .before .before .before .before .before .before .before .before .args in
+    let d = sym (c .before .before .before .before .before .before .before .judge-unpin .ensures) ∙ c .before .before .before .before .before .enum-told .given .1 in
+    let p = unpinnable (a .t1) (a .book) (a .epoch) d in
+    (p .fits .rowsets, unpinned-good (a .t1) (a .epoch) (a .book) _ d (rw (c .before .before .before .before .pins-at .ensures) at (c .before .before .before .recounted .ensures)))
 
 returns-2 : tie.Need-returns-2
 returns-2 c =
-    let a = c .before .before .before .before .before .before .before .before .args in
-    let d = sym (c .before .before .before .before .before .before .before .judge-unpin .ensures) ∙ c .before .before .before .before .before .enum-told .given .1 in
-    unpin-accepts (a .manager) (a .book) (a .epoch) _ _ _ d (rw (c .before .before .before .pins-at .ensures) at (c .before .is-due .ensures)) (at-most (c .before .is-due .result) (c .ready .result) _ (c .ready .ensures)) (rw (c .before .before .before .pins-at .ensures) at (c .before .before .recounted .ensures))
+    let a = c .before .before .before .before .before .before .before .before .before .args in
+    let d = sym (c .before .before .before .before .before .before .before .before .judge-unpin .ensures) ∙ c .before .before .before .before .before .before .enum-told .given .1 in
+    unpin-accepts (a .t1) (a .book) (a .epoch) _ _ _ d (rw (c .before .before .before .before .before .pins-at .ensures) at (c .before .before .before .is-due .ensures)) (at-most (c .before .before .before .is-due .result) (c .ready .result) _ (c .ready .ensures ∙ ap (λ (n : ℕ). cond (c .before .before .before .is-due .result) n 0) (counted-list _ (a .t1 .inner)))) (rw (c .before .before .before .before .before .pins-at .ensures) at (c .before .before .before .before .recounted .ensures))
 
 pub after-unpin-spec : {M : Type 1} → statement M
 after-unpin-spec =

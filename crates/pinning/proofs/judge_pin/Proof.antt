@@ -14,7 +14,7 @@ bad-requires c κs = search needs
 
 returns : tie.Need-returns
 returns c =
-    let a = c .before .before .before .args in
+    let a = c .before .before .args in
     pin-29 (a .manager) (a .book) (sym (c .before .bad .ensures) ∙ c .if1 .taken)
 
 bad-requires-2 : tie.Need-bad-requires-2
@@ -22,12 +22,12 @@ bad-requires-2 c κs = search needs
 
 returns-2 : tie.Need-returns-2
 returns-2 c =
-    let a = c .before .before .before .before .before .args in
+    let a = c .before .before .before .before .args in
     pin-28 (a .manager) (a .book) (sym (c .before .before .before .bad .ensures) ∙ c .before .before .if1 .left) (sym (c .before .bad2 .ensures) ∙ c .if2 .taken)
 
 returns-3 : tie.Need-returns-3
 returns-3 c =
-    let a = c .before .before .before .before .before .before .args in
+    let a = c .before .before .before .before .before .args in
     pin-10 (a .manager) (a .book) (sym (c .before .before .before .before .bad .ensures) ∙ c .before .before .before .if1 .left) (sym (c .before .before .bad2 .ensures) ∙ c .before .if2 .left) (eq-eqb _ _ (c .if3 .taken))
 
 pins-at-requires : tie.Need-pins-at-requires
@@ -35,7 +35,7 @@ pins-at-requires c κs = good-book _ _ (sym (c .before .before .bad2 .ensures) �
 
 returns-4 : tie.Need-returns-4
 returns-4 c =
-    let a = c .before .before .before .before .before .before .before .before .args in
+    let a = c .before .before .before .before .before .before .before .args in
     pin-18 (a .manager) (a .book) (sym (c .before .before .before .before .before .before .bad .ensures) ∙ c .before .before .before .before .before .if1 .left) (sym (c .before .before .before .before .bad2 .ensures) ∙ c .before .before .before .if2 .left) (ne-eqb _ _ (c .before .before .if3 .left)) (ap (leb mostPins) (sym (c .before .pins-at .ensures)) ∙ le-leb _ _ (c .if4 .taken))
 
 epochs-full-requires : tie.Need-epochs-full-requires
@@ -43,12 +43,12 @@ epochs-full-requires c κs = good-book _ _ (sym (c .before .before .before .befo
 
 returns-5 : tie.Need-returns-5
 returns-5 c =
-    let a = c .before .before .before .before .before .before .before .before .before .before .args in
+    let a = c .before .before .before .before .before .before .before .before .before .args in
     pin-19 (a .manager) (a .book) (sym (c .before .before .before .before .before .before .before .before .bad .ensures) ∙ c .before .before .before .before .before .before .before .if1 .left) (sym (c .before .before .before .before .before .before .bad2 .ensures) ∙ c .before .before .before .before .before .if2 .left) (ne-eqb _ _ (c .before .before .before .before .if3 .left)) (ap (leb mostPins) (sym (c .before .before .before .pins-at .ensures)) ∙ lt-leb _ _ (c .before .before .if4 .left)) (sym (c .before .epochs-full .ensures) ∙ c .if5 .taken)
 
 returns-6 : tie.Need-returns-6
 returns-6 c =
-    let a = c .before .before .before .before .before .before .before .before .before .before .args in
+    let a = c .before .before .before .before .before .before .before .before .before .args in
     pin-passes (a .manager) (a .book) (sym (c .before .before .before .before .before .before .before .before .bad .ensures) ∙ c .before .before .before .before .before .before .before .if1 .left) (sym (c .before .before .before .before .before .before .bad2 .ensures) ∙ c .before .before .before .before .before .if2 .left) (ne-eqb _ _ (c .before .before .before .before .if3 .left)) (ap (leb mostPins) (sym (c .before .before .before .pins-at .ensures)) ∙ lt-leb _ _ (c .before .before .if4 .left)) (sym (c .before .epochs-full .ensures) ∙ c .if5 .left)
 
 pub judge-pin-spec : {M : Type 1} → statement M
