@@ -1,9 +1,9 @@
 // What is printed of answers.
-use commit::CommitAnswer;
 use ids::refusal::Refusal;
 use libc::STDOUT_FILENO;
 use pinning::PinAnswer;
 use pinning::UnpinAnswer;
+use version_manager::CommitAnswer;
 use version_manager::RowsetAnswer;
 use version_manager::VectorAnswer;
 

@@ -5,7 +5,7 @@ use answers::say;
 use pins::PinBook;
 use script::batches;
 use script::words::Managed;
-use vacuum::VacuumAnswer;
+use version_manager::VacuumAnswer;
 use version_manager::VersionManager;
 
 pub fn fresh(world: World, s: &[u8]) -> World {

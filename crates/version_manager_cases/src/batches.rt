@@ -12,7 +12,7 @@ use manifest::operation::Change;
 use manifest::operation::EpochOp;
 
 // So many times the one byte.
-pub fn name(byte: u8, len: usize) -> Name {
+fn name(byte: u8, len: usize) -> Name {
     Name {
         bytes: [byte; 32],
         len,

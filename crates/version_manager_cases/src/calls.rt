@@ -5,10 +5,10 @@ use crate::fields::part;
 use crate::pinnings;
 use crate::say;
 use crate::shows;
-use commit::CommitAnswer;
-use vacuum::VacuumAnswer;
+use version_manager::CommitAnswer;
 use version_manager::Committed;
 use version_manager::RowsetAnswer;
+use version_manager::VacuumAnswer;
 use version_manager::Vacuumed;
 use version_manager::VectorAnswer;
 

@@ -1,5 +1,4 @@
 // Managers, pin books and batches made by hand.
-use crate::batches::name;
 use crate::bench::Bench;
 use crate::fields::byte;
 use crate::fields::id;
@@ -8,74 +7,68 @@ use crate::fields::short;
 use ids::RowsetNo;
 use ids::TableNo;
 use ids::VectorNo;
+use ids::limits::LONGEST_NAME;
+use ids::limits::MOST_HELD;
+use ids::limits::MOST_TABLES;
 use pins::Pin;
 use pins::PinBook;
-use snapshot::Epochs;
-use snapshot::Pair;
-use snapshot::rowsets::Rowset;
 use snapshot::rowsets::Rowsets;
-use snapshot::tables::Table;
 use snapshot::tables::Tables;
-use snapshot::vectors::Vector;
 use snapshot::vectors::Vectors;
 use version_state::NextIds;
 use version_state::VersionManagerInner;
 
-fn pair(table: u64, rowset: u64) -> Pair {
-    Pair {
-        table: TableNo(id(table)),
-        rowset: RowsetNo(id(rowset)),
+// All bytes of the name at a place.
+fn with_name(tables: Tables, at: usize, byte: u8) -> Tables {
+    let mut s = tables;
+    if MOST_TABLES <= at {
+        return s;
     }
-}
-
-fn epochs(added: u64, deleted: u64) -> Epochs {
-    Epochs {
-        added: id(added),
-        deleted: id(deleted),
+    let from = LONGEST_NAME * at;
+    let mut j: usize = 0;
+    while j < LONGEST_NAME {
+        s.names[from + j] = byte;
+        j += 1;
     }
+    s
 }
 
 // Place, id, the name's byte and length, whether it is locked.
 fn with_table(tables: Tables, f: [u64; 6]) -> Tables {
-    let x = Table {
-        id: TableNo(id(f[1])),
-        shape: 7,
-        name: name(byte(f[2]), long(f[3])),
-        locked: f[4] == 1,
-    };
-    let mut s = tables;
     let at = long(f[0]);
-    if at < 16 {
-        s.items[at] = x;
+    let mut s = with_name(tables, at, byte(f[2]));
+    if at < MOST_TABLES {
+        s.ids[at] = id(f[1]);
+        s.shapes[at] = 7;
+        s.lengths[at] = id(f[3]);
+        s.locked[at] = f[4] == 1;
     }
     s
 }
 
 // Place, table, rowset, epochs added and deleted at.
 fn with_rowset(rowsets: Rowsets, f: [u64; 6]) -> Rowsets {
-    let x = Rowset {
-        pair: pair(f[1], f[2]),
-        epochs: epochs(f[3], f[4]),
-    };
     let mut s = rowsets;
     let at = long(f[0]);
-    if at < 856 {
-        s.items[at] = x;
+    if at < MOST_HELD {
+        s.tables[at] = id(f[1]);
+        s.rowsets[at] = id(f[2]);
+        s.added[at] = id(f[3]);
+        s.deleted[at] = id(f[4]);
     }
     s
 }
 
 // Place, table, rowset, vector, epochs added and deleted at.
 fn with_vector(vectors: Vectors, f: [u64; 6]) -> Vectors {
-    let x = Vector {
-        pair: pair(f[1], f[2]),
-        vector: VectorNo(f[3]),
-        epochs: epochs(f[4], f[5]),
-    };
     let mut s = vectors;
     let at = long(f[0]);
-    if at < 856 {
-        s.items[at] = x;
+    if at < MOST_HELD {
+        s.tables[at] = id(f[1]);
+        s.rowsets[at] = id(f[2]);
+        s.vectors[at] = f[3];
+        s.added[at] = id(f[4]);
+        s.deleted[at] = id(f[5]);
     }
     s
 }
