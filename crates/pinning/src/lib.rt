@@ -108,13 +108,7 @@ fn judge_unpin(manager: VersionManager, book: PinBook, epoch: u32) -> Verdict
 }
 
 // The count is within the column, and the book has passed 28. How many deletions a vacuum would list where one is due, and else 0.
-fn ready(
-    deleted: &[u32; MOST_HELD],
-    count: usize,
-    current: u32,
-    book: PinBook,
-    due: bool,
-) -> usize
+fn ready(deleted: &[u32; MOST_HELD], count: usize, current: u32, book: PinBook, due: bool) -> usize
     requires { ⌜ (count ≤ mostHeld) × GoodBook current book ⌝ }
     ensures { λ r. ⌜ r ≡ cond due (length (keep (goneAt (bound current (pinsOf book))) (rows (column (now (deleted .entry))) count))) 0 ⌝ }
 {

@@ -33,9 +33,9 @@ module _ {A : Type 0} (d : A) (size n : ℕ) (g : ℕ → A) where
         full = simp length-set f;
         room = r;
         same = λ j p. tri j i
-          (λ w. getD-set-other l i j x d (λ q. omega arith) ∙ s .same j w)
-          (λ w. rw w (getD-set-same l i x d (omega arith) ∙ e))
-          (λ w. absurd (omega arith));
+            (λ w. getD-set-other l i j x d (λ q. omega arith) ∙ s .same j w)
+            (λ w. rw w (getD-set-same l i x d (omega arith) ∙ e))
+            (λ w. absurd (omega arith));
       }
 
   pub fill-done : (i : ℕ) (l : List A) → n ≤ i → Filled d size n g i l → (j : ℕ) → j < n → getD l j d ≡ g j

@@ -2,12 +2,12 @@
 use crate::Applied;
 use crate::Begun;
 use crate::Here;
-use ids::limits::MOST_HELD;
-use ids::limits::MOST_TABLES;
 use crate::Sets;
 use ids::RowsetNo;
 use ids::TableNo;
 use ids::VectorNo;
+use ids::limits::MOST_HELD;
+use ids::limits::MOST_TABLES;
 use ids::name::Name;
 use ids::refusal::Refusal;
 use manifest::operation::Change;

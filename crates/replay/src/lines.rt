@@ -1,13 +1,13 @@
 // The lines of a manifest, one after another.
 use crate::Applied;
 use crate::Begun;
-use ids::limits::MOST_OPERATIONS;
 use crate::Sets;
 use crate::Spot;
 use crate::Turn;
 use ids::RowsetNo;
 use ids::TableNo;
 use ids::VectorNo;
+use ids::limits::MOST_OPERATIONS;
 use ids::refusal::Refusal;
 use ids::refusal::Verdict;
 use manifest::operation::ManifestOperation;

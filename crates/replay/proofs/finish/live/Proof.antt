@@ -63,7 +63,7 @@ loop-less : tie.Need-loop-less Inv-loop μ-loop
 loop-less c = search known
 
 loop-again : tie.Need-loop-again Inv-loop μ-loop
-loop-again c = 
+loop-again c =
     let inv = c .before .before .before .before .before .before .before .loop .inv in
     let e = c .before .before .before .place .ensures in
     let u = c .before .before .before .before .before .before .before .before .pre .2 in
