@@ -54,7 +54,7 @@ fn refused(inner: VersionManagerInner, refusal: Refusal) -> Done
     }
 }
 
-// What is judged after the operations, for an append of `length` bytes and a lent buffer of `room`.
+// What is judged after the operations, for an append of `size` bytes and a lent buffer of `room`.
 fn ending<'a>(
     ids: &'a [u32; MOST_TABLES],
     pair_tables: &'a [u32; MOST_HELD],
@@ -302,7 +302,7 @@ pub fn commit_lines(inner: VersionManagerInner, ops: &[u8], out: &mut [u8]) -> D
             inner,
         };
     }
-    let held = step.held;
+    let left = step.held;
     let size = ops.len() + 4;
     let verdict = ending(
         &ids,
@@ -314,7 +314,7 @@ pub fn commit_lines(inner: VersionManagerInner, ops: &[u8], out: &mut [u8]) -> D
         &rowsets,
         &added,
         &deleted,
-        held,
+        left,
         epoch,
         size,
         out.len(),
@@ -327,21 +327,21 @@ pub fn commit_lines(inner: VersionManagerInner, ops: &[u8], out: &mut [u8]) -> D
         };
     }
     lines::put_frame(out, ops);
-    let next = held.next;
+    let next = left.next;
     let live = Tables {
         ids,
         shapes,
         lengths,
         names,
         locked,
-        count: held.tables,
+        count: left.tables,
     };
     let pairs = Rowsets {
         tables: pair_tables,
         rowsets: pair_rowsets,
         added: pair_added,
         deleted: pair_deleted,
-        count: held.rowsets,
+        count: left.rowsets,
     };
     let marks = Vectors {
         tables,
@@ -349,7 +349,7 @@ pub fn commit_lines(inner: VersionManagerInner, ops: &[u8], out: &mut [u8]) -> D
         vectors,
         added,
         deleted,
-        count: held.vectors,
+        count: left.vectors,
     };
     let inner = VersionManagerInner {
         epoch,
@@ -357,7 +357,7 @@ pub fn commit_lines(inner: VersionManagerInner, ops: &[u8], out: &mut [u8]) -> D
         tables: live,
         rowsets: pairs,
         vectors: marks,
-        manifest: held.manifest + size,
+        manifest: left.manifest + size,
     };
     Done {
         verdict,
