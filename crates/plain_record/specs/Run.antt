@@ -6,7 +6,8 @@ use Prim.Native.Nat.{ℕ, _-_, _≤_}
 use lib.Dec.{eqb}
 use lib.ListN.{length, getD, take}
 use Rattle.ids.specs.Answers.{Told}
-use Rattle.manifest.specs.Operations.{Operation}
+use Rattle.manifest.specs.Operations.{Operation, batchOf}
+use Rattle.manifest.specs.declared.operation.Batch.{Batch}
 use Rattle.pins.specs.declared.PinBook.{PinBook}
 use Rattle.version_manager.specs.declared.VersionManager.{VersionManager}
 use Rattle.version_manager.specs.declared.Opened.{Opened}
@@ -188,3 +189,7 @@ pub record Starts (S : Steps) (w : World) : Type 0 where
   pub opened : Opened
   pub says : S .fresh opened
   pub fresh : w ≡ world (opened .manager) (opened .book) [] []
+
+-- what `DidCommit` asks of a count holds of every typed batch; a commit by lines counts its operations
+abbrev pub BatchCounted : Type 0
+BatchCounted = (b : Batch) → length (batchOf b) ≤ b .count

@@ -1,12 +1,17 @@
 // The plain record, and demand 3: after every list of calls the manager agrees with it. No code is here; the functions pin
 // what is claimed to the check.
-ghost use Rattle.plain_record.specs.Run.{port};
+ghost use Rattle.plain_record.specs.Run.{port, BatchCounted};
 ghost use Rattle.plain_record.specs.Claim.{Claim};
 ghost use Rattle.plain_record.specs.Examples.{Examples};
 ghost use Rattle.plain_record.specs.Wrong.{WrongRefuted};
 
 pub fn agrees()
     ensures { λ _. ⌜ Claim port ⌝ }
+{}
+
+// Every typed commit is a step of the claim: its batch has no more operations than its count.
+pub fn batch_counted()
+    ensures { λ _. ⌜ BatchCounted ⌝ }
 {}
 
 // The claim is no empty one: it is false of managers that are wrong in one call.
