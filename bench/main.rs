@@ -12,7 +12,8 @@ fn main() {
         .nth(1)
         .map_or(31, |n| n.parse().expect("a number of rounds"));
     agree::some(20000);
-    let mut rows = timing::Rows::new();
+    let wanted = std::env::args().nth(2).unwrap_or_default();
+    let mut rows = timing::Rows::new(wanted);
     rows::calls(&mut rows);
     rows::reopens(&mut rows);
     rows::vectors(&mut rows);

@@ -51,12 +51,17 @@ impl Side {
 }
 
 pub struct Rows {
+    // only rows with this in their name are timed
+    wanted: String,
     rows: Vec<(String, Side, Side)>,
 }
 
 impl Rows {
-    pub fn new() -> Rows {
-        Rows { rows: vec![] }
+    pub fn new(wanted: String) -> Rows {
+        Rows {
+            wanted,
+            rows: vec![],
+        }
     }
 
     pub fn add(
@@ -65,8 +70,10 @@ impl Rows {
         port: impl FnMut() + 'static,
         bound: impl FnMut() + 'static,
     ) {
-        self.rows
-            .push((name, Side::new(Box::new(port)), Side::new(Box::new(bound))));
+        if name.contains(&self.wanted) {
+            self.rows
+                .push((name, Side::new(Box::new(port)), Side::new(Box::new(bound))));
+        }
     }
 
     // Every row once a round, the two sides in turns, so that what disturbs a round disturbs both.
