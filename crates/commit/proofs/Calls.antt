@@ -1,37 +1,35 @@
 -- A commit from its first test to its last: what each says of the outcome. Assumes nothing.
 use mathlib.Core.Path.{_≡_, refl, sym, ap, _∙_}
 use mathlib.Core.Bool.{true, false, true≢false}
-use mathlib.Core.List.{List, [], _∷_, map}
+use mathlib.Core.List.{List, [], _∷_}
 use Prim.Native.Nat.{ℕ, _+_, _≤_, _<_}
-use lib.ListN.{length, getD, take, drop}
+use lib.ListN.{length}
 use borrow.Author.Tests.{lt-ltb, le-ltb, le-leb, lt-leb, ltb-false}
 use Rattle.lists.specs.Keyed.{ascending, sorted}
 use Rattle.lists.specs.Written.{over}
-use Rattle.lists.proofs.Views.{seen, seen-end}
 use Rattle.ids.specs.Limits.{mostOperations, lastEpoch, longestManifest}
 use Rattle.ids.specs.declared.refusal.Refusal.the-variants.{TooManyOperations, EpochsFull}
 use Rattle.ids.specs.declared.refusal.Verdict.{Verdict}
 use Rattle.ids.specs.declared.refusal.Verdict.the-variants.{Accepted, Refused}
 use Rattle.ids.specs.Verdicts.{judged, isAccepted}
 use Rattle.ids.proofs.Verdicts.{none-judged}
-use Rattle.manifest.specs.declared.operation.Change.{Change}
-use Rattle.manifest.specs.Operations.{Operation, operationOf}
+use Rattle.manifest.specs.Operations.{Operation}
 use Rattle.columns.specs.Rows.{rows, across, plain}
 use Rattle.snapshot.specs.Tables.{Whole}
 use Rattle.snapshot.proofs.TableRows.{ascending-tables}
 use Rattle.version_state.specs.declared.VersionManagerInner.{VersionManagerInner}
-use Rattle.version_state.specs.State.{State, stateOf, withEpoch, Hands}
+use Rattle.version_state.specs.State.{State, withEpoch}
 use Rattle.version_state.specs.Sound.{badInner}
 use Rattle.version_state.proofs.Facts.{sound-of}
 use Rattle.version_state.proofs.Walks.{rising-prefix}
 use Rattle.operations.specs.declared.Held.{Held}
 use Rattle.operations.specs.declared.Stepped.{Stepped}
-use Rattle.operations.specs.Steps.{Outcome, left, stopped, onward, andThen, stepOf, stepsOf, Sized, Columns, columns, stateIn, Ready, StepIs}
+use Rattle.operations.specs.Steps.{Outcome, left, stopped, onward, andThen, stepOf, stepsOf, Sized, Columns, columns, stateIn, Stands, Ready, StepIs}
 use Rattle.operations.proofs.Keeps.{rising-vectors}
 use Rattle.frames.specs.Frames.{frameOf}
 use Rattle.commit.specs.declared.Done.{Done}
 use Rattle.commit.specs.Commit.{lastRules, finishOf, commitOf, CommitIs}
-use Rattle.commit.proofs.Stepwise.{Halts, went, turn-off, turn-on, steps-manifest}
+use Rattle.commit.proofs.Stepwise.{Halts, went, turn-off, turn-on}
 
 -- the numbers and the columns of a state
 abbrev pub heldOf : VersionManagerInner → Held
@@ -48,29 +46,24 @@ pub record Going (s : State) (e : ℕ) (os : List Operation) (i : ℕ) (rest : L
   pub ready : Ready h c
   pub same : stepsOf 0 e os s ≡ stepsOf i e rest (stateIn h c)
 
-pub go-start : (m : VersionManagerInner) (e : ℕ) (os : List Operation) → badInner m ≡ false → Whole (m .tables .ids) (m .tables .shapes) (m .tables .lengths) (m .tables .names) (m .tables .locked)
+pub ready-of : (m : VersionManagerInner) → badInner m ≡ false → Whole (m .tables .ids) (m .tables .shapes) (m .tables .lengths) (m .tables .names) (m .tables .locked)
     → Sized (m .rowsets .tables ∷ m .rowsets .rowsets ∷ m .rowsets .added ∷ m .rowsets .deleted ∷ m .vectors .tables ∷ m .vectors .rowsets ∷ m .vectors .vectors ∷ m .vectors .added ∷ m .vectors .deleted ∷ [])
-    → Going (stateOf m) e os 0 os (heldOf m) (columnsOf m)
-go-start m e os b w z =
-    let s = sound-of m b in
-    record {
-      ready =
-          record {
-            whole = w;
-            sized = z;
-            fewTables = s .fits .tables;
-            fewRowsets = s .fits .rowsets;
-            fewVectors = s .fits .vectors;
-            tables = s .ordered .tables;
-            pairs = s .ordered .pairs;
-            vectors = s .ordered .vectors;
-            below = s .below;
-          };
-      same = refl;
-    }
-
-pub go-manifest : (m : VersionManagerInner) (e : ℕ) (os : List Operation) (h : Held) (c : Columns) → badInner m ≡ false → stepsOf 0 e os (stateOf m) ≡ left (stateIn h c) → h .manifest ≤ longestManifest
-go-manifest m e os h c b g = rw (steps-manifest e os (stateOf m) (stateIn h c) g) (sound-of m b .manifest)
+    → Ready (heldOf m) (columnsOf m) × (m .manifest ≤ longestManifest)
+ready-of m b w z =
+    let s = sound-of m b in (
+      record {
+        whole = w;
+        sized = z;
+        fewTables = s .fits .tables;
+        fewRowsets = s .fits .rowsets;
+        fewVectors = s .fits .vectors;
+        tables = s .ordered .tables;
+        pairs = s .ordered .pairs;
+        vectors = s .ordered .vectors;
+        below = s .below;
+      },
+      s .manifest,
+    )
 
 module _ (s : State) (e : ℕ) (os : List Operation) where
   module _ (i : ℕ) (o : Operation) (rest : List Operation) (h : Held) (c : Columns) (r : Stepped) (d : Columns) (g : Going s e os i (o ∷ rest) h c) (t : StepIs (stepOf i e o (stateIn h c)) r d) where
@@ -81,21 +74,6 @@ module _ (s : State) (e : ℕ) (os : List Operation) where
     go-off a =
         let k = turn-off i e o rest (stateIn h c) r d t a in
         record { why = k .why; told = k .told; here = g .same ∙ k .here }
-
-  -- a turn over the changes l, of which there are n
-  module _ (i n : ℕ) (l : List Change) (k : n ≤ length l) (h : Held) (c : Columns) (g : Going s e os i (drop i (map operationOf (take n l))) h c) where
-    module _ (w : i < n) (a : Change) (r : Stepped) (d : Columns) (t : StepIs (stepOf i e (operationOf (getD l i a)) (stateIn h c)) r d) where
-      here : Going s e os i (operationOf (getD l i a) ∷ drop (i + 1) (map operationOf (take n l))) h c
-      here = rw (seen operationOf l n i a w k) at g
-
-      pub change-on : isAccepted (r .verdict) ≡ true → Going s e os (i + 1) (drop (i + 1) (map operationOf (take n l))) (r .held) d
-      change-on = go-on i (operationOf (getD l i a)) (drop (i + 1) (map operationOf (take n l))) h c r d here t
-
-      pub change-off : isAccepted (r .verdict) ≡ false → Halts (stepsOf 0 e os s) (r .verdict)
-      change-off = go-off i (operationOf (getD l i a)) (drop (i + 1) (map operationOf (take n l))) h c r d here t
-
-    pub change-done : n ≤ i → stepsOf 0 e os s ≡ left (stateIn h c)
-    change-done w = g .same ∙ rw (seen-end operationOf l n i w k)
 
 -- the first tests
 module _ (s : State) (n : ℕ) (os : List Operation) (room : ℕ) where
@@ -149,12 +127,12 @@ module _ {h : Held} {c : Columns} (y : Ready h c) where
   pub sorted-vectors : sorted plain (rows (across (c .tables ∷ c .rowsets ∷ [])) (h .vectors)) ≡ true
   sorted-vectors = rising-prefix (c .tables ∷ c .rowsets ∷ c .vectors ∷ []) (h .vectors) 2 (rising-vectors y .rises)
 
-pub commit-off : (x : Outcome) (os : List Operation) (out : List ℕ) (r : Done) (out′ : List ℕ) → Halts x (r .verdict) → out′ ≡ out → CommitIs x os out r out′
-commit-off x os out r out′ h q = rw (h .here) (h .told, q)
+pub commit-off : (x : Outcome) (os : List Operation) (out : List ℕ) (r : Done) (c : Columns) (out′ : List ℕ) → Halts x (r .verdict) → out′ ≡ out → CommitIs x os out r c out′
+commit-off x os out r c out′ h q = rw (h .here) (h .told, q)
 
-pub commit-on : (x : Outcome) (os : List Operation) (out : List ℕ) (r : Done) (out′ : List ℕ) (s : State) → x ≡ left s → r .verdict ≡ Accepted → r .length ≡ length (frameOf os) → Hands (r .inner) s → out′ ≡ over (frameOf os) out
-    → CommitIs x os out r out′
-commit-on x os out r out′ s q v n h w = rw q (v, n, h, w)
+pub commit-on : (x : Outcome) (os : List Operation) (out : List ℕ) (r : Done) (c : Columns) (out′ : List ℕ) (s : State) → x ≡ left s → r .verdict ≡ Accepted → r .length ≡ length (frameOf os) → Stands (r .held) c s → out′ ≡ over (frameOf os) out
+    → CommitIs x os out r c out′
+commit-on x os out r c out′ s q v n h w = rw q (v, n, h, w)
 
 -- a step that ends a loop over operations
 pub halts-step : (x : Outcome) (r : Stepped) (c : Columns) → Halts x (r .verdict) → StepIs x r c

@@ -7,10 +7,9 @@ use native.Mathlib.Omega.{arith}
 use lib.ListN.{length, take, drop, length-append, length-take, length-drop, drop-of-length-le}
 use lib.Seq.{drop-cons, append-snoc}
 use borrow.Author.Tests.{not-false}
-use Rattle.lists.specs.Written.{over}
 use Rattle.lists.proofs.Tests.{clash}
 use Rattle.lists.proofs.Keyed.{All}
-use Rattle.ids.specs.Limits.{mostOperations, longestManifest}
+use Rattle.ids.specs.Limits.{mostOperations, longestLine, longestManifest}
 use Rattle.ids.specs.declared.refusal.Verdict.the-variants.{Accepted}
 use Rattle.ids.specs.Verdicts.{judged}
 use Rattle.ids.proofs.Verdicts.{none-judged}
@@ -93,7 +92,7 @@ accepted-operation i e (deleteVector t r v) s a = refl
 accepted-operation i e (nextIds t r v) s a = clash refl (none-judged (opRules i e (nextIds t r v) s) a .1 .0)
 
 -- what holds of each operation that is accepted holds of all
-accepted-all : (P : Operation → Type 0) → ((i e : ℕ) (o : Operation) (s : State) → judged (opRules i e o s) ≡ Accepted → P o)
+pub accepted-all : (P : Operation → Type 0) → ((i e : ℕ) (o : Operation) (s : State) → judged (opRules i e o s) ≡ Accepted → P o)
     → (i e : ℕ) (os : List Operation) (s t : State) → stepsOf i e os s ≡ left t → All P os
 accepted-all P f i e [] s t h = tt
 accepted-all P f i e (o ∷ os) s t h = go (stepOf i e o s) refl h (λ u. accepted-all P f (i + 1) e os u t)
@@ -144,7 +143,7 @@ pub frame-size : (s : List ℕ) → length (lentFrame s) ≡ length s + 4
 frame-size s = omega (arith, length-append s (69 ∷ 10 ∷ []))
 
 -- operations that are accepted have short lines
-texts-short : (os : List Operation) → All (λ o. wellFormed o ≡ true) os → length (textsOf os) ≤ 57 * length os
+pub texts-short : (os : List Operation) → All (λ o. wellFormed o ≡ true) os → length (textsOf os) ≤ longestLine * length os
 texts-short [] a = omega arith
 texts-short (o ∷ os) a = omega (arith, texts-cons o os, text-room o (a .0), texts-short os (a .1))
 
@@ -152,6 +151,3 @@ pub frame-short : (e : ℕ) (os : List Operation) (u t : State) → length os �
 frame-short e os u t few h =
     let a = accepted-all (λ o. wellFormed o ≡ true) (λ i e o s j. not-false _ (none-judged (opRules i e o s) j .0)) 0 e os u t h in
     omega (arith, frame-long os, texts-short os a)
-
-pub over-lent : (s out t : List ℕ) → t ≡ over (66 ∷ 10 ∷ ((s ++ (69 ∷ [])) ++ (10 ∷ []))) out → t ≡ over (lentFrame s) out
-over-lent s out t h = h ∙ ap (λ (r : List ℕ). over (66 ∷ 10 ∷ r) out) (append-assoc s (69 ∷ []) (10 ∷ []))

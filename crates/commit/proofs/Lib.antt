@@ -3,3 +3,5 @@ pub mod Sounds
 pub mod Older
 pub mod Calls
 pub mod Lent
+pub mod Committing
+pub mod AsLines

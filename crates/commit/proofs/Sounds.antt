@@ -149,7 +149,7 @@ pub record Accepts (s : State) (n : ℕ) (os : List Operation) (room : ℕ) (u :
   pub lent : length (frameOf os) ≤ room
   pub state : withEpoch done (s .epoch + 1) (done .manifest + length (frameOf os)) ≡ u
 
-onward-left : (v : Verdict) (x : Outcome) (s : State) → onward v x ≡ left s → (v ≡ Accepted) × (x ≡ left s)
+pub onward-left : (v : Verdict) (x : Outcome) (s : State) → onward v x ≡ left s → (v ≡ Accepted) × (x ≡ left s)
 onward-left Accepted x s h = (refl, h)
 onward-left (Refused k) x s h = absurd (halt h)
 

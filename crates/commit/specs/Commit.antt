@@ -10,9 +10,9 @@ use Rattle.ids.specs.declared.refusal.Verdict.the-variants.{Accepted, Refused}
 use Rattle.ids.specs.Verdicts.{Rule, _⇒_, judged}
 use Rattle.manifest.specs.Operations.{Operation}
 use Rattle.ids.specs.Limits.{lastEpoch, longestManifest, mostOperations}
-use Rattle.version_state.specs.State.{State, withEpoch, Hands}
+use Rattle.version_state.specs.State.{State, withEpoch}
 use Rattle.version_state.specs.Sound.{leftBehind}
-use Rattle.operations.specs.Steps.{Outcome, left, stopped, onward, andThen, stepsOf}
+use Rattle.operations.specs.Steps.{Outcome, left, stopped, onward, andThen, stepsOf, Columns, Stands}
 use Rattle.frames.specs.Frames.{frameOf}
 use Rattle.commit.specs.declared.Done.{Done}
 
@@ -37,7 +37,8 @@ finishOf e os room s =
 abbrev pub commitOf : State → ℕ → List Operation → ℕ → Outcome
 commitOf s n os room = onward (judged (firstRules s n)) (andThen (stepsOf 0 (s .epoch + 1) os s) (finishOf (s .epoch + 1) os room))
 
--- a commit of os into the lent buffer: what is left and the frame to append, or a refusal and nothing written
-abbrev pub CommitIs : Outcome → List Operation → List ℕ → Done → List ℕ → Type 0
-CommitIs (left s) os out r out′ = (r .verdict ≡ Accepted) × (r .length ≡ length (frameOf os)) × Hands (r .inner) s × (out′ ≡ over (frameOf os) out)
-CommitIs (stopped k) os out r out′ = (r .verdict ≡ Refused k) × (out′ ≡ out)
+-- Internal: a commit of os over columns, into the lent buffer. What is left stands in the columns, and the frame to append in the
+-- buffer; or a refusal, and nothing written.
+abbrev pub CommitIs : Outcome → List Operation → List ℕ → Done → Columns → List ℕ → Type 0
+CommitIs (left s) os out r c out′ = (r .verdict ≡ Accepted) × (r .length ≡ length (frameOf os)) × Stands (r .held) c s × (out′ ≡ over (frameOf os) out)
+CommitIs (stopped k) os out r c out′ = (r .verdict ≡ Refused k) × (out′ ≡ out)

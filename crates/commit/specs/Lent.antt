@@ -1,7 +1,8 @@
 -- Operations lent as lines. Assumes nothing.
+use mathlib.Core.Bool.{cond}
 use mathlib.Core.List.{List, [], _∷_, _++_, map}
 use Prim.Native.Nat.{ℕ}
-use Rattle.manifest.specs.Operations.{Operation, nextIds, Line, begin, end, operation, bad}
+use Rattle.manifest.specs.Operations.{Operation, nextIds, Line, begin, end, operation, bad, wellFormed}
 use Rattle.manifest.specs.Lines.{lineOf}
 use Rattle.manifest.specs.Split.{lines, restOn}
 
@@ -11,6 +12,10 @@ operationSaid begin = nextIds 0 0 0
 operationSaid end = nextIds 0 0 0
 operationSaid (operation o) = o
 operationSaid bad = nextIds 0 0 0
+
+-- how an operation of a typed batch is lent: one that is not well formed stands as `N` too
+abbrev pub asLine : Operation → Operation
+asLine o = cond (wellFormed o) o (nextIds 0 0 0)
 
 -- bytes after the last newline are one more, that is no line
 abbrev pub unended : List ℕ → List Operation

@@ -14,12 +14,12 @@ use manifest::reader::LineAt;
 use operations::Held;
 use operations::Stepped;
 ghost use mathlib.Core.Path.{_≡_};
-ghost use mathlib.Core.List.{[], _∷_, _++_};
+ghost use mathlib.Core.Bool.{true};
+ghost use mathlib.Core.List.{_∷_};
 ghost use Prim.Native.Nat.{_+_, _≤_, _<_};
 ghost use lib.ListN.{length, drop};
-ghost use Rattle.lists.specs.Written.{over};
 ghost use Rattle.text.specs.Class.{Classes};
-ghost use Rattle.manifest.specs.Operations.{nextIds, operationOf};
+ghost use Rattle.manifest.specs.Operations.{nextIds, operationOf, wellFormed};
 ghost use Rattle.manifest.specs.Lines.{lineOf};
 ghost use Rattle.operations.specs.Steps.{stepsOf, columns, stateIn, Ready, StepIs};
 ghost use Rattle.commit.specs.Lent.{operationSaid, operationsIn};
@@ -31,7 +31,7 @@ pub struct Found {
 }
 
 // What is no line of an operation stands as `N`, which is no operation of a commit.
-fn none(name: Name) -> Change
+pub fn none(name: Name) -> Change
     ensures { λ r. ⌜ operationOf r ≡ nextIds 0 0 0 ⌝ }
 {
     Change {
@@ -60,7 +60,7 @@ fn said(classes: &[u8; 256], line: &[u8]) -> Change
 // The operation at a place. Bytes after the last newline are one too.
 fn read(classes: &[u8; 256], ops: &[u8], at: usize) -> Found
     requires { ⌜ (at < length (now ops)) × Classes (now classes) ⌝ }
-    ensures { λ r. ⌜ (operationsIn (drop at (now (ops .entry))) ≡ operationOf (r .change) ∷ operationsIn (drop (r .next) (now (ops .entry)))) × (at < r .next) × (r .next ≤ length (now (ops .entry))) ⌝ }
+    ensures { λ r. ⌜ (operationsIn (drop at (now (ops .entry))) ≡ operationOf (r .change) ∷ operationsIn (drop (r .next) (now (ops .entry)))) × (at < r .next) × (r .next ≤ length (now (ops .entry))) × (wellFormed (operationOf (r .change)) ≡ true) ⌝ }
 {
     let line = manifest::reader::line_at(classes, ops, at);
     match line {
@@ -167,16 +167,4 @@ pub fn steps(
         i += 1;
     }
     operations::accepted(held)
-}
-
-// The frame of lent lines: `B`, the lent bytes, `E`.
-pub fn put_frame(out: &mut [u8], ops: &[u8])
-    requires { ⌜ length (now ops) + 4 ≤ length (now out) ⌝ }
-    ensures { λ _. ⌜ now (out .exit) ≡ over (66 ∷ 10 ∷ (now (ops .entry) ++ (69 ∷ 10 ∷ []))) (now (out .entry)) ⌝ }
-{
-    let i = text::put_byte(out, 0, b'B');
-    let i = text::put_byte(out, i, b'\n');
-    let i = text::put_bytes(out, i, ops);
-    let i = text::put_byte(out, i, b'E');
-    text::put_byte(out, i, b'\n');
 }

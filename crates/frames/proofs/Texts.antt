@@ -4,12 +4,11 @@ use mathlib.Core.List.{List, [], _∷_, _++_, map, append-assoc}
 use Prim.Native.Nat.{ℕ, zero, suc, _+_, _<_, _≤_}
 use native.Mathlib.Omega.{arith}
 use native.Mathlib.Numerals.{add-one}
-use lib.ListN.{length, getD, take, drop, length-append}
+use lib.ListN.{length, take, drop, length-append}
 use Rattle.lists.specs.Written.{Wrote}
 use Rattle.lists.proofs.Written.{wrote-on, wrote-length}
-use Rattle.lists.proofs.Views.{map-append, seen}
-use Rattle.manifest.specs.Operations.{Operation, operationOf}
-use Rattle.manifest.specs.declared.operation.Change.{Change}
+use Rattle.lists.proofs.Views.{map-append}
+use Rattle.manifest.specs.Operations.{Operation}
 use Rattle.manifest.specs.Lines.{textOf}
 use Rattle.manifest.specs.Split.{joined}
 use Rattle.frames.specs.Frames.{textsOf, frameOf}
@@ -57,28 +56,19 @@ texts-room os i o rest e = omega (arith, texts-split i os, texts-next os i o res
 pub texts-le : (os : List Operation) (i : ℕ) → length (textsOf (take i os)) ≤ length (textsOf os)
 texts-le os i = omega (arith, texts-split i os)
 
--- a turn of a loop over the changes l, of which there are n: n′ is the length of the text of the one at i
-module _ (i n : ℕ) (l : List Change) (d : Change) (h : i < n) (k : n ≤ length l) where
-  here : drop i (map operationOf (take n l)) ≡ operationOf (getD l i d) ∷ drop (i + 1) (map operationOf (take n l))
-  here = seen operationOf l n i d h k
+-- a turn of a loop that writes the lines of the operations os: the one at i is o
+module _ (os : List Operation) (i : ℕ) (o : Operation) (here : drop i os ≡ o ∷ drop (i + 1) os) where
+  room-turn : length (textsOf (take i os)) + length (textOf o ++ (10 ∷ [])) ≤ length (textsOf os)
+  room-turn = texts-room os i o (drop (i + 1) os) here
 
-  pub length-turn : (n′ whole sum : ℕ) → n′ ≡ length (textOf (operationOf (getD l i d))) → whole ≡ sum + length (textsOf (drop i (map operationOf (take n l))))
-      → whole ≡ sum + (n′ + 1) + length (textsOf (drop (i + 1) (map operationOf (take n l))))
-  length-turn n′ whole sum e w = omega (arith, texts-next (map operationOf (take n l)) i (operationOf (getD l i d)) (drop (i + 1) (map operationOf (take n l))) here)
-
-  pub room-turn : length (textsOf (take i (map operationOf (take n l)))) + length (textOf (operationOf (getD l i d)) ++ (10 ∷ [])) ≤ length (textsOf (map operationOf (take n l)))
-  room-turn = texts-room (map operationOf (take n l)) i (operationOf (getD l i d)) (drop (i + 1) (map operationOf (take n l))) here
-
-  pub wrote-turn : (s t u : List ℕ) (at j r : ℕ) → at + length (textsOf (map operationOf (take n l))) ≤ length s
-      → Wrote s at (textsOf (take i (map operationOf (take n l)))) t j → Wrote t j (textOf (operationOf (getD l i d)) ++ (10 ∷ [])) u r
-      → Wrote s at (textsOf (take (i + 1) (map operationOf (take n l)))) u r
+  pub wrote-turn : (s t u : List ℕ) (at j r : ℕ) → at + length (textsOf os) ≤ length s
+      → Wrote s at (textsOf (take i os)) t j → Wrote t j (textOf o ++ (10 ∷ [])) u r → Wrote s at (textsOf (take (i + 1) os)) u r
   wrote-turn s t u at j r room a b =
       let x = room-turn in
-      rw (texts-turn (map operationOf (take n l)) i (operationOf (getD l i d)) (drop (i + 1) (map operationOf (take n l))) here) (wrote-on s at (textsOf (take i (map operationOf (take n l)))) t j (textOf (operationOf (getD l i d)) ++ (10 ∷ [])) u r (omega arith) a b)
+      rw (texts-turn os i o (drop (i + 1) os) here) (wrote-on s at (textsOf (take i os)) t j (textOf o ++ (10 ∷ [])) u r (omega arith) a b)
 
   -- there is room for the line
-  pub place-turn : (s t : List ℕ) (at j : ℕ) → at + length (textsOf (map operationOf (take n l))) ≤ length s
-      → Wrote s at (textsOf (take i (map operationOf (take n l)))) t j → j + length (textOf (operationOf (getD l i d)) ++ (10 ∷ [])) ≤ length t
+  pub place-turn : (s t : List ℕ) (at j : ℕ) → at + length (textsOf os) ≤ length s → Wrote s at (textsOf (take i os)) t j → j + length (textOf o ++ (10 ∷ [])) ≤ length t
   place-turn s t at j room a =
       let x = room-turn in
-      omega (arith, a .next, wrote-length s at (textsOf (take i (map operationOf (take n l)))) t j (omega arith) a)
+      omega (arith, a .next, wrote-length s at (textsOf (take i os)) t j (omega arith) a)

@@ -12,6 +12,10 @@ mostHeld = 256
 abbrev pub mostOperations : ℕ
 mostOperations = 600
 
+-- the bytes of a line with its newline, at most
+abbrev pub longestLine : ℕ
+longestLine = 57
+
 abbrev pub lastEpoch : ℕ
 lastEpoch = 4294967295
 

@@ -12,6 +12,12 @@ pub const NAME_BYTES: usize = MOST_TABLES * LONGEST_NAME;
 // The operations of a commit, and of a frame.
 pub const MOST_OPERATIONS: usize = 600;
 
+// The bytes of a line with its newline, at most.
+pub const LONGEST_LINE: usize = 57;
+
+// The lines of a commit.
+pub const LINE_BYTES: usize = MOST_OPERATIONS * LONGEST_LINE;
+
 pub const LAST_EPOCH: u32 = 4294967295;
 
 // The largest value of each width: no id.

@@ -1,10 +1,12 @@
 use ids::RowsetNo;
 use ids::TableNo;
 use ids::VectorNo;
+use ids::limits::MOST_OPERATIONS;
 use ids::name::Name;
 ghost use mathlib.Core.Path.{_≡_};
 ghost use mathlib.Core.Bool.{_&&_};
 ghost use Rattle.ids.specs.Ids.{isId32, isId64};
+ghost use Rattle.text.specs.Class.{Classes};
 ghost use Rattle.manifest.specs.Operations.{operationOf, wellFormed};
 
 // An operation of a commit; `NextIds` stands in manifests only.
@@ -27,7 +29,7 @@ pub struct Change {
 
 // The operations of a commit or of a frame: the first `count`.
 pub struct Batch {
-    pub changes: [Change; 600],
+    pub changes: [Change; MOST_OPERATIONS],
     pub count: usize,
 }
 
@@ -71,7 +73,9 @@ fn vector_ids(t: TableNo, r: RowsetNo, v: VectorNo) -> bool
 }
 
 impl Change {
-    pub fn well_formed(self) -> bool
+    // Internal: it is lent the table of classes.
+    pub fn well_formed(self, classes: &[u8; 256]) -> bool
+        requires { ⌜ Classes (now classes) ⌝ }
         ensures { λ r. ⌜ r ≡ wellFormed (operationOf self) ⌝ }
     {
         let op = self.op;
@@ -81,7 +85,7 @@ impl Change {
                 if !t.is_id() {
                     return false;
                 }
-                text::valid_name(name)
+                text::valid_name(classes, name)
             }
             EpochOp::DropTable(t) => t.is_id(),
             EpochOp::AddRowSet(t, r) => pair_ids(t, r),

@@ -104,6 +104,13 @@ stateIn h c =
     (entries (c .pairTables ∷ c .pairRowsets ∷ []) (c .pairAdded) (c .pairDeleted))
     (entries (c .tables ∷ c .rowsets ∷ c .vectors ∷ []) (c .added) (c .deleted))
 
+-- the state s stands in columns, its counts within the limits
+pub record Stands (h : Held) (c : Columns) (s : State) : Type 0 where
+  pub fewTables : h .tables ≤ mostTables
+  pub fewRowsets : h .rowsets ≤ mostHeld
+  pub fewVectors : h .vectors ≤ mostHeld
+  pub state : stateIn h c ≡ s
+
 -- what a step needs: columns of their arrays' lengths, counts within the limits, lists that rise, and tables below the next id
 pub record Ready (h : Held) (c : Columns) : Type 0 where
   pub whole : Whole (c .ids) (c .shapes) (c .lengths) (c .names) (c .locked)

@@ -8,7 +8,8 @@ use manifest::operation::Change;
 use manifest::operation::EpochOp;
 use version_state::NextIds;
 ghost use mathlib.Core.Path.{_≡_};
-ghost use Rattle.manifest.specs.Operations.{operationOf};
+ghost use mathlib.Core.Bool.{true};
+ghost use Rattle.manifest.specs.Operations.{operationOf, wellFormed};
 ghost use Rattle.operations.specs.Laws.{JudgedAlike};
 ghost use Rattle.operations.specs.Steps.{stepOf, columns, stateIn, Ready, StepIs};
 
@@ -55,6 +56,7 @@ pub fn accepted(held: Held) -> Stepped
     }
 }
 
+// A well-formed operation at its place.
 pub fn step(
     ids: &mut [u32; MOST_TABLES],
     shapes: &mut [u32; MOST_TABLES],
@@ -75,12 +77,9 @@ pub fn step(
     epoch: u32,
     change: Change,
 ) -> Stepped
-    requires { ⌜ Ready held (columns (now ids) (now shapes) (now lengths) (now names) (now locked) (now «pair_tables») (now «pair_rowsets») (now «pair_added») (now «pair_deleted») (now tables) (now rowsets) (now vectors) (now added) (now deleted)) ⌝ }
+    requires { ⌜ (wellFormed (operationOf change) ≡ true) × Ready held (columns (now ids) (now shapes) (now lengths) (now names) (now locked) (now «pair_tables») (now «pair_rowsets») (now «pair_added») (now «pair_deleted») (now tables) (now rowsets) (now vectors) (now added) (now deleted)) ⌝ }
     ensures { λ r. ⌜ StepIs (stepOf place epoch (operationOf change) (stateIn held (columns (now (ids .entry)) (now (shapes .entry)) (now (lengths .entry)) (now (names .entry)) (now (locked .entry)) (now («pair_tables» .entry)) (now («pair_rowsets» .entry)) (now («pair_added» .entry)) (now («pair_deleted» .entry)) (now (tables .entry)) (now (rowsets .entry)) (now (vectors .entry)) (now (added .entry)) (now (deleted .entry))))) r (columns (now (ids .exit)) (now (shapes .exit)) (now (lengths .exit)) (now (names .exit)) (now (locked .exit)) (now («pair_tables» .exit)) (now («pair_rowsets» .exit)) (now («pair_added» .exit)) (now («pair_deleted» .exit)) (now (tables .exit)) (now (rowsets .exit)) (now (vectors .exit)) (now (added .exit)) (now (deleted .exit))) ⌝ }
 {
-    if !change.well_formed() {
-        return refused(held, Refusal::Malformed(place));
-    }
     let op = change.op;
     let name = change.name;
     match op {

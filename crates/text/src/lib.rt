@@ -93,13 +93,13 @@ pub fn is_name(classes: &[u8; 256], s: &[u8]) -> bool
     true
 }
 
-pub fn valid_name(n: Name) -> bool
+pub fn valid_name(classes: &[u8; 256], n: Name) -> bool
+    requires { ⌜ Classes (now classes) ⌝ }
     ensures { λ r. ⌜ r ≡ isName (nameOf n) ⌝ }
 {
     let k = n.length();
     let bytes = n.bytes;
-    let classes = classes();
-    is_name(&classes, &bytes[..k])
+    is_name(classes, &bytes[..k])
 }
 
 // A number and the place after it, or nothing.

@@ -1,22 +1,33 @@
 -- What the work below a method tells of the method's own proposition. Assumes nothing.
 use mathlib.Core.Path.{_≡_, refl, sym, ap, subst, _∙_}
 use mathlib.Core.Bool.{false}
-use mathlib.Core.List.{List, [], _∷_}
-use Prim.Native.Nat.{ℕ}
+use mathlib.Core.List.{List, [], _∷_, map}
+use Prim.Native.Nat.{ℕ, _*_, _≤_}
 use native.Mathlib.Omega.{arith}
-use lib.ListN.{length}
-use Rattle.lists.specs.Written.{over}
+use lib.ListN.{length, take, drop, length-map}
+use lib.Seq.{take-append-seam}
+use Rattle.lists.specs.Written.{over, Wrote}
+use Rattle.lists.proofs.Views.{view-length}
+use Rattle.lists.proofs.Written.{wrote-over, wrote-length}
+use Rattle.ids.specs.Limits.{mostOperations, longestLine}
 use Rattle.ids.specs.declared.refusal.Refusal.{Refusal}
+use Rattle.ids.specs.declared.refusal.Refusal.the-variants.{BadManager}
 use Rattle.ids.specs.declared.refusal.Verdict.{Verdict}
 use Rattle.ids.specs.declared.refusal.Verdict.the-variants.{Accepted, Refused}
+use Rattle.ids.specs.Verdicts.{_⇒_, judged}
 use Rattle.ids.specs.Answers.{told, after}
-use Rattle.manifest.specs.Operations.{Operation}
+use Rattle.manifest.specs.declared.operation.Batch.{Batch}
+use Rattle.manifest.specs.Operations.{Operation, operationOf, batchOf}
 use Rattle.snapshot.specs.Entries.{field}
-use Rattle.version_state.specs.State.{State, Hands}
+use Rattle.version_state.specs.State.{State}
 use Rattle.pins.specs.declared.PinBook.{PinBook}
-use Rattle.operations.specs.Steps.{Outcome, left, stopped}
+use Rattle.operations.specs.Steps.{Outcome, left, stopped, onward, Columns, Stands}
+use Rattle.frames.specs.Frames.{textsOf}
 use Rattle.commit.specs.declared.Done.{Done}
-use Rattle.commit.specs.Commit.{CommitIs}
+use Rattle.commit.specs.Commit.{commitOf, CommitIs}
+use Rattle.commit.specs.Lent.{asLine, operationsIn}
+use Rattle.commit.proofs.Sounds.{onward-left}
+use Rattle.commit.proofs.AsLines.{lines-room, lines-read, commit-same, commit-lines-same}
 use Rattle.vacuum.specs.declared.Released.{Released}
 use Rattle.vacuum.specs.LetGo.{vacuumed}
 use Rattle.vacuum.specs.Says.{boundOf, listOf, VacuumIs}
@@ -24,24 +35,62 @@ use Rattle.version_manager.specs.declared.VersionManager.{VersionManager
 use Rattle.version_manager.specs.declared.Committed.{Committed}
 use Rattle.version_manager.specs.declared.Vacuumed.{Vacuumed}
 use Rattle.version_manager.specs.declared.VacuumAnswer.the-variants as answer
-use Rattle.version_manager.specs.Managers.{heldBy, badManager, HandsBack}
-use Rattle.version_manager.specs.Commit.{commitTold, CommitEnds}
+use Rattle.version_manager.specs.Managers.{heldBy, badManager, Manages, HandsBack}
+use Rattle.version_manager.specs.Commit.{outcomeOf, commitTold, CommitEnds, CommitSays}
 use Rattle.version_manager.specs.Vacuum.{vacuumVerdict, VacuumSays}
 
--- a commit that was refused, and one that was accepted
-module _ (m : VersionManager) (d : Done) (r : Committed) where
+-- a commit over the columns c that was refused, and one that was accepted
+module _ (m : VersionManager) (d : Done) (c : Columns) (r : Committed) where
   pub commit-no : (k : Refusal) → d .verdict ≡ Refused k → r .manager ≡ m → commitTold (r .answer) ≡ told (Refused k) []
-      → (x : Outcome) (os : List Operation) (out out′ : List ℕ) → CommitIs x os out d out′ → CommitEnds x m os out r out′
+      → (x : Outcome) (os : List Operation) (out out′ : List ℕ) → CommitIs x os out d c out′ → CommitEnds x m os out r out′
   commit-no k e h t (left s) os out out′ i = absurd (let z : _≡_ {A = ℕ} 0 1 = cc (i .0, e) in omega arith)
   commit-no k e h t (stopped j) os out out′ i =
       let q : k ≡ j = cc (i .0, e) in
       (t ∙ ap (λ (z : Refusal). told (Refused z) []) q, h, i .1)
 
-  pub commit-yes : d .verdict ≡ Accepted → r .manager .inner ≡ d .inner → commitTold (r .answer) ≡ told Accepted (d .inner .epoch ∷ d .length ∷ [])
-      → (x : Outcome) (os : List Operation) (out out′ : List ℕ) → CommitIs x os out d out′ → CommitEnds x m os out r out′
+  pub commit-yes : d .verdict ≡ Accepted → ((s : State) → Stands (d .held) c s → Manages (r .manager) s) → commitTold (r .answer) ≡ told Accepted (d .held .epoch ∷ d .length ∷ [])
+      → (x : Outcome) (os : List Operation) (out out′ : List ℕ) → CommitIs x os out d c out′ → CommitEnds x m os out r out′
   commit-yes e h t (left s) os out out′ i =
-      (t ∙ ap (λ (z : State). told Accepted (z .epoch ∷ d .length ∷ [])) (i .2 .state) ∙ ap (λ (n : ℕ). told Accepted (s .epoch ∷ n ∷ [])) (i .1), rw h (i .2), i .3)
+      (t ∙ ap (λ (z : State). told Accepted (z .epoch ∷ d .length ∷ [])) (i .2 .state) ∙ ap (λ (n : ℕ). told Accepted (s .epoch ∷ n ∷ [])) (i .1), h s (i .2), i .3)
   commit-yes e h t (stopped j) os out out′ i = absurd (let z : _≡_ {A = ℕ} 0 1 = cc (i .0, e) in omega arith)
+
+-- a commit of a typed batch's lines is one of its operations
+module _ (m : VersionManager) (n : ℕ) (os : List Operation) (out : List ℕ) (r : Committed) (out′ : List ℕ) where
+  outcome-same : outcomeOf m n (map asLine os) (length out) ≡ outcomeOf m n os (length out)
+  outcome-same = ap (onward (judged ((badManager m ⇒ BadManager) ∷ []))) (commit-same (heldBy m) n os (length out))
+
+  ends-same : (x : Outcome) → outcomeOf m n os (length out) ≡ x → CommitEnds x m (map asLine os) out r out′ → CommitEnds x m os out r out′
+  ends-same (left s) h e =
+      let q = commit-lines-same (heldBy m) n os (length out) s (onward-left (judged ((badManager m ⇒ BadManager) ∷ [])) (commitOf (heldBy m) n os (length out)) s h .1) in
+      subst (λ (l : List Operation). CommitEnds (left s) m l out r out′) q e
+  ends-same (stopped k) h e = e
+
+  pub typed-says : CommitSays m n (map asLine os) out r out′ → CommitSays m n os out r out′
+  typed-says h = ends-same (outcomeOf m n os (length out)) refl (subst (λ (x : Outcome). CommitEnds x m (map asLine os) out r out′) outcome-same h)
+
+pub says-same : (m : VersionManager) (n : ℕ) (os : List Operation) (out : List ℕ) (r : Committed) (out′ : List ℕ) (k : ℕ) (l : List Operation) → n ≡ k → os ≡ l → CommitSays m n os out r out′ → CommitSays m k l out r out′
+says-same m n os out r out′ k l p q h = subst (λ (x : List Operation). CommitSays m k x out r out′) q (subst (λ (x : ℕ). CommitSays m x os out r out′) p h)
+
+-- the lines that a batch of at most mostOperations was turned into
+module _ (b : Batch) (s t : List ℕ) (n : ℕ) (few : b .count ≤ mostOperations) (whole : b .count ≤ length (b .changes)) (room : mostOperations * longestLine ≤ length s) (w : Wrote s 0 (textsOf (map asLine (batchOf b))) t n) where
+  short : length (batchOf b) ≡ b .count
+  short = view-length operationOf (b .changes) (b .count) whole
+
+  fits : length (textsOf (map asLine (batchOf b))) ≤ length s
+  fits = omega (arith, lines-room (batchOf b) (omega (arith, short, few)), room)
+
+  pub lines-within : n ≤ length t
+  lines-within = omega (arith, w .next, fits, wrote-length s 0 (textsOf (map asLine (batchOf b))) t n (omega (arith, fits)) w)
+
+  pub lines-are : operationsIn (take n t) ≡ map asLine (batchOf b)
+  lines-are =
+      let run = textsOf (map asLine (batchOf b)) in
+      let k : n ≡ length run = omega (arith, w .next) in
+      let q : take n t ≡ run = ap (λ (i : ℕ). take i t) k ∙ ap (take (length run)) (wrote-over s run t n w) ∙ take-append-seam run (drop (length run) s) in
+      ap operationsIn q ∙ lines-read (batchOf b)
+
+  pub lines-count : length (operationsIn (take n t)) ≡ b .count
+  lines-count = ap length lines-are ∙ length-map (batchOf b) asLine ∙ short
 
 -- a vacuum of a manager that passed 29
 module _ (m : VersionManager) (b : PinBook) (ts rs : List ℕ) (v : Released) (ts′ rs′ : List ℕ) (g : badManager m ≡ false) (i : VacuumIs (heldBy m) b ts rs v ts′ rs′) where

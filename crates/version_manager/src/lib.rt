@@ -1,26 +1,26 @@
 // The version manager: every public method. 29 is judged here; what works below is given a state that passed.
-use commit::Done;
 use ids::RowsetNo;
 use ids::VectorNo;
 use ids::limits::LARGEST_32;
 use ids::limits::LARGEST_64;
+use ids::limits::MOST_OPERATIONS;
 use ids::refusal::Refusal;
 use ids::refusal::Verdict;
 use manifest::operation::Batch;
+use operations::Held;
 use pins::PinBook;
 use show::ShowAnswer;
+use snapshot::rowsets::Rowsets;
+use snapshot::tables::Tables;
+use snapshot::vectors::Vectors;
 use version_state::VersionManagerInner;
 ghost use mathlib.Core.Path.{_≡_};
-ghost use mathlib.Core.List.{List};
-ghost use Prim.Native.Nat.{ℕ};
 ghost use lib.ListN.{length};
-ghost use Rattle.operations.specs.Steps.{Outcome};
-ghost use Rattle.commit.specs.Commit.{CommitIs};
-ghost use Rattle.manifest.specs.Operations.{Operation, batchOf};
+ghost use Rattle.manifest.specs.Operations.{batchOf};
 ghost use Rattle.commit.specs.Lent.{operationsIn};
 ghost use Rattle.version_manager.specs.Managers.{badManager, FreshSays};
 ghost use Rattle.version_manager.specs.Draw.{DrawRowsetSays, DrawVectorSays};
-ghost use Rattle.version_manager.specs.Commit.{CommitEnds, CommitSays};
+ghost use Rattle.version_manager.specs.Commit.{CommitSays};
 ghost use Rattle.version_manager.specs.Vacuum.{VacuumSays};
 ghost use Rattle.version_manager.specs.Show.{ShowTablesSays, ShowPairsSays, ShowVectorsSays};
 ghost use Rattle.version_manager.specs.Laws.{DrawLaws};
@@ -84,26 +84,6 @@ pub fn handed(inner: VersionManagerInner) -> VersionManager
     ensures { λ r. ⌜ r .inner ≡ inner ⌝ }
 {
     VersionManager { inner }
-}
-
-// What a commit by a manager that passed 29 hands back: on a refusal the very same manager.
-fn after_commit(manager: VersionManager, done: Done) -> Committed
-    ensures { λ r. ⌜ ((x : Outcome) (os : List Operation) (out out′ : List ℕ) → CommitIs x os out done out′ → CommitEnds x manager os out r out′) ⌝ }
-{
-    let verdict = done.verdict;
-    if let Verdict::Refused(refusal) = verdict {
-        return Committed {
-            manager,
-            answer: CommitAnswer::Refused(refusal),
-        };
-    }
-    let inner = done.inner;
-    let epoch = inner.epoch;
-    let manager = handed(inner);
-    Committed {
-        manager,
-        answer: CommitAnswer::Appended(epoch, done.length),
-    }
 }
 
 // What fresh and draw hand out passes 29.
@@ -185,22 +165,29 @@ impl VersionManager {
         }
     }
 
-    // The operations of a batch.
+    // The operations of a batch, turned into lines: a count over the limit is refused before anything is turned.
     pub fn commit(self, batch: Batch, out: &mut [u8]) -> Committed
         ensures { λ r. ⌜ CommitSays self (batch .count) (batchOf batch) (now (out .entry)) r (now (out .exit)) ⌝ }
     {
-        if self.bad() {
+        if MOST_OPERATIONS < batch.count {
+            if self.bad() {
+                return Committed {
+                    manager: self,
+                    answer: CommitAnswer::Refused(Refusal::BadManager),
+                };
+            }
             return Committed {
                 manager: self,
-                answer: CommitAnswer::Refused(Refusal::BadManager),
+                answer: CommitAnswer::Refused(Refusal::TooManyOperations(0)),
             };
         }
-        let inner = self.inner;
-        let done = commit::commit(inner, batch, out);
-        after_commit(self, done)
+        let mut lines = commit::typed::buffer();
+        let n = commit::typed::put_lines(&mut lines, batch);
+        self.commit_lines(&lines[..n], out)
     }
 
-    // The operations as manifest lines: each newline ends one, and bytes after the last newline are one more.
+    // The operations as manifest lines: each newline ends one, and bytes after the last newline are one more. The columns are moved
+    // into locals once, lent together, and made a manager again at the end.
     pub fn commit_lines(self, ops: &[u8], out: &mut [u8]) -> Committed
         ensures { λ r. ⌜ CommitSays self (length (operationsIn (now (ops .entry)))) (operationsIn (now (ops .entry))) (now (out .entry)) r (now (out .exit)) ⌝ }
     {
@@ -211,8 +198,95 @@ impl VersionManager {
             };
         }
         let inner = self.inner;
-        let done = commit::commit_lines(inner, ops, out);
-        after_commit(self, done)
+        let next = inner.next;
+        let t = inner.tables;
+        let p = inner.rowsets;
+        let v = inner.vectors;
+        let mut ids = t.ids;
+        let mut shapes = t.shapes;
+        let mut lengths = t.lengths;
+        let mut names = t.names;
+        let mut locked = t.locked;
+        let mut pair_tables = p.tables;
+        let mut pair_rowsets = p.rowsets;
+        let mut pair_added = p.added;
+        let mut pair_deleted = p.deleted;
+        let mut tables = v.tables;
+        let mut rowsets = v.rowsets;
+        let mut vectors = v.vectors;
+        let mut added = v.added;
+        let mut deleted = v.deleted;
+        let first = Held {
+            epoch: inner.epoch,
+            next,
+            tables: t.count,
+            rowsets: p.count,
+            vectors: v.count,
+            manifest: inner.manifest,
+        };
+        let done = commit::commit_lines(
+            &mut ids,
+            &mut shapes,
+            &mut lengths,
+            &mut names,
+            &mut locked,
+            &mut pair_tables,
+            &mut pair_rowsets,
+            &mut pair_added,
+            &mut pair_deleted,
+            &mut tables,
+            &mut rowsets,
+            &mut vectors,
+            &mut added,
+            &mut deleted,
+            first,
+            ops,
+            out,
+        );
+        let verdict = done.verdict;
+        if let Verdict::Refused(refusal) = verdict {
+            return Committed {
+                manager: self,
+                answer: CommitAnswer::Refused(refusal),
+            };
+        }
+        let held = done.held;
+        let next = held.next;
+        let live = Tables {
+            ids,
+            shapes,
+            lengths,
+            names,
+            locked,
+            count: held.tables,
+        };
+        let pairs = Rowsets {
+            tables: pair_tables,
+            rowsets: pair_rowsets,
+            added: pair_added,
+            deleted: pair_deleted,
+            count: held.rowsets,
+        };
+        let marks = Vectors {
+            tables,
+            rowsets,
+            vectors,
+            added,
+            deleted,
+            count: held.vectors,
+        };
+        let manager = handed(VersionManagerInner {
+            epoch: held.epoch,
+            next,
+            tables: live,
+            rowsets: pairs,
+            vectors: marks,
+            manifest: held.manifest,
+        });
+        Committed {
+            manager,
+            answer: CommitAnswer::Appended(held.epoch, done.length),
+        }
     }
 
     pub fn vacuum(self, book: PinBook, tables: &mut [u32], rowsets: &mut [u32]) -> Vacuumed

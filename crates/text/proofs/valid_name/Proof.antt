@@ -13,27 +13,23 @@ use Rattle.text.proofs.valid_name.Tie as tie
 length-requires : tie.Need-length-requires
 length-requires c κs = search needs
 
-classes-requires : tie.Need-classes-requires
-classes-requires c κs = search needs
-
 array-share-prefix-bytes : tie.Need-array-share-prefix-bytes
-array-share-prefix-bytes c = let n = c .before .before .before .before .args .n in let f : length (n .bytes) ≡ longestName = search known in let r = name-room n in omega (arith, c .before .before .before .length .ensures)
+array-share-prefix-bytes c = let n = c .before .before .args .n in let f : length (n .bytes) ≡ longestName = search known in let r = name-room n in omega (arith, c .before .length .ensures)
 
 slice-aggregate-is-name : tie.Need-slice-aggregate-is-name
-slice-aggregate-is-name c = let n = c .before .before .before .before .before .args .n in let f : length (n .bytes) ≡ longestName = search known in let r = name-room n in rw length-take (omega (arith, c .before .before .before .before .length .ensures))
+slice-aggregate-is-name c = let n = c .before .before .before .args .n in let f : length (n .bytes) ≡ longestName = search known in let r = name-room n in rw length-take (omega (arith, c .before .before .length .ensures))
 
 is-name-requires : tie.Need-is-name-requires
 is-name-requires c κs = search needs
 
 returns : tie.Need-returns
-returns c = let n = c .before .before .before .before .before .before .args .n in let f : length (n .bytes) ≡ longestName = search known in let r = name-room n in c .is-name .ensures ∙ rw (c .before .before .before .before .before .length .ensures, name-front n f)
+returns c = let n = c .before .before .before .before .args .n in let f : length (n .bytes) ≡ longestName = search known in let r = name-room n in c .is-name .ensures ∙ rw (c .before .before .before .length .ensures, name-front n f)
 
 pub valid-name-spec : {M : Type 1} → statement M
 valid-name-spec =
     tie.close
     (tie.spec
     length-requires
-    classes-requires
     array-share-prefix-bytes
     slice-aggregate-is-name
     is-name-requires
