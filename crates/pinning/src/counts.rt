@@ -1,4 +1,5 @@
 // The counts of a book, and a book with one of them changed. All of it is internal: the book's count is within its array.
+use pins::MOST_PINNED;
 use pins::Pin;
 use pins::PinBook;
 ghost use mathlib.Core.Path.{_≡_};
@@ -9,11 +10,11 @@ ghost use lib.Dec.{ltb};
 ghost use lib.ListN.{length, getD, set};
 ghost use Rattle.lists.specs.Keyed.{isAt, put, without, ascending, rank};
 ghost use Rattle.lists.specs.Places.{insertAt};
-ghost use Rattle.pins.specs.Book.{pinEntry, pinsOf, byEpoch, Keeps};
+ghost use Rattle.pins.specs.Book.{pinEntry, pinsOf, byEpoch, mostPinned, Keeps};
 ghost use Rattle.pinning.specs.Counts.{pinsOn, pinsAt, recounted, epochsFull};
 
 pub fn pins_at(book: PinBook, epoch: u32) -> u16
-    requires { ⌜ book .count ≤ 64 ⌝ }
+    requires { ⌜ book .count ≤ mostPinned ⌝ }
     ensures { λ r. ⌜ r ≡ pinsAt epoch (pinsOf book) ⌝ }
 {
     let count = book.count;
@@ -30,18 +31,18 @@ pub fn pins_at(book: PinBook, epoch: u32) -> u16
 
 // Whether the epoch needs a place, and none is left.
 pub fn epochs_full(book: PinBook, epoch: u32) -> bool
-    requires { ⌜ book .count ≤ 64 ⌝ }
+    requires { ⌜ book .count ≤ mostPinned ⌝ }
     ensures { λ r. ⌜ r ≡ epochsFull epoch (pinsOf book) ⌝ }
 {
     if book.holds(epoch) {
         return false;
     }
-    64 <= book.count
+    MOST_PINNED <= book.count
 }
 
 // The first place whose epoch is not before.
 fn place(book: PinBook, epoch: u32) -> usize
-    requires { ⌜ book .count ≤ 64 ⌝ }
+    requires { ⌜ book .count ≤ mostPinned ⌝ }
     ensures { λ r. ⌜ (r ≡ rank byEpoch (epoch ∷ []) (pinsOf book)) × (r ≤ book .count) ⌝ }
 {
     let count = book.count;
@@ -58,7 +59,7 @@ fn place(book: PinBook, epoch: u32) -> usize
 
 // Whether the pin at a place is on the epoch.
 fn stands(book: PinBook, at: usize, epoch: u32) -> bool
-    requires { ⌜ book .count ≤ 64 ⌝ }
+    requires { ⌜ book .count ≤ mostPinned ⌝ }
     ensures { λ r. ⌜ r ≡ ltb at (length (pinsOf book)) && isAt byEpoch (epoch ∷ []) (getD (pinsOf book) at (pinsOn 0 0)) ⌝ }
 {
     if book.count <= at {
@@ -69,7 +70,7 @@ fn stands(book: PinBook, at: usize, epoch: u32) -> bool
 }
 
 fn inserted(book: PinBook, at: usize, x: Pin) -> PinBook
-    requires { ⌜ (at ≤ book .count) × (book .count < 64) ⌝ }
+    requires { ⌜ (at ≤ book .count) × (book .count < mostPinned) ⌝ }
     ensures { λ r. ⌜ (r .count ≡ book .count + 1) × (pinsOf r ≡ insertAt at (pinEntry x) (pinsOf book)) ⌝ }
 {
     let mut s = book;
@@ -87,7 +88,7 @@ fn inserted(book: PinBook, at: usize, x: Pin) -> PinBook
 }
 
 fn replaced(book: PinBook, at: usize, x: Pin) -> PinBook
-    requires { ⌜ (at < book .count) × (book .count ≤ 64) ⌝ }
+    requires { ⌜ (at < book .count) × (book .count ≤ mostPinned) ⌝ }
     ensures { λ r. ⌜ (r .count ≡ book .count) × (pinsOf r ≡ set (pinsOf book) at (pinEntry x)) ⌝ }
 {
     let mut s = book;
@@ -97,7 +98,7 @@ fn replaced(book: PinBook, at: usize, x: Pin) -> PinBook
 
 // The epochs are in order, and there is a place for the pin.
 fn put(book: PinBook, x: Pin) -> PinBook
-    requires { ⌜ (book .count ≤ 64) × (ascending byEpoch (pinsOf book) ≡ true) × (epochsFull (x .epoch) (pinsOf book) ≡ false) ⌝ }
+    requires { ⌜ (book .count ≤ mostPinned) × (ascending byEpoch (pinsOf book) ≡ true) × (epochsFull (x .epoch) (pinsOf book) ≡ false) ⌝ }
     ensures { λ r. ⌜ Keeps r (put byEpoch (pinEntry x) (pinsOf book)) ⌝ }
 {
     let epoch = x.epoch;
@@ -109,7 +110,7 @@ fn put(book: PinBook, x: Pin) -> PinBook
 }
 
 fn without(book: PinBook, epoch: u32) -> PinBook
-    requires { ⌜ book .count ≤ 64 ⌝ }
+    requires { ⌜ book .count ≤ mostPinned ⌝ }
     ensures { λ r. ⌜ Keeps r (without byEpoch (epoch ∷ []) (pinsOf book)) ⌝ }
 {
     let mut s = book;
@@ -130,7 +131,7 @@ fn without(book: PinBook, epoch: u32) -> PinBook
 
 // The book with so many pins on the epoch.
 pub fn recounted(book: PinBook, epoch: u32, count: u16) -> PinBook
-    requires { ⌜ (book .count ≤ 64) × (ascending byEpoch (pinsOf book) ≡ true) × (epochsFull epoch (pinsOf book) ≡ false) ⌝ }
+    requires { ⌜ (book .count ≤ mostPinned) × (ascending byEpoch (pinsOf book) ≡ true) × (epochsFull epoch (pinsOf book) ≡ false) ⌝ }
     ensures { λ r. ⌜ Keeps r (recounted epoch count (pinsOf book)) ⌝ }
 {
     if count == 0 {

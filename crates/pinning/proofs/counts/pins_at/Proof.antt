@@ -6,7 +6,7 @@ use native.Mathlib.Omega.{arith}
 use lib.ListN.{length, drop}
 use Rattle.lists.proofs.Places.{known}
 use Rattle.lists.proofs.Views.{seen-end}
-use Rattle.pins.specs.Book.{pinEntry, pinsOf}
+use Rattle.pins.specs.Book.{pinEntry, pinsOf, mostPinned}
 use Rattle.pinning.specs.Counts.{pinsAt}
 use Rattle.pinning.proofs.Counting.{pins-here, pins-next}
 use Rattle.pinning.proofs.counts.pins_at.Statement.{statement}
@@ -20,7 +20,7 @@ abbrev μ-loop : tie.MeasureT-loop
 
 loop-holds : tie.Need-loop-holds Inv-loop μ-loop
 loop-holds c =
-    let full : length (c .args .t1 .items) ≡ 64 = search known in
+    let full : length (c .args .t1 .items) ≡ mostPinned = search known in
     (search known, omega (arith, c .pre), refl)
 
 mul-x : tie.Need-mul-x Inv-loop μ-loop

@@ -11,7 +11,7 @@ use Rattle.lists.specs.Keyed.{isAt, put, rank}
 use Rattle.lists.proofs.Tests.{both, past}
 use Rattle.lists.proofs.Places.{known}
 use Rattle.lists.proofs.Views.{view-length, put-here, put-other}
-use Rattle.pins.specs.Book.{pinEntry, pinsOf, byEpoch}
+use Rattle.pins.specs.Book.{pinEntry, pinsOf, byEpoch, mostPinned}
 use Rattle.pinning.specs.Counts.{pinsOn}
 use Rattle.pinning.proofs.Counting.{room}
 use Rattle.pinning.proofs.counts.put.Statement.{statement}
@@ -28,7 +28,7 @@ replaced-requires c κs =
     let a = c .before .before .before .args in
     let pre = c .before .before .before .pre in
     let at = c .before .before .place .result in
-    let full : length (a .book .items) ≡ 64 = search known in
+    let full : length (a .book .items) ≡ mostPinned = search known in
     let b = both (ltb at (length (pinsOf (a .book)))) (isAt byEpoch (a .x .epoch ∷ []) (getD (pinsOf (a .book)) at (pinsOn 0 0))) (sym (c .before .stands .ensures) ∙ c .if1 .taken) in
     (omega (arith, ltb-true at (length (pinsOf (a .book))) (b .0), view-length pinEntry (a .book .items) (a .book .count) (omega (arith, pre .0))), pre .0)
 
@@ -49,7 +49,7 @@ inserted-requires c κs =
     let a = c .before .before .before .args in
     let pre = c .before .before .before .pre in
     let so = c .before .before .place .ensures .0 in
-    let full : length (a .book .items) ≡ 64 = search known in
+    let full : length (a .book .items) ≡ mostPinned = search known in
     let no = sym (c .before .stands .ensures) ∙ c .if1 .left in
     let r = room (a .x .epoch) (pinsOf (a .book)) (pinsOn 0 0) (pre .1) (pre .2) (rw so at no) in
     (c .before .before .place .ensures .1, omega (arith, r, view-length pinEntry (a .book .items) (a .book .count) (omega (arith, pre .0))))
@@ -59,7 +59,7 @@ returns-2 c =
     let a = c .before .before .before .before .args in
     let pre = c .before .before .before .before .pre in
     let so = c .before .before .before .place .ensures .0 in
-    let full : length (a .book .items) ≡ 64 = search known in
+    let full : length (a .book .items) ≡ mostPinned = search known in
     let no = sym (c .before .before .stands .ensures) ∙ c .before .if1 .left in
     let here = rank byEpoch (a .x .epoch ∷ []) (pinsOf (a .book)) in
     let r = room (a .x .epoch) (pinsOf (a .book)) (pinsOn 0 0) (pre .1) (pre .2) (rw so at no) in

@@ -8,7 +8,7 @@ use lib.ListN.{length}
 use Rattle.lists.specs.Keyed.{isAt}
 use Rattle.lists.proofs.Places.{known}
 use Rattle.lists.proofs.Views.{view-length, view-at}
-use Rattle.pins.specs.Book.{PinEntry, byEpoch, pinEntry}
+use Rattle.pins.specs.Book.{PinEntry, byEpoch, pinEntry, mostPinned}
 use Rattle.pinning.specs.Counts.{pinsOn}
 use borrow.Author.Needs.{needs}
 use Rattle.pinning.proofs.counts.stands.Statement.{statement}
@@ -16,7 +16,7 @@ use Rattle.pinning.proofs.counts.stands.Tie as tie
 
 returns : tie.Need-returns
 returns c =
-    let full : length (c .before .args .t1 .items) ≡ 64 = search known in
+    let full : length (c .before .args .t1 .items) ≡ mostPinned = search known in
     rw (view-length pinEntry (c .before .args .t1 .items) (c .before .args .t1 .count) (omega (arith, c .before .pre)), le-ltb _ _ (c .if1 .taken))
 
 mul-x : tie.Need-mul-x
@@ -30,7 +30,7 @@ is-at-requires c κs = search known
 
 returns-2 : tie.Need-returns-2
 returns-2 c =
-    let full : length (c .before .before .before .args .t1 .items) ≡ 64 = search known in
+    let full : length (c .before .before .before .args .t1 .items) ≡ mostPinned = search known in
     let k : (c .before .before .before .args .t1 .count) ≤ length (c .before .before .before .args .t1 .items) = omega (arith, c .before .before .before .pre) in
     rw (view-length pinEntry (c .before .before .before .args .t1 .items) (c .before .before .before .args .t1 .count) k, lt-ltb _ _ (c .before .before .if1 .left)) (c .is-at .ensures ∙ ap (λ (x : PinEntry). isAt byEpoch (c .before .before .before .args .epoch ∷ []) x) (sym (view-at pinEntry (c .before .before .before .args .t1 .items) (c .before .before .before .args .t1 .count) (c .before .before .before .args .at) _ (pinsOn 0 0) (c .before .before .if1 .left) k)))
 
