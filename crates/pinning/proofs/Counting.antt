@@ -9,7 +9,7 @@ use lib.Dec.{leb, ltb, eqb}
 use lib.ListN.{length, getD, take, drop}
 use Rattle.lists.specs.Order.{less}
 use Rattle.lists.specs.Keyed.{allOf, isAt, put, without, ascending, rank}
-use Rattle.lists.proofs.Tests.{by-cases, clash, both, past}
+use Rattle.lists.proofs.Tests.{by-cases, clash, both, neither, past}
 use Rattle.lists.proofs.Order.{lex-last}
 use Rattle.lists.proofs.Keyed.{ascend-to}
 use Rattle.lists.proofs.Places.{has-end, has-here}
@@ -60,6 +60,19 @@ counted c e (p ∷ l) v h =
     (λ t.
     let r = counted c e l (a .1) (rw t at h) in
     record { some = rw t (r .some); first = r .first; last = r .last })
+
+-- an epoch has no pins where it is not pinned, and only there
+not-pinned : (e : ℕ) (l : List PinEntry) → pinned e l ≡ false → pinsAt e l ≡ 0
+not-pinned e [] h = refl
+not-pinned e (p ∷ l) h =
+    let a = neither (isAt byEpoch (e ∷ []) p) (pinned e l) h in
+    rw (a .0) (not-pinned e l (a .1))
+
+pub no-pins : (c e : ℕ) (l : List PinEntry) → allOf (validPin c) l ≡ true → eqb (pinsAt e l) 0 ≡ not (pinned e l)
+no-pins c e l v =
+    by-cases (pinned e l)
+    (λ t. let k = counted c e l v t .some in rw (t, ne-eqb (pinsAt e l) 0 (λ z. omega arith)))
+    (λ t. rw (t, not-pinned e l t))
 
 -- the count of epoch j after the epoch e was taken out, after an entry was put in, and after a count was changed
 pins-without : (j e : ℕ) (l : List PinEntry) → pinsAt j (without byEpoch (e ∷ []) l) ≡ cond (eqb j e) 0 (pinsAt j l)

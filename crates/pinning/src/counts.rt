@@ -1,5 +1,4 @@
 // The counts of a book, and a book with one of them changed. All of it is internal: the book's count is within its array.
-use pins::MOST_PINNED;
 use pins::Pin;
 use pins::PinBook;
 ghost use mathlib.Core.Path.{_≡_};
@@ -27,17 +26,6 @@ pub fn pins_at(book: PinBook, epoch: u32) -> u16
         i += 1;
     }
     0
-}
-
-// Whether the epoch needs a place, and none is left.
-pub fn epochs_full(book: PinBook, epoch: u32) -> bool
-    requires { ⌜ book .count ≤ mostPinned ⌝ }
-    ensures { λ r. ⌜ r ≡ epochsFull epoch (pinsOf book) ⌝ }
-{
-    if book.holds(epoch) {
-        return false;
-    }
-    MOST_PINNED <= book.count
 }
 
 // The first place whose epoch is not before.
