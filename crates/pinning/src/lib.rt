@@ -121,15 +121,15 @@ pub fn after_pin(manager: VersionManager, book: PinBook) -> PinStep
         };
     }
     let epoch = manager.inner.epoch;
-    let pins = counts::pins_at(book, epoch);
-    let full = judge_pin(epoch, pins, book.count);
+    let place = counts::find(book, epoch);
+    let full = judge_pin(epoch, place.pins, book.count);
     if let Verdict::Refused(why) = full {
         return PinStep {
             book,
             answer: PinAnswer::Refused(why),
         };
     }
-    let next = counts::recounted(book, epoch, pins + 1);
+    let next = counts::recounted(book, place, epoch, place.pins + 1);
     PinStep {
         book: next,
         answer: PinAnswer::Pinned(epoch),
@@ -168,16 +168,16 @@ pub fn after_unpin(manager: VersionManager, book: PinBook, epoch: u32) -> UnpinS
             answer: UnpinAnswer::Refused(why),
         };
     }
-    let pins = counts::pins_at(book, epoch);
-    if pins == 0 {
+    let place = counts::find(book, epoch);
+    if place.pins == 0 {
         return UnpinStep {
             book,
             answer: UnpinAnswer::Refused(Refusal::EpochNotPinned),
         };
     }
     let current = manager.inner.epoch;
-    let left = pins - 1;
-    let next = counts::recounted(book, epoch, left);
+    let left = place.pins - 1;
+    let next = counts::recounted(book, place, epoch, left);
     let due = is_due(epoch, current, left);
     let ready = ready(
         &manager.inner.rowsets.deleted,

@@ -33,7 +33,7 @@ rest d =
     let e = came d in
     let g = two-passed (manager e) (book e) (two e) in
     let full : length (book e .items) ≡ mostPinned = search known in
-    pin-late (manager e) (book e) _ (d .before .pins-at .ensures) (view-length pinEntry (book e .items) (book e .count) (omega (arith, g .fits))) (two e) ∙ sym (d .judge-pin .ensures)
+    pin-late (manager e) (book e) _ (d .before .find .ensures .count) (view-length pinEntry (book e .items) (book e .count) (omega (arith, g .fits))) (two e) ∙ sym (d .judge-pin .ensures)
 
 abbrev after : tie.After-enum-told2 → tie.After-enum-told
 after f = came (f .before .before)
@@ -58,8 +58,8 @@ returns c =
 enum-told : tie.Need-enum-told
 enum-told c = search known
 
-pins-at-requires : tie.Need-pins-at-requires
-pins-at-requires c κs = two-passed (manager c) (book c) (two c) .fits
+find-requires : tie.Need-find-requires
+find-requires c κs = let g = two-passed (manager c) (book c) (two c) in (g .fits, g .ordered)
 
 judge-pin-requires : tie.Need-judge-pin-requires
 judge-pin-requires c κs = search known
@@ -76,15 +76,15 @@ enum-told-2 : tie.Need-enum-told-2
 enum-told-2 c = search known
 
 add-recounted : tie.Need-add-recounted
-add-recounted c = let p = known-then c .more in omega (arith, p, c .before .before .before .pins-at .ensures)
+add-recounted c = let p = known-then (c .before) .more in omega (arith, p, c .before .before .before .before .find .ensures .count)
 
 recounted-requires : tie.Need-recounted-requires
-recounted-requires c κs = let p = known-then c in (p .good .fits, p .good .ordered, p .place)
+recounted-requires c κs = let p = known-then (c .before) in (p .good .fits, p .good .ordered, p .place, c .before .before .before .before .find .ensures)
 
 returns-3 : tie.Need-returns-3
 returns-3 c =
-    let f = c .before in
-    pin-accepts (manager (after f)) (book (after f)) _ (accepted f) (rw (f .before .before .before .pins-at .ensures) at (c .recounted .ensures))
+    let f = c .before .before in
+    pin-accepts (manager (after f)) (book (after f)) _ (accepted f) (rw (f .before .before .before .find .ensures .count) at (c .recounted .ensures))
 
 pub after-pin-spec : {M : Type 1} → statement M
 after-pin-spec =
@@ -94,7 +94,7 @@ after-pin-spec =
     enum-known-verdict
     returns
     enum-told
-    pins-at-requires
+    find-requires
     judge-pin-requires
     enum-known-full
     returns-2

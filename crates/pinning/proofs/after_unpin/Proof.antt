@@ -30,10 +30,10 @@ two e = sym (e .before .before .judge .ensures) ∙ e .enum-told .given .1
 
 -- and where the epoch has pins
 abbrev came : tie.Else1 → tie.After-enum-told
-came f = f .before .before
+came f = f .before .before .before
 
 accepted : (f : tie.Else1) → unpinVerdict (manager (came f)) (epoch (came f)) (book (came f)) ≡ Accepted
-accepted f = let e = came f in unpin-passes (manager e) (book e) (epoch e) _ (f .before .pins-at .ensures) (two e) (f .if1 .left)
+accepted f = let e = came f in unpin-passes (manager e) (book e) (epoch e) _ (f .before .before .find .ensures .count) (two e) (f .if1 .left)
 
 known-then : (f : tie.Else1) → Unpinnable (manager (came f)) (book (came f)) (epoch (came f))
 known-then f = unpinnable (manager (came f)) (book (came f)) (epoch (came f)) (accepted f)
@@ -52,35 +52,35 @@ returns c =
 enum-told : tie.Need-enum-told
 enum-told c = search known
 
-pins-at-requires : tie.Need-pins-at-requires
-pins-at-requires c κs = two-passed (manager c) (book c) (two c) .fits
+find-requires : tie.Need-find-requires
+find-requires c κs = let g = two-passed (manager c) (book c) (two c) in (g .fits, g .ordered)
 
 returns-2 : tie.Need-returns-2
 returns-2 c =
-    let e = c .before .before in
-    unpin-refuses (manager e) (book e) (epoch e) _ (unpin-24 (manager e) (book e) (epoch e) _ (c .before .pins-at .ensures) (two e) (c .if1 .taken))
+    let e = c .before .before .before in
+    unpin-refuses (manager e) (book e) (epoch e) _ (unpin-24 (manager e) (book e) (epoch e) _ (c .before .before .find .ensures .count) (two e) (c .if1 .taken))
 
 sub-left : tie.Need-sub-left
 sub-left c = search known
 
 recounted-requires : tie.Need-recounted-requires
-recounted-requires c κs = let p = known-then c in (p .good .fits, p .good .ordered, p .place)
+recounted-requires c κs = let p = known-then (c .before) in (p .good .fits, p .good .ordered, p .place, c .before .before .before .find .ensures)
 
 is-due-requires : tie.Need-is-due-requires
 is-due-requires c κs = search known
 
 ready-requires : tie.Need-ready-requires
 ready-requires c κs =
-    let f = c .before .before .before .before in
+    let f = c .before .before .before .before .before in
     let e = came f in
-    (known-then f .fits .rowsets, unpinned-good (manager e) (epoch e) (book e) _ (accepted f) (rw (f .before .pins-at .ensures) at (c .before .before .before .recounted .ensures)))
+    (known-then f .fits .rowsets, unpinned-good (manager e) (epoch e) (book e) _ (accepted f) (rw (f .before .before .find .ensures .count) at (c .before .before .before .recounted .ensures)))
 
 returns-3 : tie.Need-returns-3
 returns-3 c =
-    let f = c .before .before .before .before .before in
+    let f = c .before .before .before .before .before .before in
     let e = came f in
     let due = c .before .before .before .is-due in
-    unpin-accepts (manager e) (book e) (epoch e) _ _ _ (accepted f) (rw (f .before .pins-at .ensures) at (due .ensures)) (at-most (due .result) (c .ready .result) _ (c .ready .ensures ∙ ap (λ (n : ℕ). cond (due .result) n 0) (counted-list _ (manager e .inner)))) (rw (f .before .pins-at .ensures) at (c .before .before .before .before .recounted .ensures))
+    unpin-accepts (manager e) (book e) (epoch e) _ _ _ (accepted f) (rw (f .before .before .find .ensures .count) at (due .ensures)) (at-most (due .result) (c .ready .result) _ (c .ready .ensures ∙ ap (λ (n : ℕ). cond (due .result) n 0) (counted-list _ (manager e .inner)))) (rw (f .before .before .find .ensures .count) at (c .before .before .before .before .recounted .ensures))
 
 pub after-unpin-spec : {M : Type 1} → statement M
 after-unpin-spec =
@@ -90,7 +90,7 @@ after-unpin-spec =
     enum-known-verdict
     returns
     enum-told
-    pins-at-requires
+    find-requires
     returns-2
     sub-left
     recounted-requires
