@@ -1,29 +1,29 @@
 -- Laws of counts: as a loop reads them, in a list that rises, and after one of them was changed. Assumes nothing.
-use mathlib.Core.Path.{_≡_, refl, sym, _∙_}
+use mathlib.Core.Path.{_≡_, refl, sym, ap, _∙_}
 use mathlib.Core.Bool.{Bool, true, false, cond, not, _&&_}
 use mathlib.Core.List.{List, [], _∷_, map}
 use Prim.Native.Nat.{ℕ, _+_, _≤_, _<_}
 use native.Mathlib.Omega.{arith}
-use borrow.Author.Tests.{eq-eqb, ne-eqb, eqb-false, ltb-true, ltb-false, leb-true, leb-false, eqb-true}
+use borrow.Author.Tests.{lt-ltb, le-ltb, eq-eqb, ne-eqb, eqb-false, ltb-true, ltb-false, leb-true, leb-false, eqb-true}
 use lib.Dec.{leb, ltb, eqb}
 use lib.ListN.{length, getD, take, drop}
 use Rattle.lists.specs.Order.{less}
 use Rattle.lists.specs.Keyed.{allOf, isAt, put, without, ascending, rank}
-use Rattle.lists.proofs.Tests.{by-cases, clash, both, past}
+use Rattle.lists.proofs.Tests.{by-cases, clash, both, neither, past}
 use Rattle.lists.proofs.Order.{lex-last}
 use Rattle.lists.proofs.Keyed.{ascend-to}
 use Rattle.lists.proofs.Places.{has-end, has-here}
-use Rattle.lists.proofs.Views.{seen}
+use Rattle.lists.proofs.Views.{seen, seen-end, view-length, view-at, rank-here, rank-next}
 use Rattle.pins.specs.declared.Pin.{Pin}
 use Rattle.pins.specs.Book.{PinEntry, pinEntry, byEpoch, mostPinned, validPin, pinned}
-use Rattle.pinning.specs.Counts.{pinsOn, pinsAt, recounted, epochsFull}
+use Rattle.pinning.specs.Counts.{pinsOn, pinsAt, recounted, epochsFull, Placed}
 
 -- what is left of a view at i
 module _ (l : List Pin) (n i : ℕ) (d : Pin) (h : i < n) (k : n ≤ length l) (e : ℕ) where
-  pub pins-here : isAt byEpoch (e ∷ []) (pinEntry (getD l i d)) ≡ true → pinsAt e (drop i (map pinEntry (take n l))) ≡ getD l i d .count
+  pins-here : isAt byEpoch (e ∷ []) (pinEntry (getD l i d)) ≡ true → pinsAt e (drop i (map pinEntry (take n l))) ≡ getD l i d .count
   pins-here t = rw (seen pinEntry l n i d h k, t)
 
-  pub pins-next : isAt byEpoch (e ∷ []) (pinEntry (getD l i d)) ≡ false → pinsAt e (drop i (map pinEntry (take n l))) ≡ pinsAt e (drop (i + 1) (map pinEntry (take n l)))
+  pins-next : isAt byEpoch (e ∷ []) (pinEntry (getD l i d)) ≡ false → pinsAt e (drop i (map pinEntry (take n l))) ≡ pinsAt e (drop (i + 1) (map pinEntry (take n l)))
   pins-next t = rw (seen pinEntry l n i d h k, t)
 
 -- an epoch that is not at its place is not pinned
@@ -60,6 +60,68 @@ counted c e (p ∷ l) v h =
     (λ t.
     let r = counted c e l (a .1) (rw t at h) in
     record { some = rw t (r .some); first = r .first; last = r .last })
+
+-- an epoch has no pins where it is not pinned, and only there
+not-pinned : (e : ℕ) (l : List PinEntry) → pinned e l ≡ false → pinsAt e l ≡ 0
+not-pinned e [] h = refl
+not-pinned e (p ∷ l) h =
+    let a = neither (isAt byEpoch (e ∷ []) p) (pinned e l) h in
+    rw (a .0) (not-pinned e l (a .1))
+
+pub no-pins : (c e : ℕ) (l : List PinEntry) → allOf (validPin c) l ≡ true → eqb (pinsAt e l) 0 ≡ not (pinned e l)
+no-pins c e l v =
+    by-cases (pinned e l)
+    (λ t. let k = counted c e l v t .some in rw (t, ne-eqb (pinsAt e l) 0 (λ z. omega arith)))
+    (λ t. rw (t, not-pinned e l t))
+
+-- the walk that finds a place, at i of the first n pins of l
+pub record Finding (l : List Pin) (n e i : ℕ) : Type 0 where
+  pub within : i ≤ n
+  pub place : rank byEpoch (e ∷ []) (map pinEntry (take n l)) ≡ i + rank byEpoch (e ∷ []) (drop i (map pinEntry (take n l)))
+  pub count : pinsAt e (map pinEntry (take n l)) ≡ pinsAt e (drop i (map pinEntry (take n l)))
+
+pub find-start : (l : List Pin) (n e : ℕ) → Finding l n e 0
+find-start l n e = record { within = omega arith; place = omega arith; count = refl }
+
+module _ (l : List Pin) (n e i : ℕ) (k : n ≤ length l) (f : Finding l n e i) where
+  abbrev view : List PinEntry
+  view = map pinEntry (take n l)
+
+  pub find-end : n ≤ i → Placed e view i false 0
+  find-end h =
+      let z : drop i view ≡ [] = seen-end pinEntry l n i h k in
+      let r = ap (rank byEpoch (e ∷ [])) z in
+      let w = view-length pinEntry l n k in
+      record { place = omega (arith, f .place, r); within = omega (arith, f .within, w); there = rw (w, le-ltb i n h); count = sym (f .count ∙ ap (pinsAt e) z) }
+
+  module _ (d : Pin) (h : i < n) where
+    abbrev x : PinEntry
+    x = pinEntry (getD l i d)
+
+    pub find-more : less (byEpoch x) (e ∷ []) ≡ true → Finding l n e (i + 1)
+    find-more b =
+        let r = rank-next pinEntry l n i d h k byEpoch (e ∷ []) b in
+        let y : x .epoch < e = ltb-true (x .epoch) e (sym (lex-last (x .epoch) e) ∙ b) in
+        let a : isAt byEpoch (e ∷ []) x ≡ false = rw (ne-eqb (x .epoch) e (λ q. omega arith)) in
+        record { within = omega arith; place = omega (arith, f .place, r); count = f .count ∙ pins-next l n i d h k e a }
+
+    module _ (b : less (byEpoch x) (e ∷ []) ≡ false) where
+      found : rank byEpoch (e ∷ []) view ≡ i
+      found = let r = rank-here pinEntry l n i d h k byEpoch (e ∷ []) b in omega (arith, f .place, r)
+
+      inside : i ≤ length view
+      inside = let w = view-length pinEntry l n k in omega (arith, f .within, w)
+
+      here : (t : Bool) → isAt byEpoch (e ∷ []) x ≡ t → t ≡ ltb i (length view) && isAt byEpoch (e ∷ []) (getD view i (pinsOn 0 0))
+      here t a = rw (view-length pinEntry l n k, lt-ltb i n h) (sym a ∙ ap (λ (y : PinEntry). isAt byEpoch (e ∷ []) y) (sym (view-at pinEntry l n i d (pinsOn 0 0) h k)))
+
+      pub find-here : isAt byEpoch (e ∷ []) x ≡ true → Placed e view i true (x .count)
+      find-here a = record { place = sym found; within = inside; there = here true a; count = sym (f .count ∙ pins-here l n i d h k e a) }
+
+      pub find-other : ascending byEpoch view ≡ true → isAt byEpoch (e ∷ []) x ≡ false → Placed e view i false 0
+      find-other o a =
+          let t = sym (here false a) in
+          record { place = sym found; within = inside; there = here false a; count = sym (not-pinned e view (absent e view (pinsOn 0 0) o (rw found t))) }
 
 -- the count of epoch j after the epoch e was taken out, after an entry was put in, and after a count was changed
 pins-without : (j e : ℕ) (l : List PinEntry) → pinsAt j (without byEpoch (e ∷ []) l) ≡ cond (eqb j e) 0 (pinsAt j l)

@@ -1,23 +1,23 @@
 -- The verdicts of pin and unpin, what an accepted one tells, and what each call then says. Assumes nothing.
-use mathlib.Core.Path.{_≡_, sym}
-use mathlib.Core.Bool.{Bool, true, false, not}
+use mathlib.Core.Path.{_≡_, sym, ap, ap₂, _∙_}
+use mathlib.Core.Bool.{Bool, true, false, not, _&&_}
 use mathlib.Core.List.{List, [], _∷_}
 use Prim.Native.Nat.{ℕ, _≤_, _<_}
 use native.Mathlib.Omega.{arith}
-use borrow.Author.Tests.{leb-false, eqb-false, not-false}
-use lib.Dec.{eqb}
+use borrow.Author.Tests.{eq-eqb, ne-eqb, leb-false, eqb-false, not-false}
+use lib.Dec.{leb, eqb}
 use lib.ListN.{length}
 use Rattle.ids.specs.declared.refusal.Refusal.{Refusal}
 use Rattle.ids.specs.declared.refusal.Refusal.the-variants.{BadManager, BadPinBook, PinAtEpochZero, PinsFull, PinnedEpochsFull, EpochNotPinned}
 use Rattle.ids.specs.declared.refusal.Verdict.{Verdict}
 use Rattle.ids.specs.declared.refusal.Verdict.the-variants.{Accepted, Refused}
-use Rattle.ids.specs.Verdicts.{_⇒_, judged}
-use Rattle.ids.proofs.Verdicts.{none-judged}
+use Rattle.ids.specs.Verdicts.{Rule, _⇒_, judged, orElse}
+use Rattle.ids.proofs.Verdicts.{judged-append, none-judged}
 use Rattle.version_state.specs.State.{Fit}
 use Rattle.version_manager.specs.Managers.{heldBy, badManager}
 use Rattle.version_state.proofs.Facts.{sound-of}
 use Rattle.pins.specs.declared.PinBook.{PinBook}
-use Rattle.pins.specs.Book.{pinsOf, badBook, GoodBook, Keeps, pinned}
+use Rattle.pins.specs.Book.{pinsOf, mostPinned, badBook, GoodBook, Keeps, pinned}
 use Rattle.pins.proofs.Facts.{good-book}
 use Rattle.vacuum.specs.Says.{listOf}
 use Rattle.version_manager.specs.declared.VersionManager.{VersionManager}
@@ -25,78 +25,38 @@ use Rattle.pinning.specs.declared.PinAnswer.the-variants as pin
 use Rattle.pinning.specs.declared.UnpinAnswer.the-variants as unpin
 use Rattle.pinning.specs.Counts.{mostPins, pinsAt, pinsFull, epochsFull, withPin, withoutPin}
 use Rattle.pinning.specs.Says.{current, pinRules, pinVerdict, PinSays, unpinRules, unpinVerdict, isDue, UnpinSays}
-use Rattle.pinning.proofs.Counting.{Counted, counted, place-had}
-
-module _ (v w x y z : Bool) where
-  abbrev pins : Verdict
-  pins = judged ((v ⇒ BadManager) ∷ (w ⇒ BadPinBook) ∷ (x ⇒ PinAtEpochZero) ∷ (y ⇒ PinsFull) ∷ (z ⇒ PinnedEpochsFull) ∷ [])
-
-  abbrev unpins : Verdict
-  unpins = judged ((v ⇒ BadManager) ∷ (w ⇒ BadPinBook) ∷ (x ⇒ EpochNotPinned) ∷ [])
-
-  first : v ≡ true → pins ≡ Refused BadManager
-  first a = rw a
-
-  second : v ≡ false → w ≡ true → pins ≡ Refused BadPinBook
-  second a b = rw (a, b)
-
-  third : v ≡ false → w ≡ false → x ≡ true → pins ≡ Refused PinAtEpochZero
-  third a b c = rw (a, b, c)
-
-  fourth : v ≡ false → w ≡ false → x ≡ false → y ≡ true → pins ≡ Refused PinsFull
-  fourth a b c d = rw (a, b, c, d)
-
-  fifth : v ≡ false → w ≡ false → x ≡ false → y ≡ false → z ≡ true → pins ≡ Refused PinnedEpochsFull
-  fifth a b c d e = rw (a, b, c, d, e)
-
-  none : v ≡ false → w ≡ false → x ≡ false → y ≡ false → z ≡ false → pins ≡ Accepted
-  none a b c d e = rw (a, b, c, d, e)
-
-  first-of-three : v ≡ true → unpins ≡ Refused BadManager
-  first-of-three a = rw a
-
-  second-of-three : v ≡ false → w ≡ true → unpins ≡ Refused BadPinBook
-  second-of-three a b = rw (a, b)
-
-  third-of-three : v ≡ false → w ≡ false → x ≡ true → unpins ≡ Refused EpochNotPinned
-  third-of-three a b c = rw (a, b, c)
-
-  none-of-three : v ≡ false → w ≡ false → x ≡ false → unpins ≡ Accepted
-  none-of-three a b c = rw (a, b, c)
+use Rattle.pinning.proofs.Counting.{Counted, counted, no-pins, place-had}
 
 module _ (m : VersionManager) (b : PinBook) where
-  abbrev bm : Bool
-  bm = badManager m
+  -- 29 and 28, which both calls judge first, and what pin judges after them
+  abbrev pub first-two : List Rule
+  first-two = (badManager m ⇒ BadManager) ∷ (badBook (current m) b ⇒ BadPinBook) ∷ []
 
-  abbrev bb : Bool
-  bb = badBook (current m) b
+  pub two-passed : judged first-two ≡ Accepted → GoodBook (current m) b
+  two-passed h = good-book (current m) b (none-judged first-two h .1 .0)
 
-  abbrev ze : Bool
-  ze = eqb (current m) 0
+  abbrev pin-rest : List Rule
+  pin-rest = (eqb (current m) 0 ⇒ PinAtEpochZero) ∷ (pinsFull (current m) (pinsOf b) ⇒ PinsFull) ∷ (epochsFull (current m) (pinsOf b) ⇒ PinnedEpochsFull) ∷ []
 
-  abbrev pf : Bool
-  pf = pinsFull (current m) (pinsOf b)
+  pin-split : pinVerdict m b ≡ orElse (judged first-two) (judged pin-rest)
+  pin-split = judged-append first-two pin-rest
 
-  abbrev ef : Bool
-  ef = epochsFull (current m) (pinsOf b)
+  pub pin-early : (k : Refusal) → judged first-two ≡ Refused k → pinVerdict m b ≡ Refused k
+  pin-early k h = pin-split ∙ ap (λ (v : Verdict). orElse v (judged pin-rest)) h
 
-  pub pin-29 : bm ≡ true → Refused BadManager ≡ pinVerdict m b
-  pin-29 p = sym (first bm bb ze pf ef p)
+  -- the rest over the numbers that a call has read
+  pub pin-late : (n : ℕ) → n ≡ pinsAt (current m) (pinsOf b) → length (pinsOf b) ≡ b .count → judged first-two ≡ Accepted
+      → pinVerdict m b ≡ judged ((eqb (current m) 0 ⇒ PinAtEpochZero) ∷ (leb mostPins n ⇒ PinsFull) ∷ ((eqb n 0 && leb mostPinned (b .count)) ⇒ PinnedEpochsFull) ∷ [])
+  pin-late n e l h =
+      let v : pinsFull (current m) (pinsOf b) ≡ leb mostPins n = ap (leb mostPins) (sym e) in
+      let z : not (pinned (current m) (pinsOf b)) ≡ eqb n 0 = sym (ap (λ (k : ℕ). eqb k 0) e ∙ no-pins (current m) (current m) (pinsOf b) (two-passed h .valid)) in
+      let w : epochsFull (current m) (pinsOf b) ≡ eqb n 0 && leb mostPinned (b .count) = ap₂ _&&_ z (ap (leb mostPinned) l) in
+      pin-split
+      ∙ ap (λ (d : Verdict). orElse d (judged pin-rest)) h
+      ∙ ap₂ (λ (x y : Bool). judged ((eqb (current m) 0 ⇒ PinAtEpochZero) ∷ (x ⇒ PinsFull) ∷ (y ⇒ PinnedEpochsFull) ∷ [])) v w
 
-  pub pin-28 : bm ≡ false → bb ≡ true → Refused BadPinBook ≡ pinVerdict m b
-  pin-28 p q = sym (second bm bb ze pf ef p q)
-
-  pub pin-10 : bm ≡ false → bb ≡ false → ze ≡ true → Refused PinAtEpochZero ≡ pinVerdict m b
-  pin-10 p q r = sym (third bm bb ze pf ef p q r)
-
-  pub pin-18 : bm ≡ false → bb ≡ false → ze ≡ false → pf ≡ true → Refused PinsFull ≡ pinVerdict m b
-  pin-18 p q r s = sym (fourth bm bb ze pf ef p q r s)
-
-  pub pin-19 : bm ≡ false → bb ≡ false → ze ≡ false → pf ≡ false → ef ≡ true → Refused PinnedEpochsFull ≡ pinVerdict m b
-  pin-19 p q r s t = sym (fifth bm bb ze pf ef p q r s t)
-
-  pub pin-passes : bm ≡ false → bb ≡ false → ze ≡ false → pf ≡ false → ef ≡ false → Accepted ≡ pinVerdict m b
-  pin-passes p q r s t = sym (none bm bb ze pf ef p q r s t)
+  pub pin-10 : badManager m ≡ false → badBook (current m) b ≡ false → eqb (current m) 0 ≡ true → Refused PinAtEpochZero ≡ pinVerdict m b
+  pin-10 p q r = sym (rw (p, q, r))
 
   -- what is known where pin is accepted
   pub record Pinnable : Type 0 where
@@ -123,20 +83,28 @@ module _ (m : VersionManager) (b : PinBook) where
   pin-accepts b′ d k = record { answer = rw d; book = rw d k }
 
   module _ (e : ℕ) where
-    abbrev np : Bool
-    np = not (pinned e (pinsOf b))
+    abbrev unpin-rest : List Rule
+    unpin-rest = (not (pinned e (pinsOf b)) ⇒ EpochNotPinned) ∷ []
 
-    pub unpin-29 : bm ≡ true → Refused BadManager ≡ unpinVerdict m e b
-    unpin-29 p = sym (first-of-three bm bb np true true p)
+    unpin-split : unpinVerdict m e b ≡ orElse (judged first-two) (judged unpin-rest)
+    unpin-split = judged-append first-two unpin-rest
 
-    pub unpin-28 : bm ≡ false → bb ≡ true → Refused BadPinBook ≡ unpinVerdict m e b
-    unpin-28 p q = sym (second-of-three bm bb np true true p q)
+    pub unpin-early : (k : Refusal) → judged first-two ≡ Refused k → unpinVerdict m e b ≡ Refused k
+    unpin-early k h = unpin-split ∙ ap (λ (v : Verdict). orElse v (judged unpin-rest)) h
 
-    pub unpin-24 : bm ≡ false → bb ≡ false → np ≡ true → Refused EpochNotPinned ≡ unpinVerdict m e b
-    unpin-24 p q r = sym (third-of-three bm bb np true true p q r)
+    -- 24 over the number that a call has read
+    unpin-late : (n : ℕ) → n ≡ pinsAt e (pinsOf b) → judged first-two ≡ Accepted → unpinVerdict m e b ≡ judged ((eqb n 0 ⇒ EpochNotPinned) ∷ [])
+    unpin-late n q h =
+        let z : not (pinned e (pinsOf b)) ≡ eqb n 0 = sym (ap (λ (k : ℕ). eqb k 0) q ∙ no-pins (current m) e (pinsOf b) (two-passed h .valid)) in
+        unpin-split
+        ∙ ap (λ (d : Verdict). orElse d (judged unpin-rest)) h
+        ∙ ap (λ (x : Bool). judged ((x ⇒ EpochNotPinned) ∷ [])) z
 
-    pub unpin-passes : bm ≡ false → bb ≡ false → np ≡ false → Accepted ≡ unpinVerdict m e b
-    unpin-passes p q r = sym (none-of-three bm bb np true true p q r)
+    pub unpin-24 : (n : ℕ) → n ≡ pinsAt e (pinsOf b) → judged first-two ≡ Accepted → n ≡ 0 → unpinVerdict m e b ≡ Refused EpochNotPinned
+    unpin-24 n q h z = unpin-late n q h ∙ ap (λ (x : Bool). judged ((x ⇒ EpochNotPinned) ∷ [])) (eq-eqb n 0 z)
+
+    pub unpin-passes : (n : ℕ) → n ≡ pinsAt e (pinsOf b) → judged first-two ≡ Accepted → (n ≡ 0 → ⊥) → unpinVerdict m e b ≡ Accepted
+    unpin-passes n q h z = unpin-late n q h ∙ ap (λ (x : Bool). judged ((x ⇒ EpochNotPinned) ∷ [])) (ne-eqb n 0 z)
 
     -- what is known where unpin is accepted
     pub record Unpinnable : Type 0 where

@@ -1,10 +1,11 @@
 -- The counts of a list of pins, and the list with one of them changed. Assumes nothing.
+use mathlib.Core.Path.{_≡_}
 use mathlib.Core.Bool.{Bool, cond, not, _&&_}
 use mathlib.Core.List.{List, [], _∷_}
-use Prim.Native.Nat.{ℕ, _+_, _-_}
-use lib.Dec.{leb, eqb}
-use lib.ListN.{length}
-use Rattle.lists.specs.Keyed.{isAt, put, without}
+use Prim.Native.Nat.{ℕ, _+_, _-_, _≤_}
+use lib.Dec.{leb, ltb, eqb}
+use lib.ListN.{length, getD}
+use Rattle.lists.specs.Keyed.{isAt, put, without, rank}
 use Rattle.pins.specs.Book.{PinEntry, byEpoch, mostPinned, pinned}
 
 -- the pins that an epoch may have
@@ -43,3 +44,10 @@ pinsFull e l = leb mostPins (pinsAt e l)
 -- pinned epochs full: the epoch needs a place, and none is left
 abbrev pub epochsFull : ℕ → List PinEntry → Bool
 epochsFull e l = not (pinned e l) && leb mostPinned (length l)
+
+-- epoch e has n pins in the list l; it stands at that place of it, or would there
+pub record Placed (e : ℕ) (l : List PinEntry) (at : ℕ) (stands : Bool) (n : ℕ) : Type 0 where
+  pub place : at ≡ rank byEpoch (e ∷ []) l
+  pub within : at ≤ length l
+  pub there : stands ≡ ltb at (length l) && isAt byEpoch (e ∷ []) (getD l at (pinsOn 0 0))
+  pub count : n ≡ pinsAt e l

@@ -2,74 +2,56 @@
 use pins::Pin;
 use pins::PinBook;
 ghost use mathlib.Core.Path.{_≡_};
-ghost use mathlib.Core.Bool.{true, false, _&&_};
+ghost use mathlib.Core.Bool.{true, false};
 ghost use mathlib.Core.List.{[], _∷_};
 ghost use Prim.Native.Nat.{_+_, _≤_, _<_};
-ghost use lib.Dec.{ltb};
-ghost use lib.ListN.{length, getD, set};
-ghost use Rattle.lists.specs.Keyed.{isAt, put, without, ascending, rank};
+ghost use lib.ListN.{set};
+ghost use Rattle.lists.specs.Keyed.{put, without, ascending};
 ghost use Rattle.lists.specs.Places.{insertAt};
-ghost use Rattle.pins.specs.Book.{pinEntry, pinsOf, byEpoch, Keeps};
-ghost use Rattle.pinning.specs.Counts.{pinsOn, pinsAt, recounted, epochsFull};
+ghost use Rattle.pins.specs.Book.{pinEntry, pinsOf, byEpoch, mostPinned, Keeps};
+ghost use Rattle.pinning.specs.Counts.{recounted, epochsFull, Placed};
 
-pub fn pins_at(book: PinBook, epoch: u32) -> u16
-    requires { ⌜ book .count ≤ 64 ⌝ }
-    ensures { λ r. ⌜ r ≡ pinsAt epoch (pinsOf book) ⌝ }
-{
-    let count = book.count;
-    let mut i = 0;
-    while i < count {
-        let x = book.items[i];
-        if x.is_at(epoch) {
-            return x.count;
-        }
-        i += 1;
-    }
-    0
+// Where an epoch stands among the pinned ones or would, whether it stands there, and its pins.
+pub struct Place {
+    pub at: usize,
+    pub stands: bool,
+    pub pins: u16,
 }
 
-// Whether the epoch needs a place, and none is left.
-pub fn epochs_full(book: PinBook, epoch: u32) -> bool
-    requires { ⌜ book .count ≤ 64 ⌝ }
-    ensures { λ r. ⌜ r ≡ epochsFull epoch (pinsOf book) ⌝ }
-{
-    if book.holds(epoch) {
-        return false;
-    }
-    64 <= book.count
-}
-
-// The first place whose epoch is not before.
-fn place(book: PinBook, epoch: u32) -> usize
-    requires { ⌜ book .count ≤ 64 ⌝ }
-    ensures { λ r. ⌜ (r ≡ rank byEpoch (epoch ∷ []) (pinsOf book)) × (r ≤ book .count) ⌝ }
+// The epochs are in order.
+pub fn find(book: PinBook, epoch: u32) -> Place
+    requires { ⌜ (book .count ≤ mostPinned) × (ascending byEpoch (pinsOf book) ≡ true) ⌝ }
+    ensures { λ r. ⌜ Placed epoch (pinsOf book) (r .at) (r .stands) (r .pins) ⌝ }
 {
     let count = book.count;
     let mut i = 0;
     while i < count {
         let x = book.items[i];
         if !x.before(epoch) {
-            return i;
+            if x.is_at(epoch) {
+                return Place {
+                    at: i,
+                    stands: true,
+                    pins: x.count,
+                };
+            }
+            return Place {
+                at: i,
+                stands: false,
+                pins: 0,
+            };
         }
         i += 1;
     }
-    i
-}
-
-// Whether the pin at a place is on the epoch.
-fn stands(book: PinBook, at: usize, epoch: u32) -> bool
-    requires { ⌜ book .count ≤ 64 ⌝ }
-    ensures { λ r. ⌜ r ≡ ltb at (length (pinsOf book)) && isAt byEpoch (epoch ∷ []) (getD (pinsOf book) at (pinsOn 0 0)) ⌝ }
-{
-    if book.count <= at {
-        return false;
+    Place {
+        at: i,
+        stands: false,
+        pins: 0,
     }
-    let x = book.items[at];
-    x.is_at(epoch)
 }
 
 fn inserted(book: PinBook, at: usize, x: Pin) -> PinBook
-    requires { ⌜ (at ≤ book .count) × (book .count < 64) ⌝ }
+    requires { ⌜ (at ≤ book .count) × (book .count < mostPinned) ⌝ }
     ensures { λ r. ⌜ (r .count ≡ book .count + 1) × (pinsOf r ≡ insertAt at (pinEntry x) (pinsOf book)) ⌝ }
 {
     let mut s = book;
@@ -87,7 +69,7 @@ fn inserted(book: PinBook, at: usize, x: Pin) -> PinBook
 }
 
 fn replaced(book: PinBook, at: usize, x: Pin) -> PinBook
-    requires { ⌜ (at < book .count) × (book .count ≤ 64) ⌝ }
+    requires { ⌜ (at < book .count) × (book .count ≤ mostPinned) ⌝ }
     ensures { λ r. ⌜ (r .count ≡ book .count) × (pinsOf r ≡ set (pinsOf book) at (pinEntry x)) ⌝ }
 {
     let mut s = book;
@@ -95,21 +77,19 @@ fn replaced(book: PinBook, at: usize, x: Pin) -> PinBook
     s
 }
 
-// The epochs are in order, and there is a place for the pin.
-fn put(book: PinBook, x: Pin) -> PinBook
-    requires { ⌜ (book .count ≤ 64) × (ascending byEpoch (pinsOf book) ≡ true) × (epochsFull (x .epoch) (pinsOf book) ≡ false) ⌝ }
+// There is a place for the pin.
+fn put(book: PinBook, place: Place, x: Pin) -> PinBook
+    requires { ⌜ (book .count ≤ mostPinned) × (ascending byEpoch (pinsOf book) ≡ true) × (epochsFull (x .epoch) (pinsOf book) ≡ false) × Placed (x .epoch) (pinsOf book) (place .at) (place .stands) (place .pins) ⌝ }
     ensures { λ r. ⌜ Keeps r (put byEpoch (pinEntry x) (pinsOf book)) ⌝ }
 {
-    let epoch = x.epoch;
-    let at = place(book, epoch);
-    if stands(book, at, epoch) {
-        return replaced(book, at, x);
+    if place.stands {
+        return replaced(book, place.at, x);
     }
-    inserted(book, at, x)
+    inserted(book, place.at, x)
 }
 
 fn without(book: PinBook, epoch: u32) -> PinBook
-    requires { ⌜ book .count ≤ 64 ⌝ }
+    requires { ⌜ book .count ≤ mostPinned ⌝ }
     ensures { λ r. ⌜ Keeps r (without byEpoch (epoch ∷ []) (pinsOf book)) ⌝ }
 {
     let mut s = book;
@@ -128,13 +108,13 @@ fn without(book: PinBook, epoch: u32) -> PinBook
     s
 }
 
-// The book with so many pins on the epoch.
-pub fn recounted(book: PinBook, epoch: u32, count: u16) -> PinBook
-    requires { ⌜ (book .count ≤ 64) × (ascending byEpoch (pinsOf book) ≡ true) × (epochsFull epoch (pinsOf book) ≡ false) ⌝ }
+// The book with so many pins on the epoch, which has that place.
+pub fn recounted(book: PinBook, place: Place, epoch: u32, count: u16) -> PinBook
+    requires { ⌜ (book .count ≤ mostPinned) × (ascending byEpoch (pinsOf book) ≡ true) × (epochsFull epoch (pinsOf book) ≡ false) × Placed epoch (pinsOf book) (place .at) (place .stands) (place .pins) ⌝ }
     ensures { λ r. ⌜ Keeps r (recounted epoch count (pinsOf book)) ⌝ }
 {
     if count == 0 {
         return without(book, epoch);
     }
-    put(book, Pin { epoch, count })
+    put(book, place, Pin { epoch, count })
 }

@@ -3,19 +3,25 @@
 use ids::limits::MOST_HELD;
 use ids::refusal::Refusal;
 use ids::refusal::Verdict;
+use pins::MOST_PINNED;
 use pins::PinBook;
 use version_manager::VersionManager;
 ghost use mathlib.Core.Path.{_≡_};
 ghost use mathlib.Core.Bool.{cond, not, _&&_};
-ghost use lib.Dec.{eqb};
+ghost use mathlib.Core.List.{[], _∷_};
+ghost use lib.Dec.{leb, eqb};
 ghost use lib.ListN.{length};
 ghost use Prim.Native.Nat.{_≤_};
 ghost use Rattle.lists.specs.Keyed.{keep};
 ghost use Rattle.ids.specs.Limits.{mostHeld};
+ghost use Rattle.ids.specs.declared.refusal.Refusal.the-variants.{BadManager, BadPinBook, PinAtEpochZero, PinsFull, PinnedEpochsFull};
+ghost use Rattle.ids.specs.Verdicts.{_⇒_, judged};
 ghost use Rattle.columns.specs.Rows.{rows, column};
 ghost use Rattle.snapshot.specs.Entries.{goneAt};
-ghost use Rattle.pins.specs.Book.{pinsOf, GoodBook, bound};
-ghost use Rattle.pinning.specs.Says.{pinVerdict, PinSays, unpinVerdict, UnpinSays};
+ghost use Rattle.pins.specs.Book.{pinsOf, mostPinned, badBook, GoodBook, bound};
+ghost use Rattle.version_manager.specs.Managers.{badManager};
+ghost use Rattle.pinning.specs.Counts.{mostPins};
+ghost use Rattle.pinning.specs.Says.{current, PinSays, UnpinSays};
 ghost use Rattle.pinning.specs.Laws.{PinLaws};
 
 mod counts;
@@ -50,23 +56,54 @@ pub fn sound()
     ensures { λ _. ⌜ PinLaws ⌝ }
 {}
 
-fn judge_pin(manager: VersionManager, book: PinBook) -> Verdict
-    ensures { λ r. ⌜ r ≡ pinVerdict manager book ⌝ }
+// 29, 28
+fn judge(manager: VersionManager, book: PinBook) -> Verdict
+    ensures { λ r. ⌜ r ≡ judged ((badManager manager ⇒ BadManager) ∷ (badBook (current manager) book ⇒ BadPinBook) ∷ []) ⌝ }
 {
     let epoch = manager.inner.epoch;
-    if manager.bad() {
+    let next = manager.inner.next;
+    if version_state::bad(
+        &manager.inner.tables.ids,
+        &manager.inner.tables.lengths,
+        &manager.inner.tables.names,
+        manager.inner.tables.count,
+        &manager.inner.rowsets.tables,
+        &manager.inner.rowsets.rowsets,
+        &manager.inner.rowsets.added,
+        &manager.inner.rowsets.deleted,
+        manager.inner.rowsets.count,
+        &manager.inner.vectors.tables,
+        &manager.inner.vectors.rowsets,
+        &manager.inner.vectors.vectors,
+        &manager.inner.vectors.added,
+        &manager.inner.vectors.deleted,
+        manager.inner.vectors.count,
+        epoch,
+        next,
+        manager.inner.manifest,
+    ) {
         return Verdict::Refused(Refusal::BadManager);
     }
     if book.bad(epoch) {
         return Verdict::Refused(Refusal::BadPinBook);
     }
+    Verdict::Accepted
+}
+
+// 10, 18, 19 of an epoch with so many pins, where so many epochs are pinned. One without pins needs a place.
+fn judge_pin(epoch: u32, pins: u16, pinned: usize) -> Verdict
+    ensures { λ r. ⌜ r ≡ judged ((eqb epoch 0 ⇒ PinAtEpochZero) ∷ (leb mostPins pins ⇒ PinsFull) ∷ ((eqb pins 0 && leb mostPinned pinned) ⇒ PinnedEpochsFull) ∷ []) ⌝ }
+{
     if epoch == 0 {
         return Verdict::Refused(Refusal::PinAtEpochZero);
     }
-    if MOST_PINS <= counts::pins_at(book, epoch) {
+    if MOST_PINS <= pins {
         return Verdict::Refused(Refusal::PinsFull);
     }
-    if counts::epochs_full(book, epoch) {
+    if pins != 0 {
+        return Verdict::Accepted;
+    }
+    if MOST_PINNED <= pinned {
         return Verdict::Refused(Refusal::PinnedEpochsFull);
     }
     Verdict::Accepted
@@ -76,7 +113,7 @@ fn judge_pin(manager: VersionManager, book: PinBook) -> Verdict
 pub fn after_pin(manager: VersionManager, book: PinBook) -> PinStep
     ensures { λ r. ⌜ PinSays manager book (r .answer) (r .book) ⌝ }
 {
-    let verdict = judge_pin(manager, book);
+    let verdict = judge(manager, book);
     if let Verdict::Refused(why) = verdict {
         return PinStep {
             book,
@@ -84,27 +121,19 @@ pub fn after_pin(manager: VersionManager, book: PinBook) -> PinStep
         };
     }
     let epoch = manager.inner.epoch;
-    let count = counts::pins_at(book, epoch);
-    let next = counts::recounted(book, epoch, count + 1);
+    let place = counts::find(book, epoch);
+    let full = judge_pin(epoch, place.pins, book.count);
+    if let Verdict::Refused(why) = full {
+        return PinStep {
+            book,
+            answer: PinAnswer::Refused(why),
+        };
+    }
+    let next = counts::recounted(book, place, epoch, place.pins + 1);
     PinStep {
         book: next,
         answer: PinAnswer::Pinned(epoch),
     }
-}
-
-fn judge_unpin(manager: VersionManager, book: PinBook, epoch: u32) -> Verdict
-    ensures { λ r. ⌜ r ≡ unpinVerdict manager epoch book ⌝ }
-{
-    if manager.bad() {
-        return Verdict::Refused(Refusal::BadManager);
-    }
-    if book.bad(manager.inner.epoch) {
-        return Verdict::Refused(Refusal::BadPinBook);
-    }
-    if !book.holds(epoch) {
-        return Verdict::Refused(Refusal::EpochNotPinned);
-    }
-    Verdict::Accepted
 }
 
 // The count is within the column, and the book has passed 28. How many deletions a vacuum would list where one is due, and else 0.
@@ -132,17 +161,23 @@ fn is_due(epoch: u32, current: u32, left: u16) -> bool
 pub fn after_unpin(manager: VersionManager, book: PinBook, epoch: u32) -> UnpinStep
     ensures { λ r. ⌜ UnpinSays manager epoch book (r .answer) (r .book) ⌝ }
 {
-    let verdict = judge_unpin(manager, book, epoch);
+    let verdict = judge(manager, book);
     if let Verdict::Refused(why) = verdict {
         return UnpinStep {
             book,
             answer: UnpinAnswer::Refused(why),
         };
     }
+    let place = counts::find(book, epoch);
+    if place.pins == 0 {
+        return UnpinStep {
+            book,
+            answer: UnpinAnswer::Refused(Refusal::EpochNotPinned),
+        };
+    }
     let current = manager.inner.epoch;
-    let count = counts::pins_at(book, epoch);
-    let left = count - 1;
-    let next = counts::recounted(book, epoch, left);
+    let left = place.pins - 1;
+    let next = counts::recounted(book, place, epoch, left);
     let due = is_due(epoch, current, left);
     let ready = ready(
         &manager.inner.rowsets.deleted,

@@ -1,2 +1,3 @@
 pub mod Bound
 pub mod Facts
+pub mod Rising

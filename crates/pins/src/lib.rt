@@ -1,8 +1,9 @@
 // The pin book, and what document 01's 28 judges of it.
 ghost use mathlib.Core.Path.{_≡_};
-ghost use mathlib.Core.Bool.{false};
+ghost use mathlib.Core.Bool.{_&&_};
 ghost use mathlib.Core.List.{[], _∷_};
 ghost use Prim.Native.Nat.{_≤_};
+ghost use lib.Dec.{ltb};
 ghost use Rattle.lists.specs.Order.{less};
 ghost use Rattle.lists.specs.Keyed.{allOf, isAt, ascending};
 ghost use Rattle.pins.specs.Book.{pinEntry, pinsOf, byEpoch, mostPinned, validPin, badBook, GoodBook, pinned, mayShow, bound};
@@ -36,14 +37,14 @@ impl Pin {
         self.epoch < epoch
     }
 
-    // A count that is not 0, and an epoch that is neither 0 nor above the current one.
-    pub fn valid(self, current: u32) -> bool
-        ensures { λ r. ⌜ r ≡ validPin current (pinEntry self) ⌝ }
+    // A count that is not 0, and an epoch after the last one and not above the current one.
+    fn follows(self, last: u32, current: u32) -> bool
+        ensures { λ r. ⌜ r ≡ validPin current (pinEntry self) && ltb last (self .epoch) ⌝ }
     {
         if self.count == 0 {
             return false;
         }
-        if self.epoch == 0 {
+        if self.epoch <= last {
             return false;
         }
         self.epoch <= current
@@ -61,34 +62,20 @@ impl PinBook {
         }
     }
 
-    fn all_valid(self, current: u32) -> bool
+    // Every place is valid, and the epochs rise strictly. No epoch is 0, so the first one is after 0.
+    fn sound(self, current: u32) -> bool
         requires { ⌜ self .count ≤ mostPinned ⌝ }
-        ensures { λ r. ⌜ r ≡ allOf (validPin current) (pinsOf self) ⌝ }
+        ensures { λ r. ⌜ r ≡ allOf (validPin current) (pinsOf self) && ascending byEpoch (pinsOf self) ⌝ }
     {
         let count = self.count;
+        let mut last = 0;
         let mut i = 0;
         while i < count {
             let x = self.items[i];
-            if !x.valid(current) {
+            if !x.follows(last, current) {
                 return false;
             }
-            i += 1;
-        }
-        true
-    }
-
-    fn ordered(self) -> bool
-        requires { ⌜ self .count ≤ mostPinned ⌝ }
-        ensures { λ r. ⌜ r ≡ ascending byEpoch (pinsOf self) ⌝ }
-    {
-        let count = self.count;
-        let mut i = 0;
-        while i + 1 < count {
-            let x = self.items[i];
-            let y = self.items[i + 1];
-            if !x.before(y.epoch) {
-                return false;
-            }
+            last = x.epoch;
             i += 1;
         }
         true
@@ -101,10 +88,7 @@ impl PinBook {
         if MOST_PINNED < self.count {
             return true;
         }
-        if !self.all_valid(current) {
-            return true;
-        }
-        !self.ordered()
+        !self.sound(current)
     }
 
     // Internal, as is what follows: the count is within the array. Whether the epoch is pinned.

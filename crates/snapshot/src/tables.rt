@@ -99,7 +99,7 @@ fn wide(n: u32) -> usize
 }
 
 // How many bytes the name at i has.
-fn length_at(lengths: &[u32; MOST_TABLES], i: usize) -> usize
+pub fn length_at(lengths: &[u32; MOST_TABLES], i: usize) -> usize
     requires { ⌜ i < mostTables ⌝ }
     ensures { λ r. ⌜ (r ≡ lengthIn (column (now (lengths .entry)) i)) × (r ≤ longestName) ⌝ }
 {

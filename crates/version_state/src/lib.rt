@@ -2,6 +2,9 @@
 use ids::RowsetNo;
 use ids::TableNo;
 use ids::VectorNo;
+use ids::limits::MOST_HELD;
+use ids::limits::MOST_TABLES;
+use ids::limits::NAME_BYTES;
 use snapshot::rowsets::Rowsets;
 use snapshot::tables::Tables;
 use snapshot::vectors::Vectors;
@@ -10,7 +13,12 @@ pub mod behind;
 pub mod limits;
 
 ghost use mathlib.Core.Path.{_≡_};
-ghost use Rattle.version_state.specs.State.{start, Hands};
+ghost use mathlib.Core.Bool.{Bool};
+ghost use mathlib.Core.List.{List};
+ghost use Prim.Native.Nat.{ℕ};
+ghost use lib.ListN.{length};
+ghost use Rattle.snapshot.specs.Tables.{nameBytes};
+ghost use Rattle.version_state.specs.State.{start, Hands, tablesIn, rowsetsIn, vectorsIn, innerIn};
 ghost use Rattle.version_state.specs.Sound.{badInner};
 
 // The next id of each kind.
@@ -30,6 +38,86 @@ pub struct VersionManagerInner {
     pub vectors: Vectors,
     // The manifest's length.
     pub manifest: usize,
+}
+
+// 29 of the state that stands in columns that are lent, so that none is copied. It looks neither at shapes nor at locks.
+pub fn bad<'a>(
+    ids: &'a [u32; MOST_TABLES],
+    lengths: &'a [u32; MOST_TABLES],
+    names: &'a [u8; NAME_BYTES],
+    tables: usize,
+    rowset_tables: &'a [u32; MOST_HELD],
+    rowset_ids: &'a [u32; MOST_HELD],
+    rowset_added: &'a [u32; MOST_HELD],
+    rowset_deleted: &'a [u32; MOST_HELD],
+    rowsets: usize,
+    vector_tables: &'a [u32; MOST_HELD],
+    vector_rowsets: &'a [u32; MOST_HELD],
+    vector_ids: &'a [u64; MOST_HELD],
+    vector_added: &'a [u32; MOST_HELD],
+    vector_deleted: &'a [u32; MOST_HELD],
+    vectors: usize,
+    epoch: u32,
+    next: NextIds,
+    manifest: usize,
+) -> bool
+    requires { ⌜ length (now names) ≡ nameBytes ⌝ }
+    ensures { λ r. ⌜ ((shapes : List ℕ) (locked : List Bool) → r ≡ badInner (innerIn epoch next
+        (tablesIn (now (ids .entry)) shapes (now (lengths .entry)) (now (names .entry)) locked tables)
+        (rowsetsIn (now («rowset_tables» .entry)) (now («rowset_ids» .entry)) (now («rowset_added» .entry)) (now («rowset_deleted» .entry)) rowsets)
+        (vectorsIn (now («vector_tables» .entry)) (now («vector_rowsets» .entry)) (now («vector_ids» .entry)) (now («vector_added» .entry)) (now («vector_deleted» .entry)) vectors)
+        manifest)) ⌝ }
+{
+    if limits::beyond_limits(lengths, names, tables, rowsets, vectors, manifest) {
+        return true;
+    }
+    if limits::out_of_order(
+        ids,
+        tables,
+        rowset_tables,
+        rowset_ids,
+        rowsets,
+        vector_tables,
+        vector_rowsets,
+        vector_ids,
+        vectors,
+    ) {
+        return true;
+    }
+    if limits::above_own(
+        ids,
+        tables,
+        rowset_tables,
+        rowset_ids,
+        rowset_added,
+        rowset_deleted,
+        rowsets,
+        vector_tables,
+        vector_rowsets,
+        vector_ids,
+        vector_added,
+        vector_deleted,
+        vectors,
+        epoch,
+        next,
+    ) {
+        return true;
+    }
+    behind::left_behind(
+        ids,
+        tables,
+        rowset_tables,
+        rowset_ids,
+        rowset_added,
+        rowset_deleted,
+        rowsets,
+        vector_tables,
+        vector_rowsets,
+        vector_added,
+        vector_deleted,
+        vectors,
+        epoch,
+    )
 }
 
 impl VersionManagerInner {
@@ -58,67 +146,26 @@ impl VersionManagerInner {
     pub fn bad(self) -> bool
         ensures { λ r. ⌜ r ≡ badInner self ⌝ }
     {
-        let tables = self.tables.count;
-        let rowsets = self.rowsets.count;
-        let vectors = self.vectors.count;
-        if limits::beyond_limits(
+        let next = self.next;
+        bad(
+            &self.tables.ids,
             &self.tables.lengths,
             &self.tables.names,
-            tables,
-            rowsets,
-            vectors,
-            self.manifest,
-        ) {
-            return true;
-        }
-        if limits::out_of_order(
-            &self.tables.ids,
-            tables,
-            &self.rowsets.tables,
-            &self.rowsets.rowsets,
-            rowsets,
-            &self.vectors.tables,
-            &self.vectors.rowsets,
-            &self.vectors.vectors,
-            vectors,
-        ) {
-            return true;
-        }
-        let epoch = self.epoch;
-        let next = self.next;
-        if limits::above_own(
-            &self.tables.ids,
-            tables,
+            self.tables.count,
             &self.rowsets.tables,
             &self.rowsets.rowsets,
             &self.rowsets.added,
             &self.rowsets.deleted,
-            rowsets,
+            self.rowsets.count,
             &self.vectors.tables,
             &self.vectors.rowsets,
             &self.vectors.vectors,
             &self.vectors.added,
             &self.vectors.deleted,
-            vectors,
-            epoch,
+            self.vectors.count,
+            self.epoch,
             next,
-        ) {
-            return true;
-        }
-        behind::left_behind(
-            &self.tables.ids,
-            tables,
-            &self.rowsets.tables,
-            &self.rowsets.rowsets,
-            &self.rowsets.added,
-            &self.rowsets.deleted,
-            rowsets,
-            &self.vectors.tables,
-            &self.vectors.rowsets,
-            &self.vectors.added,
-            &self.vectors.deleted,
-            vectors,
-            epoch,
+            self.manifest,
         )
     }
 }

@@ -1,21 +1,40 @@
 // The tests of 29 that look at one list at a time, over columns that are lent. Internal.
 use crate::NextIds;
 use ids::limits::LONGEST_MANIFEST;
+use ids::limits::LONGEST_NAME;
 use ids::limits::MOST_HELD;
 use ids::limits::MOST_TABLES;
 use ids::limits::NAME_BYTES;
 ghost use mathlib.Core.Path.{_≡_};
 ghost use mathlib.Core.Bool.{not, _&&_, _||_};
 ghost use mathlib.Core.List.{[], _∷_};
-ghost use Prim.Native.Nat.{_≤_};
+ghost use Prim.Native.Nat.{_≤_, _<_};
 ghost use lib.Dec.{leb, ltb};
 ghost use lib.ListN.{length};
 ghost use Rattle.ids.specs.Limits.{mostTables, mostHeld, longestManifest};
 ghost use Rattle.lists.specs.Keyed.{allOf, ascending};
 ghost use Rattle.columns.specs.Rows.{rows, column, across, plain};
+ghost use Rattle.text.specs.Class.{Classes};
 ghost use Rattle.text.specs.Name.{isName};
 ghost use Rattle.snapshot.specs.Entries.{within, entries};
 ghost use Rattle.snapshot.specs.Tables.{nameAt, nameBytes};
+
+// Whether the name at i is a name.
+fn name_valid<'a>(
+    classes: &'a [u8; 256],
+    lengths: &'a [u32; MOST_TABLES],
+    names: &'a [u8; NAME_BYTES],
+    i: usize,
+) -> bool
+    requires { ⌜ Classes (now classes) × (i < mostTables) × (length (now names) ≡ nameBytes) ⌝ }
+    ensures { λ r. ⌜ r ≡ isName (nameAt (now (lengths .entry)) (now (names .entry)) i) ⌝ }
+{
+    let n = snapshot::tables::length_at(lengths, i);
+    let from = LONGEST_NAME * i;
+    let to = from + n;
+    let all = &names[..];
+    text::is_name(classes, &all[from..to])
+}
 
 // Whether each live table's name is a name.
 fn names_valid<'a>(
@@ -26,10 +45,10 @@ fn names_valid<'a>(
     requires { ⌜ (count ≤ mostTables) × (length (now names) ≡ nameBytes) ⌝ }
     ensures { λ r. ⌜ r ≡ allOf isName (rows (nameAt (now (lengths .entry)) (now (names .entry))) count) ⌝ }
 {
+    let classes = text::classes();
     let mut i = 0;
     while i < count {
-        let name = snapshot::tables::name_at(lengths, names, i);
-        if !text::valid_name(name) {
+        if !name_valid(&classes, lengths, names, i) {
             return false;
         }
         i += 1;

@@ -1,18 +1,45 @@
 -- `pinning::after_unpin` meets its contract. Assumes nothing.
-use mathlib.Core.Path.{sym, ap, _∙_}
+use mathlib.Core.Path.{_≡_, sym, ap, _∙_}
 use mathlib.Core.Bool.{cond}
 use Prim.Native.Nat.{ℕ}
-use native.Mathlib.Omega.{arith}
+use Rattle.ids.specs.declared.refusal.Verdict.the-variants.{Accepted}
+use Rattle.ids.specs.Verdicts.{judged}
 use Rattle.vacuum.proofs.Laws.{counted-list}
 use Rattle.lists.proofs.Places.{known}
-use Rattle.pinning.proofs.Says.{unpinnable, unpin-refuses, unpin-accepts}
+use Rattle.pins.specs.declared.PinBook.{PinBook}
+use Rattle.version_manager.specs.declared.VersionManager.{VersionManager}
+use Rattle.pinning.specs.Says.{unpinVerdict}
+use Rattle.pinning.proofs.Says.{first-two, two-passed, unpin-early, unpin-24, unpin-passes, Unpinnable, unpinnable, unpin-refuses, unpin-accepts}
 use Rattle.pinning.proofs.Counting.{at-most}
 use Rattle.pinning.proofs.Laws.{unpinned-good}
 use Rattle.pinning.proofs.after_unpin.Statement.{statement}
 use Rattle.pinning.proofs.after_unpin.Tie as tie
 
-judge-unpin-requires : tie.Need-judge-unpin-requires
-judge-unpin-requires c κs = search known
+-- what is known where 29 and 28 let pass
+abbrev manager : tie.After-enum-told → VersionManager
+manager e = e .before .before .before .args .t1
+
+abbrev book : tie.After-enum-told → PinBook
+book e = e .before .before .before .args .book
+
+abbrev epoch : tie.After-enum-told → ℕ
+epoch e = e .before .before .before .args .epoch
+
+two : (e : tie.After-enum-told) → judged (first-two (manager e) (book e)) ≡ Accepted
+two e = sym (e .before .before .judge .ensures) ∙ e .enum-told .given .1
+
+-- and where the epoch has pins
+abbrev came : tie.Else1 → tie.After-enum-told
+came f = f .before .before .before
+
+accepted : (f : tie.Else1) → unpinVerdict (manager (came f)) (epoch (came f)) (book (came f)) ≡ Accepted
+accepted f = let e = came f in unpin-passes (manager e) (book e) (epoch e) _ (f .before .before .find .ensures .count) (two e) (f .if1 .left)
+
+known-then : (f : tie.Else1) → Unpinnable (manager (came f)) (book (came f)) (epoch (came f))
+known-then f = unpinnable (manager (came f)) (book (came f)) (epoch (came f)) (accepted f)
+
+judge-requires : tie.Need-judge-requires
+judge-requires c κs = search known
 
 enum-known-verdict : tie.Need-enum-known-verdict
 enum-known-verdict c = search known
@@ -20,55 +47,53 @@ enum-known-verdict c = search known
 returns : tie.Need-returns
 returns c =
     let a = c .before .before .before .before .args in
-    unpin-refuses (a .t1) (a .book) (a .epoch) _ (sym (c .before .before .before .judge-unpin .ensures) ∙ c .before .verdict .given .1)
+    unpin-refuses (a .t1) (a .book) (a .epoch) _ (unpin-early (a .t1) (a .book) (a .epoch) _ (sym (c .before .before .before .judge .ensures) ∙ c .before .verdict .given .1))
 
 enum-told : tie.Need-enum-told
 enum-told c = search known
 
-pins-at-requires : tie.Need-pins-at-requires
-pins-at-requires c κs =
-    let a = c .before .before .before .args in
-    unpinnable (a .t1) (a .book) (a .epoch) (sym (c .before .before .judge-unpin .ensures) ∙ c .enum-told .given .1) .good .fits
+find-requires : tie.Need-find-requires
+find-requires c κs = let g = two-passed (manager c) (book c) (two c) in (g .fits, g .ordered)
+
+returns-2 : tie.Need-returns-2
+returns-2 c =
+    let e = c .before .before .before in
+    unpin-refuses (manager e) (book e) (epoch e) _ (unpin-24 (manager e) (book e) (epoch e) _ (c .before .before .find .ensures .count) (two e) (c .if1 .taken))
 
 sub-left : tie.Need-sub-left
-sub-left c =
-    let a = c .before .before .before .before .args in
-    let p = unpinnable (a .t1) (a .book) (a .epoch) (sym (c .before .before .before .judge-unpin .ensures) ∙ c .before .enum-told .given .1) in
-    omega (arith, p .pins .some, c .pins-at .ensures)
+sub-left c = search known
 
 recounted-requires : tie.Need-recounted-requires
-recounted-requires c κs =
-    let a = c .before .before .before .before .args in
-    let p = unpinnable (a .t1) (a .book) (a .epoch) (sym (c .before .before .before .judge-unpin .ensures) ∙ c .before .enum-told .given .1) in
-    (p .good .fits, p .good .ordered, p .place)
+recounted-requires c κs = let p = known-then (c .before) in (p .good .fits, p .good .ordered, p .place, c .before .before .before .find .ensures)
 
 is-due-requires : tie.Need-is-due-requires
 is-due-requires c κs = search known
 
 ready-requires : tie.Need-ready-requires
 ready-requires c κs =
-    let a = c .before .before .before .before .before .before .before .before .args in
-    let d = sym (c .before .before .before .before .before .before .before .judge-unpin .ensures) ∙ c .before .before .before .before .before .enum-told .given .1 in
-    let p = unpinnable (a .t1) (a .book) (a .epoch) d in
-    (p .fits .rowsets, unpinned-good (a .t1) (a .epoch) (a .book) _ d (rw (c .before .before .before .before .pins-at .ensures) at (c .before .before .before .recounted .ensures)))
+    let f = c .before .before .before .before .before in
+    let e = came f in
+    (known-then f .fits .rowsets, unpinned-good (manager e) (epoch e) (book e) _ (accepted f) (rw (f .before .before .find .ensures .count) at (c .before .before .before .recounted .ensures)))
 
-returns-2 : tie.Need-returns-2
-returns-2 c =
-    let a = c .before .before .before .before .before .before .before .before .before .args in
-    let d = sym (c .before .before .before .before .before .before .before .before .judge-unpin .ensures) ∙ c .before .before .before .before .before .before .enum-told .given .1 in
-    unpin-accepts (a .t1) (a .book) (a .epoch) _ _ _ d (rw (c .before .before .before .before .before .pins-at .ensures) at (c .before .before .before .is-due .ensures)) (at-most (c .before .before .before .is-due .result) (c .ready .result) _ (c .ready .ensures ∙ ap (λ (n : ℕ). cond (c .before .before .before .is-due .result) n 0) (counted-list _ (a .t1 .inner)))) (rw (c .before .before .before .before .before .pins-at .ensures) at (c .before .before .before .before .recounted .ensures))
+returns-3 : tie.Need-returns-3
+returns-3 c =
+    let f = c .before .before .before .before .before .before in
+    let e = came f in
+    let due = c .before .before .before .is-due in
+    unpin-accepts (manager e) (book e) (epoch e) _ _ _ (accepted f) (rw (f .before .before .find .ensures .count) at (due .ensures)) (at-most (due .result) (c .ready .result) _ (c .ready .ensures ∙ ap (λ (n : ℕ). cond (due .result) n 0) (counted-list _ (manager e .inner)))) (rw (f .before .before .find .ensures .count) at (c .before .before .before .before .recounted .ensures))
 
 pub after-unpin-spec : {M : Type 1} → statement M
 after-unpin-spec =
     tie.close
     (tie.spec
-    judge-unpin-requires
+    judge-requires
     enum-known-verdict
     returns
     enum-told
-    pins-at-requires
+    find-requires
+    returns-2
     sub-left
     recounted-requires
     is-due-requires
     ready-requires
-    returns-2)
+    returns-3)

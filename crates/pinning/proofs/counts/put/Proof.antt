@@ -11,34 +11,28 @@ use Rattle.lists.specs.Keyed.{isAt, put, rank}
 use Rattle.lists.proofs.Tests.{both, past}
 use Rattle.lists.proofs.Places.{known}
 use Rattle.lists.proofs.Views.{view-length, put-here, put-other}
-use Rattle.pins.specs.Book.{pinEntry, pinsOf, byEpoch}
+use Rattle.pins.specs.Book.{pinEntry, pinsOf, byEpoch, mostPinned}
 use Rattle.pinning.specs.Counts.{pinsOn}
 use Rattle.pinning.proofs.Counting.{room}
 use Rattle.pinning.proofs.counts.put.Statement.{statement}
 use Rattle.pinning.proofs.counts.put.Tie as tie
 
-place-requires : tie.Need-place-requires
-place-requires c κs = c .pre .0
-
-stands-requires : tie.Need-stands-requires
-stands-requires c κs = c .before .pre .0
-
 replaced-requires : tie.Need-replaced-requires
 replaced-requires c κs =
-    let a = c .before .before .before .args in
-    let pre = c .before .before .before .pre in
-    let at = c .before .before .place .result in
-    let full : length (a .book .items) ≡ 64 = search known in
-    let b = both (ltb at (length (pinsOf (a .book)))) (isAt byEpoch (a .x .epoch ∷ []) (getD (pinsOf (a .book)) at (pinsOn 0 0))) (sym (c .before .stands .ensures) ∙ c .if1 .taken) in
+    let a = c .before .args in
+    let pre = c .before .pre in
+    let at = a .place .at in
+    let full : length (a .book .items) ≡ mostPinned = search known in
+    let b = both (ltb at (length (pinsOf (a .book)))) (isAt byEpoch (a .x .epoch ∷ []) (getD (pinsOf (a .book)) at (pinsOn 0 0))) (sym (pre .3 .there) ∙ c .if1 .taken) in
     (omega (arith, ltb-true at (length (pinsOf (a .book))) (b .0), view-length pinEntry (a .book .items) (a .book .count) (omega (arith, pre .0))), pre .0)
 
 returns : tie.Need-returns
 returns c =
-    let a = c .before .before .before .before .args in
-    let pre = c .before .before .before .before .pre in
-    let at = c .before .before .before .place .result in
-    let so = c .before .before .before .place .ensures .0 in
-    let b = both (ltb at (length (pinsOf (a .book)))) (isAt byEpoch (a .x .epoch ∷ []) (getD (pinsOf (a .book)) at (pinsOn 0 0))) (sym (c .before .before .stands .ensures) ∙ c .before .if1 .taken) in
+    let a = c .before .before .args in
+    let pre = c .before .before .pre in
+    let at = a .place .at in
+    let so = pre .3 .place in
+    let b = both (ltb at (length (pinsOf (a .book)))) (isAt byEpoch (a .x .epoch ∷ []) (getD (pinsOf (a .book)) at (pinsOn 0 0))) (sym (pre .3 .there) ∙ c .before .if1 .taken) in
     record {
       fits = omega (arith, c .replaced .ensures .0, pre .0);
       pins = c .replaced .ensures .1 ∙ rw so (sym (put-here byEpoch (pinEntry (a .x)) (pinsOf (a .book)) (pinsOn 0 0) (rw (← so) (ltb-true at (length (pinsOf (a .book))) (b .0))) (rw (← so) (b .1))));
@@ -46,21 +40,22 @@ returns c =
 
 inserted-requires : tie.Need-inserted-requires
 inserted-requires c κs =
-    let a = c .before .before .before .args in
-    let pre = c .before .before .before .pre in
-    let so = c .before .before .place .ensures .0 in
-    let full : length (a .book .items) ≡ 64 = search known in
-    let no = sym (c .before .stands .ensures) ∙ c .if1 .left in
+    let a = c .before .args in
+    let pre = c .before .pre in
+    let so = pre .3 .place in
+    let full : length (a .book .items) ≡ mostPinned = search known in
+    let w = view-length pinEntry (a .book .items) (a .book .count) (omega (arith, pre .0)) in
+    let no = sym (pre .3 .there) ∙ c .if1 .left in
     let r = room (a .x .epoch) (pinsOf (a .book)) (pinsOn 0 0) (pre .1) (pre .2) (rw so at no) in
-    (c .before .before .place .ensures .1, omega (arith, r, view-length pinEntry (a .book .items) (a .book .count) (omega (arith, pre .0))))
+    (omega (arith, pre .3 .within, w), omega (arith, r, w))
 
 returns-2 : tie.Need-returns-2
 returns-2 c =
-    let a = c .before .before .before .before .args in
-    let pre = c .before .before .before .before .pre in
-    let so = c .before .before .before .place .ensures .0 in
-    let full : length (a .book .items) ≡ 64 = search known in
-    let no = sym (c .before .before .stands .ensures) ∙ c .before .if1 .left in
+    let a = c .before .before .args in
+    let pre = c .before .before .pre in
+    let so = pre .3 .place in
+    let full : length (a .book .items) ≡ mostPinned = search known in
+    let no = sym (pre .3 .there) ∙ c .before .if1 .left in
     let here = rank byEpoch (a .x .epoch ∷ []) (pinsOf (a .book)) in
     let r = room (a .x .epoch) (pinsOf (a .book)) (pinsOn 0 0) (pre .1) (pre .2) (rw so at no) in
     record {
@@ -69,6 +64,4 @@ returns-2 c =
     }
 
 pub put-spec : {M : Type 1} → statement M
-put-spec =
-    tie.close
-    (tie.spec place-requires stands-requires replaced-requires returns inserted-requires returns-2)
+put-spec = tie.close (tie.spec replaced-requires returns inserted-requires returns-2)

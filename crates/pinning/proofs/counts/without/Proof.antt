@@ -9,20 +9,20 @@ use lib.ListN.{length}
 use Rattle.lists.specs.Keyed.{isAt, without}
 use Rattle.lists.proofs.Places.{known}
 use Rattle.lists.proofs.Views.{seen-end, keep-here, keep-next, Making, make-start, make-one, make-none, make-done}
-use Rattle.pins.specs.Book.{PinEntry, pinEntry, byEpoch}
+use Rattle.pins.specs.Book.{PinEntry, pinEntry, byEpoch, mostPinned}
 use Rattle.pinning.proofs.counts.without.Statement.{statement}
 use Rattle.pinning.proofs.counts.without.Tie as tie
 
 abbrev Inv-loop : tie.InvT-loop
-Inv-loop epoch book s₀ count k₀ i₀ s k i = (count ≤ 64) × (length (book .items) ≡ 64) × Making pinEntry pinEntry (without byEpoch (epoch ∷ [])) 64 count (book .items) i k (s .items)
+Inv-loop epoch book s₀ count k₀ i₀ s k i = (count ≤ mostPinned) × (length (book .items) ≡ mostPinned) × Making pinEntry pinEntry (without byEpoch (epoch ∷ [])) mostPinned count (book .items) i k (s .items)
 
 abbrev μ-loop : tie.MeasureT-loop
 μ-loop epoch book s₀ count k₀ i₀ s k i = count - i
 
 loop-holds : tie.Need-loop-holds Inv-loop μ-loop
 loop-holds c =
-    let full : length (c .args .t1 .items) ≡ 64 = search known in
-    (c .pre, full, make-start pinEntry pinEntry (without byEpoch (c .args .epoch ∷ [])) 64 _ _ _ full)
+    let full : length (c .args .t1 .items) ≡ mostPinned = search known in
+    (c .pre, full, make-start pinEntry pinEntry (without byEpoch (c .args .epoch ∷ [])) mostPinned _ _ _ full)
 
 mul-x : tie.Need-mul-x Inv-loop μ-loop
 mul-x c = search known
@@ -54,8 +54,8 @@ loop-again c =
     let full = inv .1 in
     let k : (c .before .before .before .before .before .args .t1 .count) ≤ length (c .before .before .before .before .before .args .t1 .items) = omega (arith, inv .0) in
     ⊎-elim
-    (λ w. rw (w .1, w .2) (inv .0, full, make-one pinEntry pinEntry (without byEpoch (c .before .before .before .before .before .args .epoch ∷ [])) 64 _ _ _ _ _ (inv .0) (c .before .before .before .loop-test .taken) (inv .2) _ (keep-here pinEntry (c .before .before .before .before .before .args .t1 .items) (c .before .before .before .before .before .args .t1 .count) (c .before .before .before .before .loop .i) _ (c .before .before .before .loop-test .taken) k (λ (y : PinEntry). not (isAt byEpoch (c .before .before .before .before .before .args .epoch ∷ []) y)) (ap not (sym (c .before .is-at .ensures)) ∙ w .0 .taken))))
-    (λ w. rw (w .1, w .2) (inv .0, full, make-none pinEntry pinEntry (without byEpoch (c .before .before .before .before .before .args .epoch ∷ [])) 64 _ _ _ _ _ (inv .0) (c .before .before .before .loop-test .taken) (inv .2) (keep-next pinEntry (c .before .before .before .before .before .args .t1 .items) (c .before .before .before .before .before .args .t1 .count) (c .before .before .before .before .loop .i) _ (c .before .before .before .loop-test .taken) k (λ (y : PinEntry). not (isAt byEpoch (c .before .before .before .before .before .args .epoch ∷ []) y)) (ap not (sym (c .before .is-at .ensures)) ∙ w .0 .left))))
+    (λ w. rw (w .1, w .2) (inv .0, full, make-one pinEntry pinEntry (without byEpoch (c .before .before .before .before .before .args .epoch ∷ [])) mostPinned _ _ _ _ _ (inv .0) (c .before .before .before .loop-test .taken) (inv .2) _ (keep-here pinEntry (c .before .before .before .before .before .args .t1 .items) (c .before .before .before .before .before .args .t1 .count) (c .before .before .before .before .loop .i) _ (c .before .before .before .loop-test .taken) k (λ (y : PinEntry). not (isAt byEpoch (c .before .before .before .before .before .args .epoch ∷ []) y)) (ap not (sym (c .before .is-at .ensures)) ∙ w .0 .taken))))
+    (λ w. rw (w .1, w .2) (inv .0, full, make-none pinEntry pinEntry (without byEpoch (c .before .before .before .before .before .args .epoch ∷ [])) mostPinned _ _ _ _ _ (inv .0) (c .before .before .before .loop-test .taken) (inv .2) (keep-next pinEntry (c .before .before .before .before .before .args .t1 .items) (c .before .before .before .before .before .args .t1 .count) (c .before .before .before .before .loop .i) _ (c .before .before .before .loop-test .taken) k (λ (y : PinEntry). not (isAt byEpoch (c .before .before .before .before .before .args .epoch ∷ []) y)) (ap not (sym (c .before .is-at .ensures)) ∙ w .0 .left))))
     (c .if1 .came)
 
 returns : tie.Need-returns Inv-loop μ-loop
@@ -65,7 +65,7 @@ returns c =
     let b = inv .2 .behind in
     let w = inv .2 .within in
     let g = ap (without byEpoch (c .before .before .args .epoch ∷ [])) (seen-end pinEntry (c .before .before .args .t1 .items) (c .before .before .args .t1 .count) (c .before .loop .i) (c .loop-test .left) (omega (arith, inv .0))) in
-    record { fits = omega (arith, inv .0); pins = make-done pinEntry pinEntry (without byEpoch (c .before .before .args .epoch ∷ [])) 64 _ _ _ _ _ g (inv .2) }
+    record { fits = omega (arith, inv .0); pins = make-done pinEntry pinEntry (without byEpoch (c .before .before .args .epoch ∷ [])) mostPinned _ _ _ _ _ g (inv .2) }
 
 pub without-spec : {M : Type 1} → statement M
 without-spec =
