@@ -58,6 +58,16 @@ module _ (s : List ℕ) (at start stop next : ℕ) (h : lineAt s at ≡ found.Li
   unfolding operationsIn linesFrom
   lent-line = ap₂ (λ (ls : List (List ℕ)) (r : List ℕ). map (λ l. operationSaid (lineOf l)) ls ++ unended r) (lines-at s at start stop next h) rest-at
 
+-- what a line is read as is well formed
+pub said-well : (l : List ℕ) → wellFormed (operationSaid (lineOf l)) ≡ true
+said-well l = go (lineOf l) refl
+  where
+    go : (x : Line) → lineOf l ≡ x → wellFormed (operationSaid x) ≡ true
+    go begin h = refl
+    go end h = refl
+    go (operation o) h = text-parse l o h .0
+    go bad h = refl
+
 none-lent : operationsIn [] ≡ []
 unfolding operationsIn lines linesOn restOn
 none-lent = refl

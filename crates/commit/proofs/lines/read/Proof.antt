@@ -1,9 +1,9 @@
 -- `commit::lines::read` meets its contract. Assumes nothing.
-use mathlib.Core.Path.{sym, _∙_}
+use mathlib.Core.Path.{refl, sym, _∙_}
 use native.Mathlib.Omega.{arith}
 use Rattle.lists.proofs.Places.{known}
 use Rattle.manifest.proofs.Split.{line-placed, line-further}
-use Rattle.commit.proofs.Lent.{lent-line, lent-rest}
+use Rattle.commit.proofs.Lent.{said-well, lent-line, lent-rest}
 use Rattle.commit.proofs.lines.read.Statement.{statement}
 use Rattle.commit.proofs.lines.read.Tie as tie
 
@@ -38,12 +38,12 @@ returns : tie.Need-returns
 returns c =
     let h = sym (c .before .before .before .before .before .line-at .ensures) ∙ c .before .before .before .line .given .1 in
     let f = line-further _ _ _ _ _ h in
-    (rw (c .said .ensures) (lent-line _ _ _ _ _ h), f .0, f .1)
+    (rw (c .said .ensures) (lent-line _ _ _ _ _ h), f .0, f .1, rw (c .said .ensures) (said-well _))
 
 returns-2 : tie.Need-returns-2
 returns-2 c =
     let h = sym (c .before .before .before .before .line-at .ensures) ∙ c .before .before .enum-told .given .1 in
-    (rw (c .none2 .ensures) (lent-rest _ _ (c .before .before .before .before .before .before .pre .0) h), c .before .before .before .before .before .before .pre .0, omega arith)
+    (rw (c .none2 .ensures) (lent-rest _ _ (c .before .before .before .before .before .before .pre .0) h), c .before .before .before .before .before .before .pre .0, omega arith, rw (c .none2 .ensures) refl)
 
 pub read-spec : {M : Type 1} → statement M
 read-spec =

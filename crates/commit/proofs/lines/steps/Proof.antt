@@ -27,7 +27,7 @@ read-requires : tie.Need-read-requires Inv-loop μ-loop
 read-requires c κs = (c .loop-test .taken, c .before .before .before .pre .0)
 
 step-requires : tie.Need-step-requires Inv-loop μ-loop
-step-requires c κs = c .before .before .before .before .before .before .before .before .before .before .before .before .before .before .before .before .before .loop .inv .2 .ready
+step-requires c κs = (c .before .before .before .before .before .before .before .before .before .before .before .before .before .before .before .read .ensures .3, c .before .before .before .before .before .before .before .before .before .before .before .before .before .before .before .before .before .loop .inv .2 .ready)
 
 accepted-requires : tie.Need-accepted-requires Inv-loop μ-loop
 accepted-requires c κs = search known

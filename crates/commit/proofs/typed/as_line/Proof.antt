@@ -1,6 +1,5 @@
 -- `commit::typed::as_line` meets its contract. Assumes nothing.
 use mathlib.Core.Path.{sym, _∙_}
-use borrow.Author.Tests.{not-false}
 use Rattle.lists.proofs.Places.{known}
 use Rattle.manifest.specs.Operations.{operationOf}
 use Rattle.commit.proofs.AsLines.{as-line-same, as-line-none}
@@ -23,4 +22,6 @@ returns-2 : tie.Need-returns-2
 returns-2 c = c .none2 .ensures ∙ as-line-none (operationOf (c .before .before .before .before .args .change)) (sym (c .before .before .before .well-formed .ensures) ∙ c .before .before .if1 .left)
 
 pub as-line-spec : {M : Type 1} → statement M
-as-line-spec = tie.close (tie.spec well-formed-requires returns none-requires none-requires-2 returns-2)
+as-line-spec =
+    tie.close
+    (tie.spec well-formed-requires returns none-requires none-requires-2 returns-2)
