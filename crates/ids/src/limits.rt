@@ -27,3 +27,6 @@ pub const LARGEST_64: u64 = 18446744073709551615;
 
 // Bytes of a manifest.
 pub const LONGEST_MANIFEST: usize = 65536;
+
+// Bytes of a rewritten manifest.
+pub const LONGEST_REWRITTEN: usize = 18625;

@@ -1,8 +1,9 @@
--- The lines of the rows that pass a test, measured and written one after another: how a loop starts, goes on and ends. Assumes nothing.
+-- The lines of the rows that pass a test, written one after another: how a loop starts, goes on and ends. Assumes nothing.
 use mathlib.Core.Path.{_≡_, refl, sym, ap, _∙_}
 use mathlib.Core.Bool.{Bool, true, false}
 use mathlib.Core.List.{List, [], _∷_, _++_, map, append-nil, append-assoc}
 use Prim.Native.Nat.{ℕ, _+_, _*_, _≤_, _<_}
+use native.Mathlib.Nat.{mul-le-mul-left}
 use native.Mathlib.Omega.{arith}
 use lib.ListN.{length, drop, length-append}
 use Rattle.lists.specs.Keyed.{keep}
@@ -37,76 +38,69 @@ module _ {A : Type 0} (f : ℕ → A) (p : A → Bool) (g : A → Operation) (n 
   from-end : (i : ℕ) → n ≤ i → from i ≡ []
   from-end i h = rw (rows-end f n i h)
 
-  -- the length so far, of lines of at most k bytes
-  pub record Measuring (k i sum : ℕ) : Type 0 where
+  -- What was written so far into s, which made it t, and j is the place after it. There are at most `most` rows, and a line has at most k bytes.
+  pub record Writing (k most : ℕ) (s : List ℕ) (at i : ℕ) (t : List ℕ) (j : ℕ) : Type 0 where
+    pub few : n ≤ most
+    pub room : at + k * most ≤ length s
     pub within : i ≤ n
-    pub most : sum ≤ k * i
-    pub same : length (textsOf (map g (keep p (rows f n)))) ≡ sum + length (textsOf (from i))
-
-  pub measure-start : (k : ℕ) → Measuring k 0 0
-  measure-start k = record { within = omega arith; most = omega arith; same = omega arith }
-
-  pub measure-yes : (k i sum m : ℕ) → i < n → p (f i) ≡ true → m ≡ length (textsOf (g (f i) ∷ [])) → m ≤ k → Measuring k i sum → Measuring k (i + 1) (sum + m)
-  measure-yes k i sum m h t e b s =
-      record {
-        within = omega arith;
-        most = let w = s .most in let z : k * (i + 1) ≡ k * i + k = omega arith in omega arith;
-        same = omega (arith, s .same, ap (λ (os : List Operation). length (textsOf os)) (from-yes i h t), texts-length (g (f i) ∷ []) (from (i + 1)));
-      }
-
-  pub measure-no : (k i sum : ℕ) → i < n → p (f i) ≡ false → Measuring k i sum → Measuring k (i + 1) sum
-  measure-no k i sum h t s =
-      record {
-        within = omega arith;
-        most = let w = s .most in let z : k * (i + 1) ≡ k * i + k = omega arith in omega arith;
-        same = s .same ∙ ap (λ (os : List Operation). sum + length (textsOf os)) (from-no i h t);
-      }
-
-  pub measure-done : (k i sum : ℕ) → n ≤ i → Measuring k i sum → sum ≡ length (textsOf (map g (keep p (rows f n))))
-  measure-done k i sum h s = omega (arith, s .same, ap (λ (os : List Operation). length (textsOf os)) (from-end i h))
-
-  -- what was written so far
-  pub record Writing (s : List ℕ) (at i : ℕ) (t : List ℕ) (j : ℕ) : Type 0 where
-    pub within : i ≤ n
+    pub short : j ≤ at + k * i
     pub done : List Operation
     pub same : done ++ from i ≡ map g (keep p (rows f n))
     pub wrote : Wrote s at (textsOf done) t j
 
-  module _ (s : List ℕ) (at : ℕ) where
-    pub write-start : Writing s at 0 s at
-    write-start = record { within = omega arith; done = []; same = refl; wrote = wrote-none s at }
+  pub write-start : {k most : ℕ} {s : List ℕ} {at : ℕ} → n ≤ most → at + k * most ≤ length s → Writing k most s at 0 s at
+  write-start {k} {most} {s} {at} h r = record { few = h; room = r; within = omega arith; short = omega arith; done = []; same = refl; wrote = wrote-none s at }
 
-    module _ (room : at + length (textsOf (map g (keep p (rows f n)))) ≤ length s) (i : ℕ) (h : i < n) (t : List ℕ) (j : ℕ) (w : Writing s at i t j) where
-      -- there is room for the line at i
-      pub write-room : p (f i) ≡ true → j + length (textOf (g (f i)) ++ (10 ∷ [])) ≤ length t
-      write-room y =
-          let e = ap (λ (os : List Operation). length (textsOf os)) (w .same) in
-          let a = texts-length (w .done) (from i) in
-          let b = ap (λ (os : List Operation). length (textsOf os)) (from-yes i h y) in
-          let c = texts-length (g (f i) ∷ []) (from (i + 1)) in
-          let d = length-append (textOf (g (f i))) (10 ∷ []) in
-          omega (arith, w .wrote .next, wrote-length s at (textsOf (w .done)) t j (omega arith) (w .wrote))
+module _ {A : Type 0} {f : ℕ → A} {p : A → Bool} {g : A → Operation} {n k most : ℕ} {s : List ℕ} {at i : ℕ} {t : List ℕ} {j : ℕ} (w : Writing f p g n k most s at i t j) where
+  -- the lines of m rows have room
+  held : (m : ℕ) → m ≤ n → at + k * m ≤ length s
+  held m h = let z : k * m ≤ k * most = mul-le-mul-left k (omega (arith, w .few)) in omega (arith, w .room)
 
-      pub write-yes : p (f i) ≡ true → (u : List ℕ) (r : ℕ) → Wrote t j (textOf (g (f i)) ++ (10 ∷ [])) u r → Writing s at (i + 1) u r
-      write-yes y u r v =
-          let e = ap (λ (os : List Operation). length (textsOf os)) (w .same) in
-          let a = texts-length (w .done) (from i) in
-          let b = ap (λ (os : List Operation). length (textsOf os)) (from-yes i h y) in
-          let c = texts-length (g (f i) ∷ []) (from (i + 1)) in
-          record {
-            within = omega arith;
-            done = w .done ++ (g (f i) ∷ []);
-            same = append-assoc (w .done) (g (f i) ∷ []) (from (i + 1)) ∙ ap (λ (os : List Operation). w .done ++ os) (sym (from-yes i h y)) ∙ w .same;
-            wrote = rw (texts-both (w .done) (g (f i) ∷ [])) (wrote-on s at (textsOf (w .done)) t j (textOf (g (f i)) ++ (10 ∷ [])) u r (omega arith) (w .wrote) v);
-          }
+  pub write-length : length t ≡ length s
+  write-length = wrote-length s at (textsOf (w .done)) t j (omega (arith, w .wrote .next, w .short, held i (w .within))) (w .wrote)
 
-      pub write-no : p (f i) ≡ false → Writing s at (i + 1) t j
-      write-no y = record { within = omega arith; done = w .done; same = ap (λ (os : List Operation). w .done ++ os) (sym (from-no i h y)) ∙ w .same; wrote = w .wrote }
+  module _ (h : i < n) where
+    one-more : k * (i + 1) ≡ k * i + k
+    one-more = omega arith
 
-    pub write-done : (i : ℕ) (t : List ℕ) (j : ℕ) → n ≤ i → Writing s at i t j → Wrote s at (textsOf (map g (keep p (rows f n)))) t j
-    write-done i t j h w =
-        let e : map g (keep p (rows f n)) ≡ w .done = sym (w .same) ∙ ap (λ (os : List Operation). w .done ++ os) (from-end i h) ∙ append-nil (w .done) in
-        rw e (w .wrote)
+    -- there is room for the line at i
+    pub write-room : (m : ℕ) → m ≤ k → j + m ≤ length t
+    write-room m b = omega (arith, write-length, w .short, held (i + 1) (omega arith), one-more)
+
+    -- the row at i passes, and its line was written
+    pub write-yes : p (f i) ≡ true → (o : Operation) → o ≡ g (f i) → length (textsOf (o ∷ [])) ≤ k → (u : List ℕ) (r : ℕ) → Wrote t j (textsOf (o ∷ [])) u r
+        → Writing f p g n k most s at (i + 1) u r
+    write-yes y o e b u r v =
+        let l : g (f i) ∷ from f p g n (i + 1) ≡ o ∷ from f p g n (i + 1) = ap (λ (x : Operation). x ∷ from f p g n (i + 1)) (sym e) in
+        record {
+          few = w .few;
+          room = w .room;
+          within = omega arith;
+          short = omega (arith, w .short, v .next, one-more);
+          done = w .done ++ (o ∷ []);
+          same = append-assoc (w .done) (o ∷ []) (from f p g n (i + 1)) ∙ ap (λ (os : List Operation). w .done ++ os) (sym (from-yes f p g n i h y ∙ l)) ∙ w .same;
+          wrote =
+              rw (texts-both (w .done) (o ∷ []))
+              (wrote-on s at (textsOf (w .done)) t j (textsOf (o ∷ [])) u r (omega (arith, w .wrote .next, w .short, held (i + 1) (omega arith), one-more)) (w .wrote) v);
+        }
+
+    pub write-no : p (f i) ≡ false → Writing f p g n k most s at (i + 1) t j
+    write-no y =
+        record {
+          few = w .few;
+          room = w .room;
+          within = omega arith;
+          short = omega (arith, w .short, one-more);
+          done = w .done;
+          same = ap (λ (os : List Operation). w .done ++ os) (sym (from-no f p g n i h y)) ∙ w .same;
+          wrote = w .wrote;
+        }
+
+  pub write-done : n ≤ i → Wrote s at (textsOf (map g (keep p (rows f n)))) t j × (j ≤ at + k * most)
+  write-done h =
+      let e : map g (keep p (rows f n)) ≡ w .done = sym (w .same) ∙ ap (λ (os : List Operation). w .done ++ os) (from-end f p g n i h) ∙ append-nil (w .done) in
+      let z : k * i ≤ k * most = mul-le-mul-left k (omega (arith, w .within, w .few)) in
+      (rw e (w .wrote), omega (arith, w .short))
 
 -- every row passes
 pub keep-every : {A : Type 0} (l : List A) → keep (λ x. true) l ≡ l

@@ -1,25 +1,26 @@
 -- The rewritten manifest in its parts: `B`, `N`, the lines of tables, pairs and vectors, `E`. Assumes nothing.
-use mathlib.Core.Path.{_≡_, refl, sym, ap, ap₂, _∙_}
+use mathlib.Core.Path.{_≡_, sym, ap, _∙_}
 use mathlib.Core.Bool.{Bool}
 use mathlib.Core.List.{List, [], _∷_, _++_, map, append-assoc}
-use Prim.Native.Nat.{ℕ, _+_, _≤_}
+use Prim.Native.Nat.{ℕ, _≤_}
 use native.Mathlib.Omega.{arith}
-use lib.ListN.{length, length-append}
+use lib.ListN.{length}
 use Rattle.lists.specs.Keyed.{keep}
-use Rattle.lists.specs.Written.{over, Wrote}
+use Rattle.lists.specs.Written.{Wrote}
 use Rattle.lists.proofs.Places.{length-mapped}
-use Rattle.lists.proofs.Written.{wrote-on, wrote-over}
-use Rattle.columns.specs.Rows.{rows}
+use Rattle.lists.proofs.Written.{wrote-on}
 use Rattle.columns.proofs.Rows.{rows-map}
+use Rattle.text.specs.Class.{newline}
 use Rattle.manifest.specs.Operations.{Operation, nextIds}
+use Rattle.manifest.specs.Lines.{beginLetter, endLetter}
 use Rattle.snapshot.specs.Entries.{shownBy}
 use Rattle.snapshot.specs.Tables.{nameBytes, tableAt, tableRows}
 use Rattle.snapshot.specs.Views.{tablesOf, rowsetsOf, vectorsOf}
 use Rattle.version_state.specs.declared.VersionManagerInner.{VersionManagerInner}
 use Rattle.version_state.specs.State.{stateOf}
 use Rattle.frames.specs.Frames.{textsOf}
-use Rattle.frames.proofs.Texts.{frame-is, frame-long}
-use Rattle.rewrite.specs.Rewritten.{createOf, addOf, addVectorOf, rewriteOf, rewrittenOf}
+use Rattle.frames.proofs.Texts.{frame-is}
+use Rattle.rewrite.specs.Rewritten.{createOf, addOf, addVectorOf, rewriteOf, rewrittenOf, longestRewritten}
 use Rattle.rewrite.proofs.Lines.{texts-both}
 
 -- a lock stands in no line
@@ -47,36 +48,30 @@ module _ (m : VersionManagerInner) where
       ∙ texts-both nextLine ((tableLines ++ pairLines) ++ vectorLines)
       ∙ ap (λ (l : List ℕ). textsOf nextLine ++ l) (texts-both (tableLines ++ pairLines) vectorLines ∙ ap (λ (l : List ℕ). l ++ textsOf vectorLines) (texts-both tableLines pairLines))
 
-  pub whole-length : length (rewrittenOf (stateOf m)) ≡ 4 + length (textsOf nextLine) + length (textsOf tableLines) + length (textsOf pairLines) + length (textsOf vectorLines)
-  whole-length =
-      let a = length-append (textsOf nextLine) ((textsOf tableLines ++ textsOf pairLines) ++ textsOf vectorLines) in
-      let b = length-append (textsOf tableLines ++ textsOf pairLines) (textsOf vectorLines) in
-      let c = length-append (textsOf tableLines) (textsOf pairLines) in
-      omega (arith, frame-long (rewriteOf (stateOf m)), ap length whole-texts)
-
-  pub whole-over : (out t₁ t₂ t₃ t₄ t₅ t₆ : List ℕ) (i₁ i₂ i₃ i₄ i₅ i₆ : ℕ) → length (rewrittenOf (stateOf m)) ≤ length out
-      → Wrote out 0 (66 ∷ 10 ∷ []) t₁ i₁ → Wrote t₁ i₁ (textsOf nextLine) t₂ i₂ → Wrote t₂ i₂ (textsOf tableLines) t₃ i₃ → Wrote t₃ i₃ (textsOf pairLines) t₄ i₄
-      → Wrote t₄ i₄ (textsOf vectorLines) t₅ i₅ → Wrote t₅ i₅ (69 ∷ 10 ∷ []) t₆ i₆ → t₆ ≡ over (rewrittenOf (stateOf m)) out
-  whole-over out t₁ t₂ t₃ t₄ t₅ t₆ i₁ i₂ i₃ i₄ i₅ i₆ h w₁ w₂ w₃ w₄ w₅ w₆ =
+  pub whole-wrote : (out t₁ t₂ t₃ t₄ t₅ t₆ : List ℕ) (i₁ i₂ i₃ i₄ i₅ i₆ : ℕ) → longestRewritten ≤ length out → i₆ ≤ longestRewritten
+      → Wrote out 0 (beginLetter ∷ newline ∷ []) t₁ i₁ → Wrote t₁ i₁ (textsOf nextLine) t₂ i₂ → Wrote t₂ i₂ (textsOf tableLines) t₃ i₃ → Wrote t₃ i₃ (textsOf pairLines) t₄ i₄
+      → Wrote t₄ i₄ (textsOf vectorLines) t₅ i₅ → Wrote t₅ i₅ (endLetter ∷ newline ∷ []) t₆ i₆ → Wrote out 0 (rewrittenOf (stateOf m)) t₆ i₆ × (i₆ ≤ longestRewritten)
+  whole-wrote out t₁ t₂ t₃ t₄ t₅ t₆ i₁ i₂ i₃ i₄ i₅ i₆ room h w₁ w₂ w₃ w₄ w₅ w₆ =
+      let b : List ℕ = beginLetter ∷ newline ∷ [] in
       let n = textsOf nextLine in
       let t = textsOf tableLines in
       let p = textsOf pairLines in
       let v = textsOf vectorLines in
-      let e : List ℕ = 69 ∷ 10 ∷ [] in
-      let z = whole-length in
-      let b : List ℕ = 66 ∷ 10 ∷ [] in
-      let l₂ = length-append b n in
-      let l₃ = length-append (b ++ n) t in
-      let l₄ = length-append ((b ++ n) ++ t) p in
-      let l₅ = length-append (((b ++ n) ++ t) ++ p) v in
+      let e : List ℕ = endLetter ∷ newline ∷ [] in
+      let l₁ = w₁ .next in
+      let l₂ = w₂ .next in
+      let l₃ = w₃ .next in
+      let l₄ = w₄ .next in
+      let l₅ = w₅ .next in
+      let l₆ = w₆ .next in
       let a₂ = wrote-on out 0 b t₁ i₁ n t₂ i₂ (omega arith) w₁ w₂ in
-      let a₃ = wrote-on out 0 (b ++ n) t₂ i₂ t t₃ i₃ (omega arith) a₂ w₃ in
-      let a₄ = wrote-on out 0 ((b ++ n) ++ t) t₃ i₃ p t₄ i₄ (omega arith) a₃ w₄ in
-      let a₅ = wrote-on out 0 (((b ++ n) ++ t) ++ p) t₄ i₄ v t₅ i₅ (omega arith) a₄ w₅ in
-      let a₆ = wrote-on out 0 ((((b ++ n) ++ t) ++ p) ++ v) t₅ i₅ e t₆ i₆ (omega arith) a₅ w₆ in
+      let a₃ = wrote-on out 0 (b ++ n) t₂ i₂ t t₃ i₃ (omega (arith, a₂ .next)) a₂ w₃ in
+      let a₄ = wrote-on out 0 ((b ++ n) ++ t) t₃ i₃ p t₄ i₄ (omega (arith, a₃ .next)) a₃ w₄ in
+      let a₅ = wrote-on out 0 (((b ++ n) ++ t) ++ p) t₄ i₄ v t₅ i₅ (omega (arith, a₄ .next)) a₄ w₅ in
+      let a₆ = wrote-on out 0 ((((b ++ n) ++ t) ++ p) ++ v) t₅ i₅ e t₆ i₆ (omega (arith, a₅ .next)) a₅ w₆ in
       let f : rewrittenOf (stateOf m) ≡ ((((b ++ n) ++ t) ++ p) ++ v) ++ e =
-      frame-is (rewriteOf (stateOf m)) ∙ ap (λ (l : List ℕ). (66 ∷ 10 ∷ l) ++ e) whole-texts ∙ simp append-assoc in
-      wrote-over out _ t₆ i₆ a₆ ∙ ap (λ (l : List ℕ). over l out) (sym f)
+      frame-is (rewriteOf (stateOf m)) ∙ ap (λ (l : List ℕ). (beginLetter ∷ newline ∷ l) ++ e) whole-texts ∙ simp append-assoc in
+      (rw f a₆, h)
 
 -- the column of names of a manager that was handed in
 pub names-sized : (l : List ℕ) → length (map (λ v. v) l) ≡ nameBytes → length l ≡ nameBytes

@@ -31,6 +31,15 @@ rewrittenOf s = frameOf (rewriteOf s)
 abbrev pub longestRewritten : ℕ
 longestRewritten = 18625
 
--- bytes that always hold one line of it
-abbrev pub longestLine : ℕ
-longestLine = 57
+-- bytes that always hold one line of it: `N`, `T`, `A`, `V`
+abbrev pub longestNext : ℕ
+longestNext = 45
+
+abbrev pub longestCreate : ℕ
+longestCreate = 57
+
+abbrev pub longestAdd : ℕ
+longestAdd = 24
+
+abbrev pub longestAddVector : ℕ
+longestAddVector = 45

@@ -1,2 +1,3 @@
 pub mod Replayed
 pub mod Answered
+pub mod Printed

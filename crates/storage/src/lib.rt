@@ -1,4 +1,5 @@
 // Reopen: a manifest is replayed, and what it holds is handed out with a manifest written anew.
+use ids::limits::LONGEST_REWRITTEN;
 use ids::refusal::Refusal;
 use ids::refusal::Verdict;
 use pins::PinBook;
@@ -43,11 +44,12 @@ fn rewrite_into(inner: VersionManagerInner, out: &mut [u8]) -> Reopened
     requires { ⌜ Fit inner ⌝ }
     ensures { λ r. ⌜ ReopenIs (openedOf (length (now (out .entry))) (stateOf inner)) (now (out .entry)) r (now (out .exit)) ⌝ }
 {
-    let n = rewrite::rewritten_length(inner);
+    let mut printed = [0; LONGEST_REWRITTEN];
+    let n = rewrite::put_rewritten(inner, &mut printed);
     if out.len() < n {
         return refused(Refusal::OutputTooShort);
     }
-    rewrite::put_rewritten(inner, out);
+    text::put_bytes(out, 0, &printed[..n]);
     let mut inner = inner;
     inner.manifest = n;
     let manager = version_manager::handed(inner);

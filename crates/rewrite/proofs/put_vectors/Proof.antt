@@ -1,25 +1,23 @@
 -- `rewrite::put_vectors` meets its contract. Assumes nothing.
-use Rattle.lists.proofs.Written.{wrote-length}
 use mathlib.Core.Path.{sym, _∙_}
 use mathlib.Core.List.{[], _∷_}
-use Prim.Native.Nat.{_+_, _-_, _≤_}
-use native.Mathlib.Omega.{arith}
+use Prim.Native.Nat.{_-_}
 use Rattle.ids.specs.Limits.{mostHeld}
 use Rattle.lists.proofs.Places.{known}
 use Rattle.snapshot.specs.Entries.{shownBy, entryAt}
-use Rattle.rewrite.specs.Rewritten.{addVectorOf}
-use Rattle.rewrite.proofs.Lines.{Writing, write-start, write-room, write-yes, write-no, write-done}
+use Rattle.rewrite.specs.Rewritten.{addVectorOf, longestAddVector}
+use Rattle.rewrite.proofs.Lines.{Writing, write-start, write-length, write-room, write-yes, write-no, write-done}
 use Rattle.rewrite.proofs.put_vectors.Statement.{statement}
 use Rattle.rewrite.proofs.put_vectors.Tie as tie
 
 abbrev Inv-loop : tie.InvT-loop
-Inv-loop out₀ at tables rowsets vectors added deleted count epoch j₀ i₀ out j i = (count ≤ mostHeld) × Writing (entryAt (tables ∷ rowsets ∷ vectors ∷ []) added deleted) (shownBy epoch) addVectorOf count out₀ at i out j
+Inv-loop out₀ at tables rowsets vectors added deleted count epoch j₀ i₀ out j i = Writing (entryAt (tables ∷ rowsets ∷ vectors ∷ []) added deleted) (shownBy epoch) addVectorOf count longestAddVector mostHeld out₀ at i out j
 
 abbrev μ-loop : tie.MeasureT-loop
 μ-loop out₀ at tables rowsets vectors added deleted count epoch j₀ i₀ out j i = count - i
 
 loop-holds : tie.Need-loop-holds Inv-loop μ-loop
-loop-holds c = (c .before .pre .0, write-start _ _ _ _ _ _)
+loop-holds c = write-start _ _ _ _ (c .before .pre .0) (c .before .pre .1)
 
 mul-shown : tie.Need-mul-shown Inv-loop μ-loop
 mul-shown c = search known
@@ -36,14 +34,31 @@ element-copy-out-shown-2 c = search known
 shown-requires : tie.Need-shown-requires Inv-loop μ-loop
 shown-requires c κs = search known
 
-add-vector-at-requires : tie.Need-add-vector-at-requires Inv-loop μ-loop
-add-vector-at-requires c κs = search known
+mul-add-vector-change : tie.Need-mul-add-vector-change Inv-loop μ-loop
+mul-add-vector-change c = search known
+
+element-copy-out-add-vector-change : tie.Need-element-copy-out-add-vector-change Inv-loop μ-loop
+element-copy-out-add-vector-change c = search known
+
+mul-add-vector-change-2 : tie.Need-mul-add-vector-change-2 Inv-loop μ-loop
+mul-add-vector-change-2 c = search known
+
+element-copy-out-add-vector-change-2 :
+    tie.Need-element-copy-out-add-vector-change-2 Inv-loop μ-loop
+element-copy-out-add-vector-change-2 c = search known
+
+mul-add-vector-change-3 : tie.Need-mul-add-vector-change-3 Inv-loop μ-loop
+mul-add-vector-change-3 c = search known
+
+element-copy-out-add-vector-change-3 :
+    tie.Need-element-copy-out-add-vector-change-3 Inv-loop μ-loop
+element-copy-out-add-vector-change-3 c = search known
+
+add-vector-change-requires : tie.Need-add-vector-change-requires Inv-loop μ-loop
+add-vector-change-requires c κs = search known
 
 put-line-requires : tie.Need-put-line-requires Inv-loop μ-loop
-put-line-requires c κs =
-    let inv = c .before .before .before .before .before .before .before .loop .inv in
-    let y = sym (c .before .before .before .shown .ensures) ∙ c .before .before .if1 .taken in
-    rw (c .add-vector-at .ensures [] []) (write-room _ _ _ _ _ _ (c .before .before .before .before .before .before .before .before .before .pre .1) _ (c .before .before .before .before .before .before .loop-test .taken) _ _ (inv .1) y)
+put-line-requires c κs = write-room (c .before .before .before .before .before .before .before .before .before .before .loop .inv) (c .before .before .before .before .before .before .before .before .before .loop-test .taken) _ (c .add-vector-change .ensures .1)
 
 add-i : tie.Need-add-i Inv-loop μ-loop
 add-i c = search known
@@ -52,11 +67,7 @@ loop-less : tie.Need-loop-less Inv-loop μ-loop
 loop-less c = search known
 
 loop-again : tie.Need-loop-again Inv-loop μ-loop
-loop-again c =
-    let inv = c .before .before .before .before .before .before .before .before .before .before .loop .inv in
-    let y = sym (c .before .before .before .before .before .before .shown .ensures) ∙ c .before .before .before .before .before .if1 .taken in
-    let w = rw (c .before .before .before .add-vector-at .ensures [] []) at (c .before .before .put-line .ensures) in
-    (inv .0, write-yes _ _ _ _ _ _ (c .before .before .before .before .before .before .before .before .before .before .before .before .pre .1) _ (c .before .before .before .before .before .before .before .before .before .loop-test .taken) _ _ (inv .1) y _ _ w)
+loop-again c = write-yes (c .before .before .before .before .before .before .before .before .before .before .before .before .before .loop .inv) (c .before .before .before .before .before .before .before .before .before .before .before .before .loop-test .taken) (sym (c .before .before .before .before .before .before .before .before .before .shown .ensures) ∙ c .before .before .before .before .before .before .before .before .if1 .taken) _ (c .before .before .before .add-vector-change .ensures .0) (c .before .before .before .add-vector-change .ensures .1) _ _ (c .before .before .put-line .ensures)
 
 add-i-2 : tie.Need-add-i-2 Inv-loop μ-loop
 add-i-2 c = search known
@@ -65,15 +76,13 @@ loop-less-2 : tie.Need-loop-less-2 Inv-loop μ-loop
 loop-less-2 c = search known
 
 loop-again-2 : tie.Need-loop-again-2 Inv-loop μ-loop
-loop-again-2 c =
-    let inv = c .before .before .before .before .before .loop .inv in
-    (inv .0, write-no _ _ _ _ _ _ (c .before .before .before .before .before .before .before .pre .1) _ (c .before .before .before .before .loop-test .taken) _ _ (inv .1) (sym (c .before .shown .ensures) ∙ c .if1 .left))
+loop-again-2 c = write-no (c .before .before .before .before .before .loop .inv) (c .before .before .before .before .loop-test .taken) (sym (c .before .shown .ensures) ∙ c .if1 .left)
 
 same-length : tie.Need-same-length Inv-loop μ-loop
-same-length c = wrote-length _ _ _ _ _ (c .before .before .before .pre .1) (write-done _ _ _ _ _ _ _ _ _ (c .loop-test .left) (c .before .loop .inv .1))
+same-length c = write-length (c .before .loop .inv)
 
 returns : tie.Need-returns Inv-loop μ-loop
-returns c = write-done _ _ _ _ _ _ _ _ _ (c .loop-test .left) (c .before .loop .inv .1)
+returns c = write-done (c .before .loop .inv) (c .loop-test .left)
 
 pub put-vectors-spec : {M : Type 1} → statement M
 put-vectors-spec =
@@ -87,7 +96,13 @@ put-vectors-spec =
     mul-shown-2
     element-copy-out-shown-2
     shown-requires
-    add-vector-at-requires
+    mul-add-vector-change
+    element-copy-out-add-vector-change
+    mul-add-vector-change-2
+    element-copy-out-add-vector-change-2
+    mul-add-vector-change-3
+    element-copy-out-add-vector-change-3
+    add-vector-change-requires
     put-line-requires
     add-i
     loop-less
