@@ -45,7 +45,7 @@ pinsFull e l = leb mostPins (pinsAt e l)
 abbrev pub epochsFull : ℕ → List PinEntry → Bool
 epochsFull e l = not (pinned e l) && leb mostPinned (length l)
 
--- epoch e has n pins in the list l; it stands at that place of it, or would there
+-- epoch e has n pins in the list l, and `at` is its place there: where it stands, or would stand
 pub record Placed (e : ℕ) (l : List PinEntry) (at : ℕ) (stands : Bool) (n : ℕ) : Type 0 where
   pub place : at ≡ rank byEpoch (e ∷ []) l
   pub within : at ≤ length l
