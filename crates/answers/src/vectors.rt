@@ -1,6 +1,7 @@
 // Calls on delete vectors: no manager.
 use crate::say;
 use delete_vector::Loaded;
+use delete_vector::MOST_RECORDS;
 use delete_vector::Masked;
 use delete_vector::Written;
 use ids::RowNo;
@@ -48,8 +49,8 @@ fn decode_into(file: &[u8], rows: &mut [u32]) {
 }
 
 fn decode_run(file: &[u8], room: usize) {
-    let mut rows = [0u32; 4096];
-    let room = script::least(room, 4096);
+    let mut rows = [0u32; MOST_RECORDS];
+    let room = script::least(room, MOST_RECORDS);
     decode_into(file, &mut rows[..room]);
 }
 

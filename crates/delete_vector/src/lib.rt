@@ -42,7 +42,7 @@ pub enum Masked {
 }
 
 // The most records of a vector.
-const MOST_RECORDS: usize = 4096;
+pub const MOST_RECORDS: usize = 4096;
 
 // The rows' records, in the order given and with repeats, go to the front of out.
 pub fn write_all(rows: &[u32], out: &mut [u8]) -> Written

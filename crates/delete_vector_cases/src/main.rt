@@ -239,6 +239,23 @@ fn held() {
     memory_case(&many, &mut two);
 }
 
+// Rows that rise already: with room to spare, with just enough, and with too little; and rows of which only the last does not rise.
+fn rising() {
+    let rows = [0u32, 1, 7, 4294967294, 4294967295];
+    let mut room = [9u32; 6];
+    memory_case(&rows, &mut room);
+    let mut full = [9u32; 5];
+    memory_case(&rows, &mut full);
+    let mut short = [9u32; 4];
+    memory_case(&rows, &mut short);
+    let same = [0u32, 1, 7, 4294967295, 4294967295];
+    let mut four = [9u32; 5];
+    memory_case(&same, &mut four);
+    let falls = [2u32, 3, 7, 8, 6];
+    let mut five = [9u32; 5];
+    memory_case(&falls, &mut five);
+}
+
 fn masks() {
     let a = [3u32, 5];
     mask_case(&a, RowNo(4));
@@ -267,5 +284,6 @@ fn main() {
     rooms();
     limits();
     held();
+    rising();
     masks();
 }

@@ -14,10 +14,7 @@ use manifest::operation::ParsedLine;
 use manifest::reader::LineAt;
 ghost use Rattle.text.specs.Class.{Classes};
 
-// Internal, as is what follows: it is lent the table of classes.
-fn show_change(classes: &[u8; 256], change: Change)
-    requires { ⌜ Classes (now classes) ⌝ }
-{
+fn show_change(change: Change) {
     let n = manifest::printer::text_length(change);
     let mut out = [0u8; 56];
     let k = manifest::printer::print(&mut out, 0, change);
@@ -26,13 +23,15 @@ fn show_change(classes: &[u8; 256], change: Change)
     }
     io::write_all(STDOUT_FILENO, b" ");
     io::print_decimal(STDOUT_FILENO, n as u64);
-    if change.well_formed(classes) {
+    let classes = text::classes();
+    if change.well_formed(&classes) {
         io::write_all(STDOUT_FILENO, b" well formed\n");
     } else {
         io::write_all(STDOUT_FILENO, b" not well formed\n");
     }
 }
 
+// Internal: it is lent the table of classes.
 fn show(classes: &[u8; 256], s: &[u8])
     requires { ⌜ Classes (now classes) ⌝ }
 {
@@ -47,7 +46,7 @@ fn show(classes: &[u8; 256], s: &[u8])
             ManifestOperation::End => {
                 io::write_all(STDOUT_FILENO, b"end\n");
             }
-            ManifestOperation::Epoch(op) => show_change(classes, Change { op, name }),
+            ManifestOperation::Epoch(op) => show_change(Change { op, name }),
         },
         ParsedLine::Bad => {
             io::write_all(STDOUT_FILENO, b"bad\n");
@@ -88,36 +87,20 @@ fn plain(op: EpochOp) -> Change {
 }
 
 fn show_changes() {
-    let classes = text::classes();
-    show_change(&classes, create(4294967294, LONGEST_NAME));
-    show_change(&classes, create(4294967294, LONGEST_NAME + 1));
-    show_change(&classes, create(4294967294, 0));
-    show_change(&classes, create(4294967295, 1));
-    show_change(&classes, plain(EpochOp::DropTable(TableNo(4294967295))));
-    show_change(
-        &classes,
-        plain(EpochOp::AddRowSet(TableNo(0), RowsetNo(4294967295))),
-    );
-    show_change(
-        &classes,
-        plain(EpochOp::DeleteRowSet(TableNo(4294967295), RowsetNo(0))),
-    );
-    show_change(
-        &classes,
-        plain(EpochOp::AddDV(TableNo(1), RowsetNo(2), VectorNo(18446744073709551615))),
-    );
-    show_change(
-        &classes,
-        plain(EpochOp::DeleteDV(TableNo(1), RowsetNo(4294967295), VectorNo(3))),
-    );
-    show_change(
-        &classes,
-        plain(EpochOp::NextIds(
-            TableNo(4294967295),
-            RowsetNo(4294967295),
-            VectorNo(18446744073709551615),
-        )),
-    );
+    show_change(create(4294967294, LONGEST_NAME));
+    show_change(create(4294967294, LONGEST_NAME + 1));
+    show_change(create(4294967294, 0));
+    show_change(create(4294967295, 1));
+    show_change(plain(EpochOp::DropTable(TableNo(4294967295))));
+    show_change(plain(EpochOp::AddRowSet(TableNo(0), RowsetNo(4294967295))));
+    show_change(plain(EpochOp::DeleteRowSet(TableNo(4294967295), RowsetNo(0))));
+    show_change(plain(EpochOp::AddDV(TableNo(1), RowsetNo(2), VectorNo(18446744073709551615))));
+    show_change(plain(EpochOp::DeleteDV(TableNo(1), RowsetNo(4294967295), VectorNo(3))));
+    show_change(plain(EpochOp::NextIds(
+        TableNo(4294967295),
+        RowsetNo(4294967295),
+        VectorNo(18446744073709551615),
+    )));
 }
 
 fn main() {

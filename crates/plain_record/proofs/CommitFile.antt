@@ -8,6 +8,7 @@ use lib.Dec.{eqb}
 use lib.ListN.{length, take, drop, length-append, length-take}
 use lib.Seq.{take-append-le, take-all}
 use borrow.Author.Tests.{eqb-true, eqb-false}
+use Rattle.ids.specs.Limits.{longestManifest}
 use Rattle.lists.specs.Written.{over}
 use Rattle.lists.proofs.Tests.{by-cases}
 use Rattle.manifest.specs.Operations.{Operation}
@@ -53,7 +54,7 @@ module _ (f : List ℕ) (p : Plain) (m n : VersionManagerInner) (z : ℕ) (os : 
         next = followed-next os (i .state) (p .added) (i .next);
       }
 
-  short-after : length (f ++ frameOf os) ≤ 65536
+  short-after : length (f ++ frameOf os) ≤ longestManifest
   short-after = omega (arith, length-append f (frameOf os), i .long, commit-fits m z os room s b h)
 
   torn-whole : plainSets (stateOf n) ≡ applyAll os (p .now) → Torn (f ++ frameOf os) (counted c os p)
@@ -65,7 +66,7 @@ module _ (f : List ℕ) (p : Plain) (m n : VersionManagerInner) (z : ℕ) (os : 
         next = filed-after .next;
       }
 
-  short-cut : (j : ℕ) → length (f ++ take j (frameOf os)) ≤ 65536
+  short-cut : (j : ℕ) → length (f ++ take j (frameOf os)) ≤ longestManifest
   short-cut j =
       omega (arith, length-append f (take j (frameOf os)), length-take j (frameOf os), i .long, commit-fits m z os room s b h)
 

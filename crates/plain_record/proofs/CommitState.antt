@@ -5,6 +5,7 @@ use mathlib.Core.List.{List, _++_, map}
 use Prim.Native.Nat.{ℕ, _+_, _≤_}
 use native.Mathlib.Omega.{arith}
 use lib.ListN.{length}
+use Rattle.ids.specs.Limits.{mostOperations, longestManifest}
 use Rattle.lists.specs.Keyed.{allOf}
 use Rattle.lists.proofs.Keyed.{all-map, allOf-all}
 use Rattle.manifest.specs.Operations.{Operation, wellFormed}
@@ -65,7 +66,7 @@ module _ (m : VersionManagerInner) (n : ℕ) (os : List Operation) (room : ℕ) 
       (next-rise t u (l ++ idsOf os) (record { table = omega arith; rowset = omega arith; vector = omega arith })
       (steps-next (m .epoch + 1) os (stateOf m) t l q (a .steps)))
 
-  pub commit-few : length os ≤ n → length os ≤ 600
+  pub commit-few : length os ≤ n → length os ≤ mostOperations
   commit-few q = omega (arith, q, a .short)
 
   pub commit-well : (src : List ℕ) (u : State) → manifest.Holds src u → setsOf (stateOf m) ≡ setsOf u → allOf wellFormed os ≡ true
@@ -73,7 +74,7 @@ module _ (m : VersionManagerInner) (n : ℕ) (os : List Operation) (room : ℕ) 
       let start = beside-start m u (sound-of m b) (holds-read src u k) q in
       beside-steps (m .epoch + 1) 0 os (stateOf m) (a .done) u (omega arith) start (a .steps) .well
 
-  pub commit-fits : m .manifest + length (frameOf os) ≤ 65536
+  pub commit-fits : m .manifest + length (frameOf os) ≤ longestManifest
   commit-fits =
       let q = steps-manifest (m .epoch + 1) os (stateOf m) (a .done) (a .steps) in
       omega (arith, a .fits, q)

@@ -7,6 +7,7 @@ use native.Mathlib.Omega.{arith}
 use native.Mathlib.Nat.{add-zero, not-suc-le-zero, le-of-suc-le-suc}
 use borrow.Author.Tests.{lt-leb}
 use lib.ListN.{length, take, length-append, length-take}
+use Rattle.ids.specs.Limits.{mostOperations}
 use Rattle.lists.proofs.Tests.{by-cases, clash}
 use Rattle.manifest.specs.Operations.{Operation, Line, begin, end, operation, bad}
 use Rattle.manifest.specs.Lines.{lineOf}
@@ -57,17 +58,17 @@ framed-all n (o ∷ os) s h =
     (λ t. clash h (rw t))
     (λ t. rw t (framed-all (n + 1) os (applied reopened o s) (rw t at h)))
 
-ops-noted : (os done : List Operation) (s : State) (m n : ℕ) → length done + length os ≤ 600
+ops-noted : (os done : List Operation) (s : State) (m n : ℕ) → length done + length os ≤ mostOperations
     → saidRead (map operation os) (carried s (opened m done) n) ≡ given (carried s (opened m (done ++ os)) (n + length os))
 ops-noted [] done s m n h = rw (append-nil, add-zero)
 ops-noted (o ∷ os) done s m n h =
-    let few : length done < 600 = omega arith in
-    let more : length (done ++ (o ∷ [])) + length os ≤ 600 = let e = length-append done (o ∷ []) in omega arith in
+    let few : length done < mostOperations = omega arith in
+    let more : length (done ++ (o ∷ [])) + length os ≤ mostOperations = let e = length-append done (o ∷ []) in omega arith in
     let k : n + 1 + length os ≡ n + length (o ∷ os) = omega arith in
-    rw (lt-leb 600 (length done) few) (ops-noted os (done ++ (o ∷ [])) s m (n + 1) more ∙ rw (append-assoc, k))
+    rw (lt-leb mostOperations (length done) few) (ops-noted os (done ++ (o ∷ [])) s m (n + 1) more ∙ rw (append-assoc, k))
 
 -- (2) a whole append; its `B` drops what an open frame held
-pub whole-append : (os : List Operation) (s : State) (f : Frame) (n : ℕ) → length os ≤ 600 → conflictFree os s ≡ true → overLimit (settled (appliedAll os s)) ≡ false
+pub whole-append : (os : List Operation) (s : State) (f : Frame) (n : ℕ) → length os ≤ mostOperations → conflictFree os s ≡ true → overLimit (settled (appliedAll os s)) ≡ false
     → saidRead (begin ∷ (map operation os ++ (end ∷ []))) (carried s f n) ≡ given (carried (settled (appliedAll os s)) none (n + 1 + length os + 1))
 whole-append os s f n h c o =
     said-append (map operation os) (end ∷ []) (carried s (opened (n + 1) []) (n + 1))
@@ -80,10 +81,10 @@ take-ops (suc k) [] l h = absurd (not-suc-le-zero h)
 take-ops (suc k) (o ∷ os) l h = ap (λ (t : List Line). operation o ∷ t) (take-ops k os l (le-of-suc-le-suc h))
 
 -- (3) a proper first part of it changes nothing at the end
-pub torn-append : (os : List Operation) (k : ℕ) (s : State) (f : Frame) (n : ℕ) → length os ≤ 600 → k ≤ length os + 1
+pub torn-append : (os : List Operation) (k : ℕ) (s : State) (f : Frame) (n : ℕ) → length os ≤ mostOperations → k ≤ length os + 1
     → andThen (saidRead (take k (begin ∷ (map operation os ++ (end ∷ [])))) (carried s f n)) (λ c. finished (c .state)) ≡ finished s
 torn-append os zero s f n h q = refl
 torn-append os (suc k) s f n h q =
     let short : k ≤ length os = omega arith in
-    let few : length (take k os) ≤ 600 = let e = length-take k os in omega arith in
+    let few : length (take k os) ≤ mostOperations = let e = length-take k os in omega arith in
     rw (take-ops k os (end ∷ []) short, ops-noted (take k os) [] s (n + 1) (n + 1) (omega arith))

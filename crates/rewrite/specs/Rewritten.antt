@@ -3,6 +3,7 @@ use mathlib.Core.List.{List, [], _∷_, _++_, map}
 use Prim.Native.Nat.{ℕ}
 use lib.ListN.{getD}
 use Rattle.lists.specs.Keyed.{keep}
+use Rattle.ids.specs.Limits.{longestLine}
 use Rattle.manifest.specs.Operations.{Operation, createTable, addRowset, addVector, nextIds}
 use Rattle.snapshot.specs.Entries.{Entry, byIds, shownBy}
 use Rattle.snapshot.specs.Tables.{TableEntry}
@@ -36,7 +37,7 @@ abbrev pub longestNext : ℕ
 longestNext = 45
 
 abbrev pub longestCreate : ℕ
-longestCreate = 57
+longestCreate = longestLine
 
 abbrev pub longestAdd : ℕ
 longestAdd = 24

@@ -2,6 +2,7 @@
 use ids::RowsetNo;
 use ids::TableNo;
 use ids::VectorNo;
+use ids::limits::MOST_OPERATIONS;
 use ids::name::Name;
 use manifest::operation::Batch;
 use manifest::operation::Change;
@@ -35,12 +36,12 @@ fn change(classes: &[u8; 256], s: &[u8]) -> Change
     }
 }
 
-// A blank before each operation. The count is that of all; the places hold the first 600.
+// A blank before each operation. The count is that of all; the places hold the first that a commit may have.
 pub fn batch(s: &[u8]) -> Batch {
     let classes = text::classes();
     let none = no_change();
     let mut batch = Batch {
-        changes: [none; 600],
+        changes: [none; MOST_OPERATIONS],
         count: 0,
     };
     let mut at: usize = 0;
@@ -48,7 +49,7 @@ pub fn batch(s: &[u8]) -> Batch {
     while at < s.len() {
         let from = at + 1;
         let end = crate::word_end(s, from);
-        if k < 600 {
+        if k < MOST_OPERATIONS {
             batch.changes[k] = change(&classes, &s[from..end]);
         }
         k += 1;

@@ -6,6 +6,7 @@ use crate::fields::long;
 use ids::RowsetNo;
 use ids::TableNo;
 use ids::VectorNo;
+use ids::limits::MOST_OPERATIONS;
 use ids::name::Name;
 use manifest::operation::Batch;
 use manifest::operation::Change;
@@ -55,7 +56,7 @@ fn operation(letter: u8, f: [u64; 6]) -> Change {
 
 pub fn nothing() -> Batch {
     Batch {
-        changes: [next_ids(0, 0, 0); 600],
+        changes: [next_ids(0, 0, 0); MOST_OPERATIONS],
         count: 0,
     }
 }
@@ -63,7 +64,7 @@ pub fn nothing() -> Batch {
 fn with(batch: Batch, change: Change) -> Batch {
     let mut longer = batch;
     let count = batch.count;
-    if count < 600 {
+    if count < MOST_OPERATIONS {
         longer.changes[count] = change;
         longer.count = count + 1;
     }

@@ -32,6 +32,9 @@ write-all-requires-2 c κs = search needs
 print-decimal-requires : tie.Need-print-decimal-requires
 print-decimal-requires c κs = search needs
 
+classes-requires : tie.Need-classes-requires
+classes-requires c κs = search needs
+
 well-formed-requires : tie.Need-well-formed-requires
 well-formed-requires c κs = search needs
 
@@ -66,6 +69,7 @@ show-change-spec =
     slice-aggregate-write-all-2
     write-all-requires-2
     print-decimal-requires
+    classes-requires
     well-formed-requires
     slice-aggregate-write-all-3
     write-all-requires-3
