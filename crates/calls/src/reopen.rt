@@ -2,6 +2,7 @@
 use crate::world::Host;
 use crate::world::World;
 use answers::say;
+use ids::limits::LONGEST_REWRITTEN;
 use storage::ReopenAnswer;
 
 // How many bytes the rewritten manifest has, which are never 0.
@@ -51,7 +52,7 @@ pub fn reopen(world: World, s: &[u8], room: usize, file: &mut [u8], old: &mut [u
         say::no_call();
         return world;
     }
-    let mut out = [0u8; 18625];
-    let n = script::least(room, 18625);
+    let mut out = [0u8; LONGEST_REWRITTEN];
+    let n = script::least(room, LONGEST_REWRITTEN);
     reopen_into(world, &mut out[..n], file, old)
 }

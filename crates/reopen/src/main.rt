@@ -1,4 +1,5 @@
 // Reads a manifest on standard input and writes the rewritten one, or a line `refused,number,place`.
+use ids::limits::LONGEST_REWRITTEN;
 use ids::refusal::Refusal;
 use libc::STDIN_FILENO;
 use libc::STDOUT_FILENO;
@@ -27,6 +28,6 @@ fn main() {
     // One byte more than a manifest may have: of a longer one enough is read to be refused.
     let mut src = [0u8; 65537];
     let n = io::read_full(STDIN_FILENO, &mut src);
-    let mut out = [0u8; 18625];
+    let mut out = [0u8; LONGEST_REWRITTEN];
     reopen(&src[..n], &mut out);
 }

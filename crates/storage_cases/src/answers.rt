@@ -1,4 +1,5 @@
 // What a reopen answers, and what it left in the lent output.
+use ids::limits::LONGEST_REWRITTEN;
 use ids::refusal::Refusal;
 use libc::STDOUT_FILENO;
 use storage::ReopenAnswer;
@@ -84,8 +85,8 @@ fn plain_into(src: &[u8], out: &mut [u8]) {
 }
 
 pub fn plain(src: &[u8], room: usize) {
-    let mut out = [b'.'; 18625];
-    if room <= 18625 {
+    let mut out = [b'.'; LONGEST_REWRITTEN];
+    if room <= LONGEST_REWRITTEN {
         plain_into(src, &mut out[..room]);
     }
 }
@@ -106,7 +107,7 @@ fn same(a: &[u8], b: &[u8]) -> bool {
 
 // Whether a reopen of src answers and writes the same.
 fn as_before(src: &[u8], t: Told, first: &[u8]) -> bool {
-    let mut out = [b'.'; 18625];
+    let mut out = [b'.'; LONGEST_REWRITTEN];
     let u = reopened(src, &mut out);
     if u.number != t.number {
         return false;
@@ -150,10 +151,10 @@ fn torn_into(src: &[u8], before: usize, first: &mut [u8])
 
 // `before` is how many bytes stood before the append.
 pub fn torn(src: &[u8], before: usize) {
-    let mut first = [b'.'; 18625];
+    let mut first = [b'.'; LONGEST_REWRITTEN];
     if before <= src.len() {
         torn_into(src, before, &mut first);
     }
     say(b"  after: ");
-    plain(src, 18625);
+    plain(src, LONGEST_REWRITTEN);
 }

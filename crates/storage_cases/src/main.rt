@@ -3,6 +3,7 @@
 // N times. Printed are the label and the rewritten manifest on one line, or `refused,number,place`.
 // `%label` begins a torn append: the lines up to `%` are what stood before it, those after it the append. Reopened are what
 // stood and, byte by byte, every first part of the append on top of that, the whole one last.
+use ids::limits::LONGEST_REWRITTEN;
 use libc::STDIN_FILENO;
 use manifest::reader::LineAt;
 use text::Number;
@@ -61,12 +62,12 @@ fn room(s: &[u8]) -> usize {
         }
         i += 1;
     }
-    18625
+    LONGEST_REWRITTEN
 }
 
 fn number(s: &[u8], at: usize) -> usize {
     let classes = text::classes();
-    match text::read_number(&classes, s, at, 18625) {
+    match text::read_number(&classes, s, at, LONGEST_REWRITTEN as u64) {
         Number::At(n, _) => n as usize,
         Number::Nothing => 0,
     }
