@@ -1,5 +1,9 @@
 // Shows, and what the manager holds: calls that change nothing.
 use crate::say;
+use ids::limits::LONGEST_NAME;
+use ids::limits::MOST_HELD;
+use ids::limits::MOST_TABLES;
+use ids::limits::NAME_BYTES;
 use pins::PinBook;
 use script::Found;
 use script::words::Told;
@@ -43,9 +47,9 @@ fn pairs_into(
 }
 
 fn pairs(manager: VersionManager, book: PinBook, epoch: u32, room: usize) {
-    let mut tables = [0u32; 256];
-    let mut rowsets = [0u32; 256];
-    let n = script::least(room, 256);
+    let mut tables = [0u32; MOST_HELD];
+    let mut rowsets = [0u32; MOST_HELD];
+    let n = script::least(room, MOST_HELD);
     pairs_into(manager, book, epoch, &mut tables[..n], &mut rowsets[..n]);
 }
 
@@ -64,10 +68,10 @@ fn vectors_into(
 }
 
 fn vectors(manager: VersionManager, book: PinBook, epoch: u32, room: usize) {
-    let mut tables = [0u32; 256];
-    let mut rowsets = [0u32; 256];
-    let mut vectors = [0u64; 256];
-    let n = script::least(room, 256);
+    let mut tables = [0u32; MOST_HELD];
+    let mut rowsets = [0u32; MOST_HELD];
+    let mut vectors = [0u64; MOST_HELD];
+    let n = script::least(room, MOST_HELD);
     vectors_into(
         manager,
         book,
@@ -93,14 +97,14 @@ fn tables_into(
     }
 }
 
-// An entry of the names has 32 bytes.
+// An entry of the names has room for the longest one.
 fn tables(manager: VersionManager, book: PinBook, epoch: u32, room: usize) {
-    let mut ids = [0u32; 16];
-    let mut shapes = [0u32; 16];
-    let mut lengths = [0u32; 16];
-    let mut names = [0u8; 512];
-    let n = script::least(room, 16);
-    let bytes = script::least(32 * n, 512);
+    let mut ids = [0u32; MOST_TABLES];
+    let mut shapes = [0u32; MOST_TABLES];
+    let mut lengths = [0u32; MOST_TABLES];
+    let mut names = [0u8; NAME_BYTES];
+    let n = script::least(room, MOST_TABLES);
+    let bytes = script::least(LONGEST_NAME * n, NAME_BYTES);
     tables_into(
         manager,
         book,

@@ -2,6 +2,7 @@
 use crate::world::Host;
 use crate::world::World;
 use answers::say;
+use ids::limits::MOST_HELD;
 use pins::PinBook;
 use script::batches;
 use script::words::Managed;
@@ -70,9 +71,9 @@ fn vacuum(manager: VersionManager, book: PinBook, s: &[u8], room: usize) -> Vers
         say::no_call();
         return manager;
     }
-    let mut tables = [0u32; 256];
-    let mut rowsets = [0u32; 256];
-    let n = script::least(room, 256);
+    let mut tables = [0u32; MOST_HELD];
+    let mut rowsets = [0u32; MOST_HELD];
+    let n = script::least(room, MOST_HELD);
     vacuum_into(manager, book, &mut tables[..n], &mut rowsets[..n])
 }
 
