@@ -17,6 +17,10 @@ use Rattle.operations.specs.Columns.{Columns, Stands}
 use Rattle.frames.specs.Frames.{frameOf}
 use Rattle.commit.specs.declared.Done.{Done}
 
+-- the bytes that a commit of os appends to the manifest
+abbrev pub appendOf : List Operation → List ℕ
+appendOf os = frameOf os
+
 -- before the operations, of which there are n: 6, 20
 abbrev pub firstRules : State → ℕ → List Rule
 firstRules s n = (ltb mostOperations n ⇒ TooManyOperations 0) ∷ (leb lastEpoch (s .epoch) ⇒ EpochsFull) ∷ []
@@ -32,7 +36,7 @@ lastRules e s n room =
 -- what is left is at the epoch e, its manifest longer by the append
 abbrev pub finishOf : ℕ → List Operation → ℕ → State → Outcome
 finishOf e os room s =
-    onward (judged (lastRules e s (length (frameOf os)) room)) (left (withEpoch s e (s .manifest + length (frameOf os))))
+    onward (judged (lastRules e s (length (appendOf os)) room)) (left (withEpoch s e (s .manifest + length (appendOf os))))
 
 -- the operations os, which number n, apply in order at the next epoch
 abbrev pub commitOf : State → ℕ → List Operation → ℕ → Outcome
@@ -41,5 +45,5 @@ commitOf s n os room = onward (judged (firstRules s n)) (andThen (stepsOf 0 (s .
 -- Internal: a commit of os over columns, into the lent buffer. What is left stands in the columns, and the frame to append in the
 -- buffer; or a refusal, and nothing written.
 abbrev pub CommitIs : Outcome → List Operation → List ℕ → Done → Columns → List ℕ → Type 0
-CommitIs (left s) os out r c out′ = (r .verdict ≡ Accepted) × (r .length ≡ length (frameOf os)) × Stands (r .held) c s × (out′ ≡ over (frameOf os) out)
+CommitIs (left s) os out r c out′ = (r .verdict ≡ Accepted) × (r .length ≡ length (appendOf os)) × Stands (r .held) c s × (out′ ≡ over (appendOf os) out)
 CommitIs (stopped k) os out r c out′ = (r .verdict ≡ Refused k) × (out′ ≡ out)

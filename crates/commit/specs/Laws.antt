@@ -9,8 +9,7 @@ use Rattle.version_state.specs.declared.VersionManagerInner.{VersionManagerInne
 use Rattle.version_state.specs.State.{State, stateOf, Hands, pairsAt, vectorsAt}
 use Rattle.version_state.specs.Sound.{badInner}
 use Rattle.operations.specs.Steps.{left}
-use Rattle.frames.specs.Frames.{frameOf}
-use Rattle.commit.specs.Commit.{commitOf}
+use Rattle.commit.specs.Commit.{appendOf, commitOf}
 
 -- of a commit by m, which passes 29, that leaves s
 pub record CommitLaws : Type 0 where
@@ -18,7 +17,7 @@ pub record CommitLaws : Type 0 where
   pub sound : (m n : VersionManagerInner) (k : ℕ) (os : List Operation) (room : ℕ) (s : State) → badInner m ≡ false → commitOf (stateOf m) k os room ≡ left s → Hands n s → badInner n ≡ false
   -- the epoch rises by one, and the manifest by the append's length
   pub epoch : (m : VersionManagerInner) (k : ℕ) (os : List Operation) (room : ℕ) (s : State) → commitOf (stateOf m) k os room ≡ left s → s .epoch ≡ m .epoch + 1
-  pub manifest : (m : VersionManagerInner) (k : ℕ) (os : List Operation) (room : ℕ) (s : State) → commitOf (stateOf m) k os room ≡ left s → s .manifest ≡ m .manifest + length (frameOf os)
+  pub manifest : (m : VersionManagerInner) (k : ℕ) (os : List Operation) (room : ℕ) (s : State) → commitOf (stateOf m) k os room ≡ left s → s .manifest ≡ m .manifest + length (appendOf os)
   -- an older epoch shows what it showed
   pub pairs : (m : VersionManagerInner) (k : ℕ) (os : List Operation) (room : ℕ) (s : State) → badInner m ≡ false → commitOf (stateOf m) k os room ≡ left s → (d : ℕ) → d ≤ m .epoch → pairsAt d s ≡ pairsAt d (stateOf m)
   pub vectors : (m : VersionManagerInner) (k : ℕ) (os : List Operation) (room : ℕ) (s : State) → badInner m ≡ false → commitOf (stateOf m) k os room ≡ left s → (d : ℕ) → d ≤ m .epoch → vectorsAt d s ≡ vectorsAt d (stateOf m)

@@ -6,14 +6,13 @@ use Prim.Native.Nat.{ℕ, _≤_}
 use lib.ListN.{length}
 use Rattle.manifest.specs.Operations.{Operation}
 use Rattle.manifest.specs.Split.{restOn, lines}
-use Rattle.frames.specs.Frames.{frameOf}
 use Rattle.version_state.specs.declared.VersionManagerInner.{VersionManagerInner}
 use Rattle.ids.specs.Limits.{longestManifest}
 use Rattle.version_state.specs.State.{State, start, stateOf, Hands}
 use Rattle.version_state.specs.Sound.{badInner}
 use Rattle.operations.specs.Effect.{applied}
 use Rattle.operations.specs.Steps.{left}
-use Rattle.commit.specs.Commit.{commitOf}
+use Rattle.commit.specs.Commit.{appendOf, commitOf}
 use Rattle.replay.specs.Replay.{given, Frame, carried, reopened, atStart, settled, linesRead, tableless, withoutOrphans}
 use Rattle.recovery.specs.Sets.{setsOf}
 
@@ -39,5 +38,5 @@ followed os s = settled (appliedAll os s)
 pub data Appended : List ℕ → VersionManagerInner → Type 0 where
   first : (m : VersionManagerInner) → Hands m start → Appended [] m
   committed : (src : List ℕ) (m n : VersionManagerInner) (k : ℕ) (os : List Operation) (room : ℕ) (u : State)
-      → Appended src m → badInner m ≡ false → length os ≤ k → commitOf (stateOf m) k os room ≡ left u → Hands n u → Appended (src ++ frameOf os) n
+      → Appended src m → badInner m ≡ false → length os ≤ k → commitOf (stateOf m) k os room ≡ left u → Hands n u → Appended (src ++ appendOf os) n
   other : (src : List ℕ) (m n : VersionManagerInner) → Appended src m → setsOf (stateOf n) ≡ setsOf (stateOf m) → Appended src n

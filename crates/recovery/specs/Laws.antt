@@ -7,12 +7,11 @@ use lib.ListN.{length, take}
 use Rattle.lists.specs.Keyed.{allOf}
 use Rattle.manifest.specs.Operations.{Operation, wellFormed}
 use Rattle.ids.specs.Limits.{mostOperations, longestManifest}
-use Rattle.frames.specs.Frames.{frameOf}
 use Rattle.version_state.specs.declared.VersionManagerInner.{VersionManagerInner}
 use Rattle.version_state.specs.State.{State, start, withEpoch, stateOf, Hands}
 use Rattle.version_state.specs.Sound.{badInner}
 use Rattle.operations.specs.Steps.{left}
-use Rattle.commit.specs.Commit.{commitOf}
+use Rattle.commit.specs.Commit.{appendOf, commitOf}
 use Rattle.rewrite.specs.Rewritten.{rewrittenOf, longestRewritten}
 use Rattle.replay.specs.Replay.{given, reopened, replayOf}
 use Rattle.recovery.specs.Sets.{setsOf}
@@ -25,12 +24,12 @@ pub record AppendLaws : Type 0 where
   -- followed by a whole append of operations, at most k, that commit accepts on its sets: the state followed by these operations
   pub whole : (src : List ℕ) (s : State) (m : VersionManagerInner) (k : ℕ) (os : List Operation) (room : ℕ) (u : State)
       → Holds src s → setsOf (stateOf m) ≡ setsOf s → badInner m ≡ false → length os ≤ k → commitOf (stateOf m) k os room ≡ left u
-      → Holds (src ++ frameOf os) (followed os s) × (setsOf (followed os s) ≡ setsOf u)
+      → Holds (src ++ appendOf os) (followed os s) × (setsOf (followed os s) ≡ setsOf u)
   -- followed by a proper first part of an append, cut at any byte: the state
   pub torn : (src : List ℕ) (s : State) (os : List Operation) (k : ℕ)
-      → Holds src s → allOf wellFormed os ≡ true → length os ≤ mostOperations → k < length (frameOf os)
-      → length (src ++ take k (frameOf os)) ≤ longestManifest
-      → replayOf (src ++ take k (frameOf os)) ≡ given s
+      → Holds src s → allOf wellFormed os ≡ true → length os ≤ mostOperations → k < length (appendOf os)
+      → length (src ++ take k (appendOf os)) ≤ longestManifest
+      → replayOf (src ++ take k (appendOf os)) ≡ given s
   -- what accepted commits have written is never refused, and holds no vector whose rowset is gone
   pub made : (src : List ℕ) (m : VersionManagerInner) → Appended src m → length src ≤ longestManifest
       → (s : State) × (Holds src s × (setsOf (stateOf m) ≡ setsOf s) × (replayOf src ≡ given s))

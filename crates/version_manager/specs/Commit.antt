@@ -10,8 +10,7 @@ use Rattle.ids.specs.Verdicts.{_⇒_, judged}
 use Rattle.ids.specs.Answers.{Told, told}
 use Rattle.manifest.specs.Operations.{Operation}
 use Rattle.operations.specs.Steps.{Outcome, left, stopped, onward}
-use Rattle.frames.specs.Frames.{frameOf}
-use Rattle.commit.specs.Commit.{commitOf}
+use Rattle.commit.specs.Commit.{appendOf, commitOf}
 use Rattle.version_manager.specs.declared.VersionManager.{VersionManager}
 use Rattle.version_manager.specs.declared.CommitAnswer.{CommitAnswer}
 use Rattle.version_manager.specs.declared.CommitAnswer.the-variants as answer
@@ -29,9 +28,9 @@ commitTold (answer.Refused k) = told (Refused k) []
 
 abbrev pub CommitEnds : Outcome → VersionManager → List Operation → List ℕ → Committed → List ℕ → Type 0
 CommitEnds (left s) m os out r out′ =
-    (commitTold (r .answer) ≡ told Accepted (s .epoch ∷ length (frameOf os) ∷ []))
+    (commitTold (r .answer) ≡ told Accepted (s .epoch ∷ length (appendOf os) ∷ []))
     × Manages (r .manager) s
-    × (out′ ≡ over (frameOf os) out)
+    × (out′ ≡ over (appendOf os) out)
 CommitEnds (stopped k) m os out r out′ = (commitTold (r .answer) ≡ told (Refused k) []) × (r .manager ≡ m) × (out′ ≡ out)
 
 -- what a commit by m of n operations os into the lent buffer says
