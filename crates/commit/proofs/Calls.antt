@@ -24,7 +24,8 @@ use Rattle.version_state.proofs.Facts.{sound-of}
 use Rattle.version_state.proofs.Walks.{rising-prefix}
 use Rattle.operations.specs.declared.Held.{Held}
 use Rattle.operations.specs.declared.Stepped.{Stepped}
-use Rattle.operations.specs.Steps.{Outcome, left, stopped, onward, andThen, stepOf, stepsOf, Sized, Columns, columns, stateIn, Stands, Ready, StepIs}
+use Rattle.operations.specs.Steps.{Outcome, left, stopped, onward, andThen, stepOf, stepsOf}
+use Rattle.operations.specs.Columns.{Sized, Columns, columns, stateIn, Stands, Ready, StepIs}
 use Rattle.operations.proofs.Keeps.{rising-vectors}
 use Rattle.frames.specs.Frames.{frameOf}
 use Rattle.commit.specs.declared.Done.{Done}

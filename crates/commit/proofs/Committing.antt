@@ -12,7 +12,8 @@ use Rattle.ids.specs.Verdicts.{judged, isAccepted}
 use Rattle.version_state.specs.State.{withEpoch}
 use Rattle.operations.specs.declared.Held.{Held}
 use Rattle.operations.specs.declared.Stepped.{Stepped}
-use Rattle.operations.specs.Steps.{left, stepsOf, Columns, stateIn, Ready, StepIs}
+use Rattle.operations.specs.Steps.{left, stepsOf}
+use Rattle.operations.specs.Columns.{Columns, stateIn, Ready, StepIs}
 use Rattle.frames.specs.Frames.{frameOf}
 use Rattle.commit.specs.Commit.{lastRules, finishOf, commitOf}
 use Rattle.commit.specs.Lent.{operationsIn}

@@ -15,7 +15,8 @@ use Rattle.operations.specs.declared.Stepped.{Stepped}
 use Rattle.operations.proofs.Keeps.{ordered-applied}
 use Rattle.operations.specs.Effect.{applied}
 use Rattle.operations.specs.Judge.{opRules}
-use Rattle.operations.specs.Steps.{Outcome, left, stopped, onward, andThen, stepOf, stepsOf, Columns, stateIn, Ready, StepIs}
+use Rattle.operations.specs.Steps.{Outcome, left, stopped, onward, andThen, stepOf, stepsOf}
+use Rattle.operations.specs.Columns.{Columns, stateIn, Ready, StepIs}
 
 pub manifest-applied : (e : ℕ) (o : Operation) (s : State) → applied e o s .manifest ≡ s .manifest
 manifest-applied e (createTable t h n) s = refl

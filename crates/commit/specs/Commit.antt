@@ -12,7 +12,8 @@ use Rattle.manifest.specs.Operations.{Operation}
 use Rattle.ids.specs.Limits.{lastEpoch, longestManifest, mostOperations}
 use Rattle.version_state.specs.State.{State, withEpoch}
 use Rattle.version_state.specs.Sound.{leftBehind}
-use Rattle.operations.specs.Steps.{Outcome, left, stopped, onward, andThen, stepsOf, Columns, Stands}
+use Rattle.operations.specs.Steps.{Outcome, left, stopped, onward, andThen, stepsOf}
+use Rattle.operations.specs.Columns.{Columns, Stands}
 use Rattle.frames.specs.Frames.{frameOf}
 use Rattle.commit.specs.declared.Done.{Done}
 

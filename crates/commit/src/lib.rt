@@ -17,7 +17,7 @@ ghost use Rattle.lists.specs.Keyed.{ascending, sorted};
 ghost use Rattle.ids.specs.Limits.{mostTables, mostHeld, longestManifest};
 ghost use Rattle.ids.specs.Verdicts.{judged};
 ghost use Rattle.columns.specs.Rows.{rows, across, plain};
-ghost use Rattle.operations.specs.Steps.{Rising, columns, stateIn, Ready};
+ghost use Rattle.operations.specs.Columns.{Rising, columns, stateIn, Ready};
 ghost use Rattle.commit.specs.Commit.{lastRules, commitOf, CommitIs};
 ghost use Rattle.commit.specs.Lent.{operationsIn};
 ghost use Rattle.commit.specs.Laws.{CommitLaws};

@@ -21,7 +21,8 @@ ghost use lib.ListN.{length, drop};
 ghost use Rattle.text.specs.Class.{Classes};
 ghost use Rattle.manifest.specs.Operations.{nextIds, operationOf, wellFormed};
 ghost use Rattle.manifest.specs.Lines.{lineOf};
-ghost use Rattle.operations.specs.Steps.{stepsOf, columns, stateIn, Ready, StepIs};
+ghost use Rattle.operations.specs.Steps.{stepsOf};
+ghost use Rattle.operations.specs.Columns.{columns, stateIn, Ready, StepIs};
 ghost use Rattle.commit.specs.Lent.{operationSaid, operationsIn};
 
 // An operation, and the place after its line.

@@ -20,7 +20,7 @@ use Rattle.columns.proofs.Rows.{rows-at, rows-map}
 use Rattle.snapshot.specs.Entries.{Entry, byIds, deletedAt, shownAt, shownBy, entryAt, entries}
 use Rattle.snapshot.proofs.Entries.{rank-ids, ascending-ids, held-ids, delete-held}
 use Rattle.operations.specs.Judge.{isShown, vectorHeld}
-use Rattle.operations.specs.Steps.{Rising}
+use Rattle.operations.specs.Columns.{Rising}
 
 -- what stands at a place within a count is inside a column
 pub inside : (at n : ℕ) (b : Bool) → ltb at n && b ≡ true → n ≤ mostHeld → at < mostHeld

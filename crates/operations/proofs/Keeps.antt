@@ -25,7 +25,8 @@ use Rattle.operations.specs.declared.Held.{Held}
 use Rattle.operations.specs.declared.Stepped.{Stepped}
 use Rattle.operations.specs.Effect.{applied}
 use Rattle.operations.specs.Judge.{stateRules, opRules}
-use Rattle.operations.specs.Steps.{left, onward, stepOf, Leaves, Turned, Sized, Rising, Columns, stateIn, Ready, StepIs}
+use Rattle.operations.specs.Steps.{left, onward, stepOf}
+use Rattle.operations.specs.Columns.{Leaves, Turned, Sized, Rising, Columns, stateIn, Ready, StepIs}
 
 entries-put : (x : Entry) (l : List Entry) → ascending byIds l ≡ true → ascending byIds (put byIds x l) ≡ true
 entries-put x l h = ascend-from byIds (put byIds x l) (ascending-put byIds x l (ascend-to byIds l h))

@@ -19,7 +19,7 @@ use Rattle.snapshot.specs.Tables.{TableEntry, created, byTable, nameTaken}
 use Rattle.version_state.specs.State.{State, withTables, withPairs, withVectors, withNext}
 use Rattle.operations.specs.declared.Stepped.{Stepped}
 use Rattle.operations.specs.Judge.{isLive, isShown, vectorHeld}
-use Rattle.operations.specs.Steps.{Turned, Leaves}
+use Rattle.operations.specs.Columns.{Turned, Leaves}
 
 -- a table with the next id stands after all others
 create-last : (l : List TableEntry) (n t h : ℕ) (name : List ℕ) → allOf (λ x. ltb (x .table) n) l ≡ true → t ≡ n

@@ -1,25 +1,14 @@
 -- One operation after another: each is judged on what the ones before it left. Assumes nothing.
-use mathlib.Core.Path.{_≡_}
-use mathlib.Core.Bool.{Bool, true}
 use mathlib.Core.List.{List, [], _∷_}
-use Prim.Native.Nat.{ℕ, _+_, _≤_}
-use lib.Dec.{ltb}
-use lib.ListN.{length}
-use Rattle.lists.specs.Keyed.{allOf, ascending}
-use Rattle.ids.specs.Limits.{mostTables, mostHeld}
+use Prim.Native.Nat.{ℕ, _+_}
 use Rattle.ids.specs.declared.refusal.Refusal.{Refusal}
 use Rattle.ids.specs.declared.refusal.Verdict.{Verdict}
 use Rattle.ids.specs.declared.refusal.Verdict.the-variants.{Accepted, Refused}
 use Rattle.ids.specs.Verdicts.{judged}
-use Rattle.columns.specs.Rows.{rows, across, plain}
 use Rattle.manifest.specs.Operations.{Operation}
-use Rattle.snapshot.specs.Entries.{Entry, byIds, entries}
-use Rattle.snapshot.specs.Tables.{TableEntry, byTable, tableRows, Whole}
 use Rattle.version_state.specs.State.{State}
-use Rattle.operations.specs.declared.Held.{Held}
-use Rattle.operations.specs.declared.Stepped.{Stepped}
 use Rattle.operations.specs.Effect.{applied}
-use Rattle.operations.specs.Judge.{stateRules, opRules}
+use Rattle.operations.specs.Judge.{opRules}
 
 -- all were accepted and this is left, or the first refusal
 pub data Outcome : Type 0 where
@@ -42,88 +31,3 @@ stepOf i e o s = onward (judged (opRules i e o s)) (left (applied e o s))
 abbrev pub stepsOf : ℕ → ℕ → List Operation → State → Outcome
 stepsOf i e [] s = left s
 stepsOf i e (o ∷ os) s = andThen (stepOf i e o s) (λ t. stepsOf (i + 1) e os t)
-
--- Internal, as is what follows: the state that stands in columns, each list by its count, beside the numbers h.
-abbrev pub stateHeld : Held → (ℕ → List TableEntry) → (ℕ → List Entry) → (ℕ → List Entry) → State
-stateHeld h ts ps vs =
-    record {
-      epoch = h .epoch;
-      nextTable = h .next .table .0;
-      nextRowset = h .next .rowset .0;
-      nextVector = h .next .vector .0;
-      tables = ts (h .tables);
-      pairs = ps (h .rowsets);
-      vectors = vs (h .vectors);
-      manifest = h .manifest;
-    }
-
--- the outcome is the verdict v; what is left, where it is accepted, is t
-unfoldable pub Leaves : Outcome → Verdict → State → Type 0
-Leaves (left s) v t = (v ≡ Accepted) × (t ≡ s)
-Leaves (stopped k) v t = v ≡ Refused k
-
--- a well-formed operation was judged on s, and applied where it is accepted
-unfoldable pub Turned : ℕ → ℕ → Operation → State → Stepped → State → Type 0
-Turned i e o s r t = Leaves (onward (judged (stateRules i e o s)) (left (applied e o s))) (r .verdict) t
-
--- columns of mostHeld places
-abbrev pub Sized : List (List ℕ) → Type 0
-Sized [] = Unit {0}
-Sized (c ∷ cs) = (length c ≡ mostHeld) × Sized cs
-
--- columns of ids that rise, with a count within them
-pub record Rising (ks : List (List ℕ)) (n : ℕ) : Type 0 where
-  pub fits : n ≤ mostHeld
-  pub rises : ascending plain (rows (across ks) n) ≡ true
-
--- the columns of a state: of its tables, of its pairs, and of its vectors
-pub record Columns : Type 0 where
-  pub ids : List ℕ
-  pub shapes : List ℕ
-  pub lengths : List ℕ
-  pub names : List ℕ
-  pub locked : List Bool
-  pub pairTables : List ℕ
-  pub pairRowsets : List ℕ
-  pub pairAdded : List ℕ
-  pub pairDeleted : List ℕ
-  pub tables : List ℕ
-  pub rowsets : List ℕ
-  pub vectors : List ℕ
-  pub added : List ℕ
-  pub deleted : List ℕ
-
-abbrev pub columns : List ℕ → List ℕ → List ℕ → List ℕ → List Bool → List ℕ → List ℕ → List ℕ → List ℕ → List ℕ → List ℕ → List ℕ → List ℕ → List ℕ → Columns
-columns i s l n k a b c d t r v x y =
-    record { ids = i; shapes = s; lengths = l; names = n; locked = k; pairTables = a; pairRowsets = b; pairAdded = c; pairDeleted = d; tables = t; rowsets = r; vectors = v; added = x; deleted = y }
-
--- the state that stands in columns
-abbrev pub stateIn : Held → Columns → State
-stateIn h c =
-    stateHeld h (tableRows (c .ids) (c .shapes) (c .lengths) (c .names) (c .locked))
-    (entries (c .pairTables ∷ c .pairRowsets ∷ []) (c .pairAdded) (c .pairDeleted))
-    (entries (c .tables ∷ c .rowsets ∷ c .vectors ∷ []) (c .added) (c .deleted))
-
--- the state s stands in columns, its counts within the limits
-pub record Stands (h : Held) (c : Columns) (s : State) : Type 0 where
-  pub fewTables : h .tables ≤ mostTables
-  pub fewRowsets : h .rowsets ≤ mostHeld
-  pub fewVectors : h .vectors ≤ mostHeld
-  pub state : stateIn h c ≡ s
-
--- what a step needs: columns of their arrays' lengths, counts within the limits, lists that rise, and tables below the next id
-pub record Ready (h : Held) (c : Columns) : Type 0 where
-  pub whole : Whole (c .ids) (c .shapes) (c .lengths) (c .names) (c .locked)
-  pub sized : Sized (c .pairTables ∷ c .pairRowsets ∷ c .pairAdded ∷ c .pairDeleted ∷ c .tables ∷ c .rowsets ∷ c .vectors ∷ c .added ∷ c .deleted ∷ [])
-  pub fewTables : h .tables ≤ mostTables
-  pub fewRowsets : h .rowsets ≤ mostHeld
-  pub fewVectors : h .vectors ≤ mostHeld
-  pub tables : ascending byTable (stateIn h c .tables) ≡ true
-  pub pairs : ascending byIds (stateIn h c .pairs) ≡ true
-  pub vectors : ascending byIds (stateIn h c .vectors) ≡ true
-  pub below : allOf (λ t. ltb (t .table) (stateIn h c .nextTable)) (stateIn h c .tables) ≡ true
-
--- a step is accepted and the columns hold what is left, ready for the next, or it is refused
-unfoldable pub StepIs : Outcome → Stepped → Columns → Type 0
-StepIs (left s) r c = (r .verdict ≡ Accepted) × (stateIn (r .held) c ≡ s) × Ready (r .held) c
-StepIs (stopped k) r c = r .verdict ≡ Refused k

@@ -11,7 +11,8 @@ ghost use mathlib.Core.Path.{_≡_};
 ghost use mathlib.Core.Bool.{true};
 ghost use Rattle.manifest.specs.Operations.{operationOf, wellFormed};
 ghost use Rattle.operations.specs.Laws.{JudgedAlike};
-ghost use Rattle.operations.specs.Steps.{stepOf, columns, stateIn, Ready, StepIs};
+ghost use Rattle.operations.specs.Steps.{stepOf};
+ghost use Rattle.operations.specs.Columns.{columns, stateIn, Ready, StepIs};
 
 pub mod pairs;
 pub mod tables;

@@ -19,7 +19,7 @@ ghost use Rattle.manifest.specs.Operations.{addRowset, deleteRowset};
 ghost use Rattle.snapshot.specs.Entries.{Entry, entries, shownAt};
 ghost use Rattle.snapshot.specs.Tables.{TableEntry, tableRows};
 ghost use Rattle.operations.specs.Judge.{isShown};
-ghost use Rattle.operations.specs.Steps.{stateHeld, Turned, Sized, Rising};
+ghost use Rattle.operations.specs.Columns.{stateHeld, Turned, Sized, Rising};
 
 // Whether the pair stands at a place, and the epoch shows it.
 fn shown_at<'a>(

@@ -17,7 +17,7 @@ ghost use Rattle.lists.specs.Keyed.{allOf};
 ghost use Rattle.manifest.specs.Operations.{createTable, dropTable};
 ghost use Rattle.snapshot.specs.Entries.{Entry};
 ghost use Rattle.snapshot.specs.Tables.{tableRows, Whole};
-ghost use Rattle.operations.specs.Steps.{stateHeld, Turned};
+ghost use Rattle.operations.specs.Columns.{stateHeld, Turned};
 
 // `T`.
 pub fn create(

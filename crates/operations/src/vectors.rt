@@ -19,7 +19,7 @@ ghost use Rattle.columns.specs.Rows.{rows, column, across};
 ghost use Rattle.manifest.specs.Operations.{addVector, deleteVector};
 ghost use Rattle.snapshot.specs.Entries.{Entry, byIds, addedAt, entries, shownAt};
 ghost use Rattle.snapshot.specs.Tables.{TableEntry};
-ghost use Rattle.operations.specs.Steps.{stateHeld, Turned, Sized, Rising};
+ghost use Rattle.operations.specs.Columns.{stateHeld, Turned, Sized, Rising};
 
 // Whether a vector of any table has the id.
 fn numbered(vectors: &[u64; MOST_HELD], count: usize, vector: VectorNo) -> bool

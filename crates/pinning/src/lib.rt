@@ -179,13 +179,10 @@ pub fn after_unpin(manager: VersionManager, book: PinBook, epoch: u32) -> UnpinS
     let left = place.pins - 1;
     let next = counts::recounted(book, place, epoch, left);
     let due = is_due(epoch, current, left);
-    let ready = ready(
-        &manager.inner.rowsets.deleted,
-        manager.inner.rowsets.count,
-        current,
-        next,
-        due,
-    );
+    // One column is moved out: lending it from the manager would keep a copy of the whole.
+    let rowsets = manager.inner.rowsets;
+    let deleted = rowsets.deleted;
+    let ready = ready(&deleted, rowsets.count, current, next, due);
     UnpinStep {
         book: next,
         answer: UnpinAnswer::Unpinned(due, ready),

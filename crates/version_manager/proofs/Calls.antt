@@ -21,7 +21,8 @@ use Rattle.manifest.specs.Operations.{Operation, operationOf, batchOf}
 use Rattle.snapshot.specs.Entries.{field}
 use Rattle.version_state.specs.State.{State}
 use Rattle.pins.specs.declared.PinBook.{PinBook}
-use Rattle.operations.specs.Steps.{Outcome, left, stopped, onward, Columns, Stands}
+use Rattle.operations.specs.Steps.{Outcome, left, stopped, onward}
+use Rattle.operations.specs.Columns.{Columns, Stands}
 use Rattle.frames.specs.Frames.{textsOf}
 use Rattle.commit.specs.declared.Done.{Done}
 use Rattle.commit.specs.Commit.{commitOf, CommitIs}

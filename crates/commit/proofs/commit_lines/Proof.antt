@@ -9,7 +9,7 @@ use lib.ListN.{length}
 use Rattle.lists.specs.Written.{over}
 use Rattle.lists.proofs.Places.{known}
 use Rattle.ids.specs.Limits.{mostOperations, longestManifest}
-use Rattle.operations.specs.Steps.{columns, stateIn}
+use Rattle.operations.specs.Columns.{columns, stateIn}
 use Rattle.operations.proofs.Keeps.{rising-pairs}
 use Rattle.commit.specs.Lent.{operationsIn}
 use Rattle.commit.proofs.Calls.{too-many, too-late, rising-tables, sorted-vectors, commit-off, commit-on}

@@ -9,7 +9,8 @@ use Rattle.lists.proofs.Tests.{both}
 use Rattle.manifest.specs.Operations.{operationOf, wellFormed}
 use Rattle.snapshot.specs.Entries.{entries}
 use Rattle.snapshot.specs.Tables.{tableRows}
-use Rattle.operations.specs.Steps.{StepIs, stepOf}
+use Rattle.operations.specs.Steps.{stepOf}
+use Rattle.operations.specs.Columns.{StepIs}
 use Rattle.operations.proofs.Keeps.{rising-pairs, rising-vectors, turned-step}
 use Rattle.operations.proofs.step.Statement.{statement}
 use Rattle.operations.proofs.step.Tie as tie

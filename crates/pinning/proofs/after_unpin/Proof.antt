@@ -17,7 +17,7 @@ use Rattle.pinning.proofs.after_unpin.Tie as tie
 
 -- what is known where 29 and 28 let pass
 abbrev manager : tie.After-enum-told → VersionManager
-manager e = e .before .before .before .args .t1
+manager e = e .before .before .before .args .manager
 
 abbrev book : tie.After-enum-told → PinBook
 book e = e .before .before .before .args .book
@@ -47,7 +47,7 @@ enum-known-verdict c = search known
 returns : tie.Need-returns
 returns c =
     let a = c .before .before .before .before .args in
-    unpin-refuses (a .t1) (a .book) (a .epoch) _ (unpin-early (a .t1) (a .book) (a .epoch) _ (sym (c .before .before .before .judge .ensures) ∙ c .before .verdict .given .1))
+    unpin-refuses (a .manager) (a .book) (a .epoch) _ (unpin-early (a .manager) (a .book) (a .epoch) _ (sym (c .before .before .before .judge .ensures) ∙ c .before .verdict .given .1))
 
 enum-told : tie.Need-enum-told
 enum-told c = search known
@@ -71,16 +71,16 @@ is-due-requires c κs = search known
 
 ready-requires : tie.Need-ready-requires
 ready-requires c κs =
-    let f = c .before .before .before .before .before in
+    let f = c .before .before .before .before .before .before in
     let e = came f in
-    (known-then f .fits .rowsets, unpinned-good (manager e) (epoch e) (book e) _ (accepted f) (rw (f .before .before .find .ensures .count) at (c .before .before .before .recounted .ensures)))
+    (known-then f .fits .rowsets, unpinned-good (manager e) (epoch e) (book e) _ (accepted f) (rw (f .before .before .find .ensures .count) at (c .before .before .before .before .recounted .ensures)))
 
 returns-3 : tie.Need-returns-3
 returns-3 c =
-    let f = c .before .before .before .before .before .before in
+    let f = c .before .before .before .before .before .before .before in
     let e = came f in
-    let due = c .before .before .before .is-due in
-    unpin-accepts (manager e) (book e) (epoch e) _ _ _ (accepted f) (rw (f .before .before .find .ensures .count) at (due .ensures)) (at-most (due .result) (c .ready .result) _ (c .ready .ensures ∙ ap (λ (n : ℕ). cond (due .result) n 0) (counted-list _ (manager e .inner)))) (rw (f .before .before .find .ensures .count) at (c .before .before .before .before .recounted .ensures))
+    let due = c .before .before .before .before .is-due in
+    unpin-accepts (manager e) (book e) (epoch e) _ _ _ (accepted f) (rw (f .before .before .find .ensures .count) at (due .ensures)) (at-most (due .result) (c .ready .result) _ (c .ready .ensures ∙ ap (λ (n : ℕ). cond (due .result) n 0) (counted-list _ (manager e .inner)))) (rw (f .before .before .find .ensures .count) at (c .before .before .before .before .before .recounted .ensures))
 
 pub after-unpin-spec : {M : Type 1} → statement M
 after-unpin-spec =
