@@ -8,7 +8,6 @@ use Rattle.manifest.specs.Operations.{Operation}
 use Rattle.manifest.specs.Split.{restOn, lines}
 use Rattle.frames.specs.Frames.{frameOf}
 use Rattle.version_state.specs.declared.VersionManagerInner.{VersionManagerInner}
-use Rattle.ids.specs.Limits.{longestManifest}
 use Rattle.version_state.specs.State.{State, start, stateOf, Hands}
 use Rattle.version_state.specs.Sound.{badInner}
 use Rattle.operations.specs.Effect.{applied}
