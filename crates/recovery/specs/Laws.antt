@@ -31,7 +31,7 @@ pub record AppendLaws : Type 0 where
       → Holds src s → allOf wellFormed os ≡ true → length os ≤ mostOperations → k < length (frameOf os)
       → length (src ++ take k (frameOf os)) ≤ longestManifest
       → replayOf (src ++ take k (frameOf os)) ≡ given s
-  -- what accepted commits have written is never refused, and holds no vector whose rowset is gone
+  -- what the port wrote is never refused, and holds no vector whose rowset is gone
   pub made : (src : List ℕ) (m : VersionManagerInner) → Appended src m → length src ≤ longestManifest
       → (s : State) × (Holds src s × (setsOf (stateOf m) ≡ setsOf s) × (replayOf src ≡ given s))
 

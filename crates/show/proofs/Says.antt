@@ -43,11 +43,11 @@ module _ (ks : List (List ℕ)) (a d : List ℕ) (n e r : ℕ) (ps : List ℕ) (
 
 module _ (s : State) (b : PinBook) (u w : Bool) where
   pub book-bad : badBook (s .epoch) b ≡ true → judged (showRules s b u w) ≡ Refused BadPinBook
-  book-bad h = refused-at [] (badBook (s .epoch) b) BadPinBook _ tt h
+  book-bad h = refused-at [] (badBook (s .epoch) b) BadPinBook ((u ⇒ EpochNotPinned) ∷ (w ⇒ OutputTooShort) ∷ []) tt h
 
   module _ (h : badBook (s .epoch) b ≡ false) where
     pub not-seen : u ≡ true → judged (showRules s b u w) ≡ Refused EpochNotPinned
-    not-seen k = refused-at ((badBook (s .epoch) b ⇒ BadPinBook) ∷ []) u EpochNotPinned _ (h, tt) k
+    not-seen k = refused-at ((badBook (s .epoch) b ⇒ BadPinBook) ∷ []) u EpochNotPinned ((w ⇒ OutputTooShort) ∷ []) (h, tt) k
 
     pub too-short : u ≡ false → w ≡ true → judged (showRules s b u w) ≡ Refused OutputTooShort
     too-short k l = refused-at ((badBook (s .epoch) b ⇒ BadPinBook) ∷ (u ⇒ EpochNotPinned) ∷ []) w OutputTooShort [] (h, (k, tt)) l

@@ -51,7 +51,7 @@ module _ (m : VersionManagerInner) (up : ascending byIds (stateOf m .pairs) ≡ 
 
 module _ (s : State) (b : PinBook) (ts rs : List ℕ) where
   pub book-bad : badBook (s .epoch) b ≡ true → Refused BadPinBook ≡ judged (vacuumRules s b (length ts) (length rs))
-  book-bad h = sym (refused-at [] (badBook (s .epoch) b) BadPinBook _ tt h)
+  book-bad h = sym (refused-at [] (badBook (s .epoch) b) BadPinBook ((tooShort s b (length ts) (length rs) ⇒ OutputTooShort) ∷ []) tt h)
 
   module _ (n : ℕ) (counted : n ≡ length (listOf s b)) (h : badBook (s .epoch) b ≡ false) where
     pub tables-short : length ts < n → Refused OutputTooShort ≡ judged (vacuumRules s b (length ts) (length rs))
