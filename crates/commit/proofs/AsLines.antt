@@ -27,7 +27,7 @@ use Rattle.operations.specs.Judge.{opRules}
 use Rattle.operations.specs.Steps.{Outcome, left, stopped, onward, andThen, stepOf, stepsOf}
 use Rattle.frames.specs.Frames.{textsOf}
 use Rattle.commit.specs.Commit.{firstRules, finishOf, commitOf}
-use Rattle.commit.specs.Lent.{operationSaid, asLine, unended, operationsIn}
+use Rattle.commit.specs.Lent.{operationSaid, asLine, operationsIn}
 use Rattle.commit.proofs.Lent.{accepted-all, texts-short}
 use Rattle.commit.proofs.Sounds.{accepts}
 

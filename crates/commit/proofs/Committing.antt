@@ -3,7 +3,6 @@ use mathlib.Core.Path.{_≡_, sym, ap, _∙_}
 use mathlib.Core.Bool.{true, false}
 use mathlib.Core.List.{List}
 use Prim.Native.Nat.{ℕ, _+_, _≤_, _<_}
-use native.Mathlib.Omega.{arith}
 use lib.ListN.{length}
 use Rattle.ids.specs.Limits.{mostOperations, lastEpoch, longestManifest}
 use Rattle.ids.specs.declared.refusal.Verdict.{Verdict}
@@ -15,7 +14,7 @@ use Rattle.operations.specs.declared.Stepped.{Stepped}
 use Rattle.operations.specs.Steps.{left, stepsOf}
 use Rattle.operations.specs.Columns.{Columns, stateIn, Ready, StepIs}
 use Rattle.frames.specs.Frames.{frameOf}
-use Rattle.commit.specs.Commit.{lastRules, finishOf, commitOf}
+use Rattle.commit.specs.Commit.{lastRules, commitOf}
 use Rattle.commit.specs.Lent.{operationsIn}
 use Rattle.commit.proofs.Stepwise.{Halts, went, halted, steps-manifest}
 use Rattle.commit.proofs.Calls.{begun, steps-off, ended-off, end-off, end-on, end-room}

@@ -1,28 +1,26 @@
 -- What an older epoch shows is untouched by a commit. Assumes nothing.
-use mathlib.Core.Path.{_≡_, refl, sym, ap, subst, _∙_}
-use mathlib.Core.Bool.{Bool, true, false, not, cond, _&&_, _||_}
+use mathlib.Core.Path.{_≡_, refl, sym, ap, _∙_}
+use mathlib.Core.Bool.{true, false}
 use mathlib.Core.List.{List, [], _∷_, map}
 use Prim.Native.Nat.{ℕ, _+_, _<_, _≤_}
 use native.Mathlib.Omega.{arith}
-use lib.Dec.{leb, ltb, eqb}
-use lib.ListN.{length, getD}
-use borrow.Author.Tests.{leb-true, leb-false, le-leb, lt-leb, eqb-true, eqb-false, ne-eqb, not-false}
-use Rattle.lists.specs.Order.{same}
-use Rattle.lists.specs.Keyed.{keep, anyOf, isAt, has, put, placed, changed}
+use lib.Dec.{leb, eqb}
+use borrow.Author.Tests.{leb-false, lt-leb, ne-eqb, not-false}
+use Rattle.lists.specs.Keyed.{keep, isAt, has, put, changed}
 use Rattle.lists.proofs.Tests.{by-cases, clash, neither}
-use Rattle.lists.proofs.Order.{same-true, same-refl, same-eq}
-use Rattle.lists.proofs.Keyed.{All, all-map, Ascending, ascend-to, after-absent, put-new, keep-placed-out, has-without}
+use Rattle.lists.proofs.Order.{same-true}
+use Rattle.lists.proofs.Keyed.{All, Ascending, ascend-to, after-absent, put-new, keep-placed-out}
 use Rattle.ids.specs.declared.refusal.Verdict.the-variants.{Accepted}
 use Rattle.ids.specs.Verdicts.{judged}
 use Rattle.ids.proofs.Verdicts.{none-judged}
 use Rattle.manifest.specs.Operations.{Operation, createTable, dropTable, addRowset, deleteRowset, addVector, deleteVector, nextIds}
-use Rattle.snapshot.specs.Entries.{Entry, addedAt, deletedAt, byIds, goneAt, shownAt, goneBy, shownBy, shown}
+use Rattle.snapshot.specs.Entries.{Entry, addedAt, deletedAt, byIds, goneAt, shownAt, shownBy, shown}
 use Rattle.version_state.specs.declared.VersionManagerInner.{VersionManagerInner}
 use Rattle.version_state.specs.State.{State, stateOf, pairsAt, vectorsAt}
 use Rattle.version_state.specs.Sound.{badInner}
 use Rattle.version_state.proofs.Facts.{Ordered, sound-of}
 use Rattle.operations.specs.Effect.{applied}
-use Rattle.operations.specs.Judge.{opRules, isShown, vectorHeld}
+use Rattle.operations.specs.Judge.{opRules, isShown}
 use Rattle.operations.specs.Steps.{left}
 use Rattle.commit.specs.Commit.{commitOf}
 use Rattle.operations.proofs.Keeps.{ordered-applied}

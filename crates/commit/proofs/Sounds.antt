@@ -1,26 +1,26 @@
 -- What an accepted commit leaves passes 29. Assumes nothing.
-use mathlib.Core.Path.{_≡_, refl, sym, ap, subst, _∙_}
-use mathlib.Core.Bool.{Bool, true, false, not, cond, _&&_, _||_}
-use mathlib.Core.List.{List, [], _∷_, map}
+use mathlib.Core.Path.{_≡_, refl, sym, subst, _∙_}
+use mathlib.Core.Bool.{true, false, cond, _&&_}
+use mathlib.Core.List.{List, [], _∷_}
 use Prim.Native.Nat.{ℕ, _+_, _<_, _≤_, max}
 use native.Mathlib.Omega.{arith}
-use lib.Dec.{leb, ltb, eqb}
+use lib.Dec.{leb, ltb}
 use lib.ListN.{length, getD}
-use borrow.Author.Tests.{ltb-true, ltb-false, leb-true, leb-false, lt-ltb, le-leb, le-ltb, not-false}
+use borrow.Author.Tests.{ltb-false, leb-false, lt-ltb, not-false}
 use Rattle.lists.specs.Order.{same}
-use Rattle.lists.specs.Keyed.{keep, allOf, isAt, has, put, without, changed}
-use Rattle.lists.proofs.Tests.{by-cases, clash, both, join}
+use Rattle.lists.specs.Keyed.{keep, allOf, isAt, has, changed}
+use Rattle.lists.proofs.Tests.{by-cases, clash, both}
 use Rattle.lists.proofs.Order.{same-true}
 use Rattle.lists.proofs.Keyed.{All, all-map, allOf-all, all-allOf, all-put, all-keep, all-mapped}
 use Rattle.text.specs.Name.{isName}
 use Rattle.ids.specs.Ids.{isId32, largest32}
 use Rattle.ids.specs.declared.refusal.Verdict.{Verdict}
 use Rattle.ids.specs.declared.refusal.Verdict.the-variants.{Accepted, Refused}
-use Rattle.ids.specs.Verdicts.{Rule, judged}
-use Rattle.ids.proofs.Verdicts.{Passed, none-judged}
-use Rattle.manifest.specs.Operations.{Operation, createTable, dropTable, addRowset, deleteRowset, addVector, deleteVector, nextIds, wellFormed}
+use Rattle.ids.specs.Verdicts.{judged}
+use Rattle.ids.proofs.Verdicts.{none-judged}
+use Rattle.manifest.specs.Operations.{Operation, createTable, dropTable, addRowset, deleteRowset, addVector, deleteVector, nextIds}
 use Rattle.snapshot.specs.Entries.{Entry, addedAt, deletedAt, byIds, belowNext, within, shownBy}
-use Rattle.snapshot.specs.Tables.{TableEntry, created, byTable}
+use Rattle.snapshot.specs.Tables.{created, byTable}
 use Rattle.version_state.specs.declared.VersionManagerInner.{VersionManagerInner}
 use Rattle.ids.specs.Limits.{mostOperations, lastEpoch, longestManifest}
 use Rattle.version_state.specs.State.{State, stateOf, withEpoch, Hands}
@@ -28,7 +28,7 @@ use Rattle.version_state.specs.Sound.{leftBehind, badInner}
 use Rattle.version_state.proofs.Within.{Within, within-of, of-within, within-up}
 use Rattle.version_state.proofs.Facts.{Ordered, Sound, sound-of, of-sound}
 use Rattle.operations.specs.Effect.{applied}
-use Rattle.operations.specs.Judge.{opRules, stateRules, isLive, isShown}
+use Rattle.operations.specs.Judge.{opRules, isLive, isShown}
 use Rattle.operations.specs.Steps.{Outcome, left, stopped, onward, andThen, stepsOf}
 use Rattle.frames.specs.Frames.{frameOf}
 use Rattle.commit.specs.Commit.{firstRules, lastRules, finishOf, commitOf}

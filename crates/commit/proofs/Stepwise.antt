@@ -1,5 +1,5 @@
 -- What the steps keep: order, the manifest's length; and a turn of a loop over them. Assumes nothing.
-use mathlib.Core.Path.{_≡_, refl, sym, ap, subst, _∙_}
+use mathlib.Core.Path.{_≡_, refl, sym, ap, _∙_}
 use mathlib.Core.Bool.{true, false, true≢false}
 use mathlib.Core.List.{List, [], _∷_}
 use Prim.Native.Nat.{ℕ, _+_}
@@ -10,9 +10,7 @@ use Rattle.ids.specs.declared.refusal.Verdict.the-variants.{Accepted, Refused}
 use Rattle.ids.specs.Verdicts.{judged, isAccepted}
 use Rattle.manifest.specs.Operations.{Operation, createTable, dropTable, addRowset, deleteRowset, addVector, deleteVector, nextIds}
 use Rattle.version_state.specs.State.{State}
-use Rattle.version_state.proofs.Facts.{Ordered}
 use Rattle.operations.specs.declared.Stepped.{Stepped}
-use Rattle.operations.proofs.Keeps.{ordered-applied}
 use Rattle.operations.specs.Effect.{applied}
 use Rattle.operations.specs.Judge.{opRules}
 use Rattle.operations.specs.Steps.{Outcome, left, stopped, onward, andThen, stepOf, stepsOf}
@@ -81,9 +79,6 @@ module _ (i e : ℕ) (o : Operation) (os : List Operation) (s : State) (r : Step
 
   pub turn-on : isAccepted (r .verdict) ≡ true → stepsOf i e (o ∷ os) s ≡ stepsOf (i + 1) e os (stateIn (r .held) c)
   turn-on a = ap (λ (x : Outcome). andThen x (λ t. stepsOf (i + 1) e os t)) (went (stepOf i e o s) r c told a .0)
-
-pub steps-ordered : (e : ℕ) (os : List Operation) (s t : State) → Ordered s → stepsOf 0 e os s ≡ left t → Ordered t
-steps-ordered e os s t = steps-keep Ordered e (λ i o u p a. ordered-applied e o u p) 0 os s t
 
 pub steps-manifest : (e : ℕ) (os : List Operation) (s t : State) → stepsOf 0 e os s ≡ left t → t .manifest ≡ s .manifest
 steps-manifest e os s t h = steps-keep (λ u. u .manifest ≡ s .manifest) e (λ i o u p a. manifest-applied e o u ∙ p) 0 os s t refl h

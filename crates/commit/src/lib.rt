@@ -34,7 +34,7 @@ pub struct Done {
 }
 
 // The laws of an accepted commit.
-pub fn keeps()
+pub fn holds()
     ensures { λ _. ⌜ CommitLaws ⌝ }
 {}
 

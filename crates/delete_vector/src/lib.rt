@@ -130,6 +130,6 @@ pub fn apply_to(rows: &[u32], bits: &mut [u8], offset: RowNo) -> Masked
 }
 
 // The laws of the definitions, held to by the check.
-pub fn laws()
+pub fn holds()
     ensures { λ _. ⌜ Laws ⌝ }
 {}

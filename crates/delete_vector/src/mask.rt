@@ -20,17 +20,15 @@ pub fn row_at(offset: RowNo, i: usize) -> RowNo
 fn clear(bits: &mut [u8], offset: RowNo, row: RowNo)
     ensures { λ r. ⌜ now (bits .exit) ≡ masked (isIn (row .0 ∷ [])) (offset .0) (now (bits .entry)) ⌝ }
 {
-    if row.0 < offset.0 {
-        return;
-    }
     let i = std::num::wrapping_sub_u32(row.0, offset.0) as usize;
     if i >= bits.len() {
         return;
     }
     let here = row_at(offset, i);
-    if here.0 == row.0 {
-        bits[i] = 0;
+    if here.0 < offset.0 {
+        return;
     }
+    bits[i] = 0;
 }
 
 // Internal: one pass over the rows.

@@ -1,15 +1,13 @@
 -- Laws of ordered lists of rules. Assumes nothing.
-use mathlib.Core.Path.{_≡_, refl, sym, ap, _∙_}
-use mathlib.Core.Bool.{Bool, true, false, cond}
+use mathlib.Core.Path.{_≡_, refl}
+use mathlib.Core.Bool.{Bool, true, false}
 use mathlib.Core.List.{List, [], _∷_, _++_}
 use Prim.Native.Nat.{ℕ}
 use native.Mathlib.Omega.{arith}
-use Rattle.lists.proofs.Tests.{by-cases}
 use Rattle.lists.proofs.Keyed.{All}
 use Rattle.ids.specs.declared.refusal.Refusal.{Refusal}
-use Rattle.ids.specs.declared.refusal.Verdict.{Verdict}
 use Rattle.ids.specs.declared.refusal.Verdict.the-variants.{Accepted, Refused}
-use Rattle.ids.specs.Verdicts.{Rule, _⇒_, judged, isAccepted, orElse}
+use Rattle.ids.specs.Verdicts.{Rule, _⇒_, judged, orElse}
 
 -- the rule's condition does not hold
 abbrev pub Passed : Rule → Type 0
@@ -33,22 +31,7 @@ none-judged [] h = tt
 none-judged ((true ⇒ r) ∷ l) h = absurd (never h)
 none-judged ((false ⇒ r) ∷ l) h = (refl, none-judged l h)
 
--- refused by a rule whose condition holds, and no condition before it does
-pub record Refuses (r : Refusal) (l : List Rule) : Type 0 where
-  pub before : List Rule
-  pub after : List Rule
-  pub split : l ≡ before ++ ((true ⇒ r) ∷ after)
-  pub passed : All Passed before
-
-pub judged-refused : (l : List Rule) (r : Refusal) → judged l ≡ Refused r → Refuses r l
-judged-refused [] r h = absurd (never (sym h))
-judged-refused ((true ⇒ q) ∷ l) r h =
-    let e : q ≡ r = cc in
-    record { before = []; after = l; split = ap (λ (x : Refusal). (true ⇒ x) ∷ l) e; passed = tt }
-judged-refused ((false ⇒ q) ∷ l) r h =
-    let s = judged-refused l r h in
-    record { before = (false ⇒ q) ∷ s .before; after = s .after; split = ap (λ (x : List Rule). (false ⇒ q) ∷ x) (s .split); passed = (refl, s .passed) }
-
-pub accepted-is : (v : Verdict) → isAccepted v ≡ true → v ≡ Accepted
-accepted-is Accepted h = refl
-accepted-is (Refused r) h = absurd (mathlib.Core.Bool.false≢true h)
+-- refused by the first rule whose condition holds: none before it does
+pub refused-at : (before : List Rule) (b : Bool) (r : Refusal) (after : List Rule) → All Passed before → b ≡ true → judged (before ++ ((b ⇒ r) ∷ after)) ≡ Refused r
+refused-at [] b r after p h = rw h
+refused-at ((c ⇒ q) ∷ before) b r after p h = rw (p .0) (refused-at before b r after (p .1) h)

@@ -2,4 +2,3 @@ pub mod Fields
 pub mod Texts
 pub mod Split
 pub mod Lines
-pub mod Examples

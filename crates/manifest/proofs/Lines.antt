@@ -218,12 +218,6 @@ module _ (s : List ℕ) where
   pub end-parse : lineOf s ≡ end → s ≡ lineText end
   end-parse e = rw e at says
 
-  pub well-parse : (l : Line) → wellLine l ≡ true → lineOf s ≡ l → s ≡ lineText l
-  well-parse begin w e = begin-parse e
-  well-parse end w e = end-parse e
-  well-parse (operation o) w e = text-parse o e .1
-  well-parse bad w e = clash w refl
-
 -- Lines of each kind.
 pub parse-line : (l : Line) → wellLine l ≡ true → lineOf (lineText l) ≡ l
 parse-line begin w = parse-begin

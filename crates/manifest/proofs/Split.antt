@@ -61,20 +61,10 @@ rest-none = refl
 pub rest-ended : (a : List ℕ) → restOn [] (a ++ (10 ∷ [])) ≡ []
 rest-ended a = rest-newline [] a
 
-pub lines-ended : (a b : List ℕ) → lines ((a ++ (10 ∷ [])) ++ b) ≡ lines (a ++ (10 ∷ [])) ++ lines b
-lines-ended a b = lines-append (a ++ (10 ∷ [])) b (rest-ended a)
-
 on-one : (so l : List ℕ) → OneLine l → linesOn so l ≡ []
 unfolding linesOn
 on-one so [] o = refl
 on-one so (b ∷ l) o = let n = neither (isNewline b) (anyOf isNewline l) o in rw (n .0) (on-one (so ++ (b ∷ [])) l (n .1))
-
-rest-one : (so l : List ℕ) → OneLine l → restOn so l ≡ so ++ l
-unfolding restOn
-rest-one so [] o = sym (append-nil so)
-rest-one so (b ∷ l) o =
-    let n = neither (isNewline b) (anyOf isNewline l) o in
-    rw (n .0) (rest-one (so ++ (b ∷ [])) l (n .1) ∙ append-assoc so (b ∷ []) l)
 
 one-take : (k : ℕ) (l : List ℕ) → OneLine l → OneLine (take k l)
 one-take zero l o = refl
@@ -85,9 +75,6 @@ one-take (suc k) (b ∷ l) o = let n = neither (isNewline b) (anyOf isNewline l)
 pub lines-unfinished : (l : List ℕ) → OneLine l → lines l ≡ []
 unfolding lines
 lines-unfinished l o = on-one [] l o
-
-pub rest-unfinished : (l : List ℕ) → OneLine l → restOn [] l ≡ l
-rest-unfinished l o = rest-one [] l o
 
 -- a proper first part of a line with its newline has no line
 pub lines-prefix : (l : List ℕ) (k : ℕ) → OneLine l → k < length (l ++ (10 ∷ [])) → lines (take k (l ++ (10 ∷ []))) ≡ []

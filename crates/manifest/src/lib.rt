@@ -7,6 +7,6 @@ pub mod printer;
 pub mod reader;
 
 // The laws of lines.
-pub fn agrees()
+pub fn holds()
     ensures { λ _. ⌜ LinesAgree ⌝ }
 {}

@@ -1,8 +1,8 @@
 -- What an epoch shows is told at a key's place, and what an operation does to entries in columns. Assumes nothing.
 use mathlib.Core.Path.{_≡_, refl, sym, ap, _∙_}
-use mathlib.Core.Bool.{Bool, true, false, _&&_, _||_}
+use mathlib.Core.Bool.{Bool, true, false, _&&_}
 use mathlib.Core.List.{List, [], _∷_}
-use Prim.Native.Nat.{ℕ, _+_, _≤_, _<_}
+use Prim.Native.Nat.{ℕ, _≤_, _<_}
 use native.Mathlib.Omega.{arith}
 use native.Mathlib.Numerals.{add-one}
 use lib.Dec.{ltb, eqb}
@@ -10,7 +10,7 @@ use lib.ListN.{length, getD, set}
 use borrow.Author.Tests.{ltb-true, eqb-false}
 use Rattle.ids.specs.Limits.{mostHeld}
 use Rattle.lists.specs.Order.{less, same}
-use Rattle.lists.specs.Keyed.{keep, anyOf, isAt, has, changed, ascending, rank}
+use Rattle.lists.specs.Keyed.{keep, anyOf, isAt, has, changed, rank}
 use Rattle.lists.proofs.Tests.{by-cases, both, neither}
 use Rattle.lists.proofs.Order.{same-true, less-same}
 use Rattle.lists.proofs.Keyed.{anyOf-map, Ascending, ascend-to, after-absent}

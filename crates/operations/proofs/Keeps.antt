@@ -1,14 +1,14 @@
 -- What an accepted operation keeps: order, lengths within the limits, tables below the next id; and so a step's columns are ready for the next. Assumes nothing.
-use mathlib.Core.Path.{_≡_, refl, sym, ap, subst, _∙_}
-use mathlib.Core.Bool.{true, false}
+use mathlib.Core.Path.{_≡_, refl, sym, subst, _∙_}
+use mathlib.Core.Bool.{true}
 use mathlib.Core.List.{List, [], _∷_}
 use Prim.Native.Nat.{ℕ, _+_, _≤_, max}
 use native.Mathlib.Omega.{arith}
 use lib.Dec.{ltb}
 use lib.ListN.{length, length-map}
 use borrow.Author.Tests.{ltb-true, lt-ltb, leb-false}
-use Rattle.lists.specs.Keyed.{allOf, put, without, changed, ascending}
-use Rattle.lists.proofs.Keyed.{All, all-map, allOf-all, all-allOf, all-put, all-keep, Ascending, ascend-to, ascend-from, ascending-put, ascending-keep, ascending-changed, length-keep, length-put}
+use Rattle.lists.specs.Keyed.{put, without, changed, ascending}
+use Rattle.lists.proofs.Keyed.{All, all-map, allOf-all, all-allOf, all-put, all-keep, ascend-to, ascend-from, ascending-put, ascending-keep, ascending-changed, length-keep, length-put}
 use Rattle.ids.specs.Limits.{mostTables, mostHeld}
 use Rattle.ids.specs.declared.refusal.Verdict.{Verdict}
 use Rattle.ids.specs.declared.refusal.Verdict.the-variants.{Accepted, Refused}

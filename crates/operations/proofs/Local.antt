@@ -4,16 +4,15 @@ use mathlib.Core.Bool.{Bool, true, false, _&&_}
 use mathlib.Core.List.{List, [], _∷_}
 use Prim.Native.Nat.{ℕ}
 use lib.Dec.{eqb}
-use lib.ListN.{length, getD}
+use lib.ListN.{getD}
 use Rattle.lists.specs.Order.{same}
 use Rattle.lists.specs.Keyed.{keep, has}
 use Rattle.lists.proofs.Tests.{by-cases}
 use Rattle.lists.proofs.Keyed.{all-any, keep-keep, keep-same}
-use Rattle.manifest.specs.Operations.{Operation, createTable, dropTable, addRowset, deleteRowset, addVector, deleteVector, nextIds}
+use Rattle.manifest.specs.Operations.{createTable, dropTable, addRowset, deleteRowset, addVector, deleteVector, nextIds}
 use Rattle.snapshot.specs.Entries.{Entry, byIds, shownBy}
-use Rattle.version_state.specs.State.{State}
 use Rattle.operations.specs.Judge.{isShown}
-use Rattle.operations.specs.Laws.{ofTable, Alike, JudgedAlike}
+use Rattle.operations.specs.Laws.{ofTable, JudgedAlike}
 
 apart : (t : ℕ) (k j : List ℕ) → eqb (getD j 0 0) t ≡ false → same j (t ∷ k) ≡ false
 apart t k [] h = refl

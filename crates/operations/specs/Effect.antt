@@ -1,5 +1,5 @@
 -- What an operation does to the sets at an epoch, and to the next ids: one definition, for a commit and for a replay. Assumes nothing.
-use mathlib.Core.List.{List, [], _∷_}
+use mathlib.Core.List.{[], _∷_}
 use Prim.Native.Nat.{ℕ, _+_, max}
 use Rattle.lists.specs.Keyed.{put, without, changed}
 use Rattle.manifest.specs.Operations.{Operation, createTable, dropTable, addRowset, deleteRowset, addVector, deleteVector, nextIds}

@@ -9,7 +9,7 @@ use Rattle.ids.specs.declared.refusal.Refusal.the-variants.{Malformed, TableNot
 use Rattle.ids.specs.Verdicts.{Rule, _⇒_}
 use Rattle.manifest.specs.Operations.{Operation, createTable, dropTable, addRowset, deleteRowset, addVector, deleteVector, nextIds, wellFormed}
 use Rattle.snapshot.specs.Entries.{Entry, byIds, shownBy}
-use Rattle.snapshot.specs.Tables.{TableEntry, byTable, nameTaken}
+use Rattle.snapshot.specs.Tables.{byTable, nameTaken}
 use Rattle.ids.specs.Limits.{mostTables, mostHeld}
 use Rattle.version_state.specs.State.{State}
 

@@ -34,7 +34,7 @@ pub struct Stepped {
 }
 
 // Whether an operation is refused rests on the entries of its table, the held vector ids, the counts, the names and the next ids.
-pub fn judged_alike()
+pub fn holds()
     ensures { λ _. ⌜ JudgedAlike ⌝ }
 {}
 

@@ -52,7 +52,7 @@ pub struct UnpinStep {
 }
 
 // A pin and an unpin change one epoch's count; a book that passes 28 passes it after them, and when the epoch rises.
-pub fn sound()
+pub fn holds()
     ensures { λ _. ⌜ PinLaws ⌝ }
 {}
 

@@ -22,12 +22,13 @@ use Rattle.commit.specs.Commit.{commitOf}
 use Rattle.commit.proofs.Sounds.{Accepts, accepts}
 use Rattle.replay.specs.Replay.{Result, given, andThen, none, Carried, carried, reopened, atStart, linesRead, finished, linesReplayed, replayOf}
 use Rattle.recovery.specs.Sets.{setsOf}
-use Rattle.recovery.specs.Holds.{Holds, appliedAll, followed, Appended, first, committed, other}
+use Rattle.recovery.specs.Holds.{Holds, appliedAll, followed, Appended, first, rewritten, committed, other}
 use Rattle.recovery.proofs.Reading.{saidRead, said-read, read-append, whole-append, torn-append}
 use Rattle.recovery.proofs.Framed.{frame-lines, rest-frame, torn-lines}
 use Rattle.recovery.proofs.Replays.{holds-read, sets-settled}
 use Rattle.recovery.proofs.Besides.{Went, beside-start, beside-steps}
 use Rattle.recovery.proofs.Owned.{none-tableless, none-orphaned, none-over}
+use Rattle.recovery.proofs.Again.{replay-again}
 
 pub empty-holds : Holds [] (withEpoch start reopened 0)
 unfolding restOn lines linesOn
@@ -109,6 +110,7 @@ pub record Held (src : List ℕ) (m : VersionManagerInner) : Type 0 where
 
 held : (src : List ℕ) (m : VersionManagerInner) → Appended src m → Held src m
 held _ _ (first m h) = record { state = withEpoch start reopened 0; holds = empty-holds; same = ap setsOf (h .state) }
+held _ _ (rewritten src s m r q) = record { state = s; holds = replay-again src s r; same = q }
 held _ _ (committed src m n k os room u p g few c h) =
     let i = held src m p in
     let w = whole-appended src (i .state) m k os room u (i .holds) (i .same) g few c in

@@ -8,7 +8,7 @@ use lib.Dec.{leb}
 use lib.ListN.{length, length-map}
 use borrow.Author.Tests.{le-leb, leb-false, ltb-true, eqb-true, ne-eqb, not-false}
 use Rattle.lists.specs.Order.{same}
-use Rattle.lists.specs.Keyed.{allOf, has, isAt, put, without, changed}
+use Rattle.lists.specs.Keyed.{allOf, has, isAt, put, changed}
 use Rattle.lists.proofs.Tests.{join}
 use Rattle.lists.proofs.Keyed.{All, all-map, allOf-all, none-anyOf, anyOf-map, keep-same, length-keep, length-put}
 use Rattle.columns.specs.Rows.{rows}

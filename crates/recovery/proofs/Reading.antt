@@ -1,6 +1,6 @@
 -- Reading lines: lines after others, a whole frame, a proper first part of one. Assumes nothing.
 use mathlib.Core.Path.{_≡_, refl, sym, ap, _∙_}
-use mathlib.Core.Bool.{Bool, true, false, cond, not, _&&_}
+use mathlib.Core.Bool.{Bool, true, false, cond}
 use mathlib.Core.List.{List, [], _∷_, _++_, map, append-nil, append-assoc}
 use Prim.Native.Nat.{ℕ, zero, suc, _+_, _≤_, _<_}
 use native.Mathlib.Omega.{arith}
@@ -9,12 +9,12 @@ use borrow.Author.Tests.{lt-leb}
 use lib.ListN.{length, take, length-append, length-take}
 use Rattle.ids.specs.Limits.{mostOperations}
 use Rattle.lists.proofs.Tests.{by-cases, clash}
-use Rattle.manifest.specs.Operations.{Operation, Line, begin, end, operation, bad}
+use Rattle.manifest.specs.Operations.{Operation, Line, begin, end, operation}
 use Rattle.manifest.specs.Lines.{lineOf}
 use Rattle.version_state.specs.State.{State}
 use Rattle.operations.specs.Effect.{applied}
 use Rattle.recovery.specs.Holds.{appliedAll}
-use Rattle.replay.specs.Replay.{Result, refused, given, andThen, Frame, none, opened, Carried, carried, reopened, conflicts, framed, settled, overLimit, limited, lineRead, linesRead, finished}
+use Rattle.replay.specs.Replay.{Result, refused, given, andThen, Frame, none, opened, Carried, carried, reopened, conflicts, framed, settled, overLimit, lineRead, linesRead, finished}
 
 -- what lines say, one after another
 abbrev pub saidRead : List Line → Carried → Result Carried

@@ -7,13 +7,13 @@ use lib.ListN.{length}
 use Rattle.manifest.specs.Operations.{Operation}
 use Rattle.manifest.specs.Split.{restOn, lines}
 use Rattle.version_state.specs.declared.VersionManagerInner.{VersionManagerInner}
-use Rattle.ids.specs.Limits.{longestManifest}
 use Rattle.version_state.specs.State.{State, start, stateOf, Hands}
 use Rattle.version_state.specs.Sound.{badInner}
 use Rattle.operations.specs.Effect.{applied}
 use Rattle.operations.specs.Steps.{left}
 use Rattle.commit.specs.Commit.{appendOf, commitOf}
-use Rattle.replay.specs.Replay.{given, Frame, carried, reopened, atStart, settled, linesRead, tableless, withoutOrphans}
+use Rattle.rewrite.specs.Rewritten.{rewrittenOf}
+use Rattle.replay.specs.Replay.{given, Frame, carried, reopened, atStart, settled, linesRead, tableless, withoutOrphans, replayOf}
 use Rattle.recovery.specs.Sets.{setsOf}
 
 -- src is empty or ends in a newline, its lines are read to the state s, and s has no rowset without its table and no vector without its rowset
@@ -34,9 +34,11 @@ appliedAll (o ∷ os) s = appliedAll os (applied reopened o s)
 abbrev pub followed : List Operation → State → State
 followed os s = settled (appliedAll os s)
 
--- the bytes that accepted commits hand out for appending, one after another; between commits a call may hand out any manager that shows the same
+-- A manifest that the port wrote: none yet, or one that a reopen wrote anew, and after it the bytes that accepted commits hand out for
+-- appending. Between commits a call may hand out any manager that shows the same.
 pub data Appended : List ℕ → VersionManagerInner → Type 0 where
   first : (m : VersionManagerInner) → Hands m start → Appended [] m
+  rewritten : (src : List ℕ) (s : State) (m : VersionManagerInner) → replayOf src ≡ given s → setsOf (stateOf m) ≡ setsOf s → Appended (rewrittenOf s) m
   committed : (src : List ℕ) (m n : VersionManagerInner) (k : ℕ) (os : List Operation) (room : ℕ) (u : State)
       → Appended src m → badInner m ≡ false → length os ≤ k → commitOf (stateOf m) k os room ≡ left u → Hands n u → Appended (src ++ appendOf os) n
   other : (src : List ℕ) (m n : VersionManagerInner) → Appended src m → setsOf (stateOf n) ≡ setsOf (stateOf m) → Appended src n

@@ -30,7 +30,7 @@ pub record AppendLaws : Type 0 where
       → Holds src s → allOf wellFormed os ≡ true → length os ≤ mostOperations → k < length (appendOf os)
       → length (src ++ take k (appendOf os)) ≤ longestManifest
       → replayOf (src ++ take k (appendOf os)) ≡ given s
-  -- what accepted commits have written is never refused, and holds no vector whose rowset is gone
+  -- what the port wrote is never refused, and holds no vector whose rowset is gone
   pub made : (src : List ℕ) (m : VersionManagerInner) → Appended src m → length src ≤ longestManifest
       → (s : State) × (Holds src s × (setsOf (stateOf m) ≡ setsOf s) × (replayOf src ≡ given s))
 

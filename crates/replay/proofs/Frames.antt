@@ -33,7 +33,7 @@ use Rattle.replay.specs.declared.Begun.{Begun}
 use Rattle.replay.specs.declared.Turn.{Turn}
 use Rattle.replay.specs.declared.Replayed.{Replayed}
 use Rattle.replay.specs.Replay.{Result, refused, given, andThen, Frame, none, Carried, carried, atStart, framed, stands, settled, overLimit, limited, ended, noted, lineRead, linesRead, finished, ReplayIs}
-use Rattle.replay.specs.Working.{tableRoom, heldRoom, workRoom, tablesPart, pairsPart, vectorsPart, cut, pairRow, vectorRow, Slices, slices, stateIn, Good, Grown, oneOf, AppliedIs, saidFrom, leading, framedLightly, FrameIs, Small, EndIs, BegunOk, BegunIs, Turned, TurnIs, OperationSays, Ready, RunIs, ReadTo}
+use Rattle.replay.specs.Working.{tableRoom, heldRoom, workRoom, tablesPart, pairsPart, vectorsPart, cut, pairRow, vectorRow, Slices, stateIn, Good, Grown, oneOf, AppliedIs, saidFrom, leading, framedLightly, FrameIs, Small, EndIs, BegunOk, BegunIs, Turned, TurnIs, OperationSays, Ready, RunIs, ReadTo}
 use Rattle.replay.proofs.Maps.{lex-split, ascending-mapped}
 use Rattle.replay.proofs.Working.{tables-whole, pairs-whole, vectors-whole}
 use Rattle.replay.proofs.Light.{Rising, frame-light}

@@ -1,10 +1,9 @@
 -- The end of a replay: what the slices hold, as a manager's columns. Assumes nothing.
 use mathlib.Core.Path.{_≡_, refl, sym, ap, _∙_}
-use mathlib.Core.Bool.{Bool, true, false, cond, not, _&&_}
+use mathlib.Core.Bool.{Bool, true, false, not}
 use mathlib.Core.List.{List, [], _∷_, _++_, map}
 use Prim.Native.Nat.{ℕ, zero, suc, _+_, _/_, _%_, _≤_, _<_}
 use native.Mathlib.Omega.{arith}
-use lib.Dec.{leb}
 use native.Mathlib.Nat.{not-suc-le-zero, le-of-suc-le-suc}
 use borrow.Author.Tests.{leb-true}
 use lib.ListN.{length, getD, take, drop, length-map, List·getD-map}
@@ -22,14 +21,14 @@ use Rattle.snapshot.specs.Entries.{Entry, byIds, entryAt, entries}
 use Rattle.snapshot.specs.Tables.{TableEntry, created, byTable, tableRows}
 use Rattle.snapshot.specs.Views.{tablesOf, rowsetsOf, vectorsOf}
 use Rattle.snapshot.proofs.TableRows.{has-tables}
-use Rattle.version_state.specs.State.{State, stateOf, Fit, Hands}
+use Rattle.version_state.specs.State.{State, Fit, Hands}
 use Rattle.version_state.specs.declared.VersionManagerInner.{VersionManagerInner}
 use Rattle.replay.specs.declared.Sets.{Sets}
 use Rattle.replay.specs.Replay.{tableless, withoutOrphans}
 use Rattle.snapshot.specs.declared.tables.Tables.{Tables}
 use Rattle.snapshot.specs.declared.rowsets.Rowsets.{Rowsets}
 use Rattle.replay.proofs.Maps.{ascending-mapped, lex-split}
-use Rattle.snapshot.proofs.Entries.{all-rows, ascending-ids, AllKept, none, more, kept-like, keep-entries}
+use Rattle.snapshot.proofs.Entries.{all-rows, ascending-ids, none, more, kept-like, keep-entries}
 use Rattle.replay_lists.specs.Rows as beside
 use Rattle.replay_lists.proofs.Rows as besides
 use Rattle.replay.specs.Working.{shapeNoted, nameNoted, tableRow, tablesIn, stateIn, Slices, narrowFirst, pairRow, vectorRow, pairsIn, vectorsIn, wide32, TablesGood, PairsGood, VectorsGood}

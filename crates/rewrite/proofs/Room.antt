@@ -15,7 +15,6 @@ use Rattle.manifest.specs.Operations.{Operation, createTable, addRowset, addVec
 use Rattle.manifest.proofs.Texts.{create-room, add-room, add-vector-room, next-room, pair-ids, vector-ids, next-values, table-values}
 use Rattle.snapshot.specs.Entries.{Entry, byIds, shownBy}
 use Rattle.snapshot.specs.Tables.{TableEntry}
-use Rattle.version_state.specs.State.{State}
 use Rattle.frames.specs.Frames.{textsOf}
 use Rattle.frames.proofs.Texts.{frame-long, texts-cons}
 use Rattle.rewrite.proofs.Lines.{texts-length}

@@ -1,5 +1,5 @@
 -- The rewritten manifest of a state: `B`, `N`, then `T`, `A`, `V` lines of what it shows now, ascending by their ids, `E`. Assumes nothing.
-use mathlib.Core.List.{List, [], _∷_, _++_, map}
+use mathlib.Core.List.{List, _∷_, _++_, map}
 use Prim.Native.Nat.{ℕ}
 use lib.ListN.{getD}
 use Rattle.lists.specs.Keyed.{keep}

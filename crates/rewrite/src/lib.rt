@@ -27,7 +27,7 @@ ghost use Rattle.rewrite.specs.Laws.{RewrittenFits};
 ghost use Rattle.rewrite.specs.Rewritten.{createOf, addOf, addVectorOf, longestNext, longestCreate, longestAdd, longestAddVector, longestRewritten, rewrittenOf};
 
 // A rewritten manifest never has more bytes than the longest one.
-pub fn fits()
+pub fn holds()
     ensures { λ _. ⌜ RewrittenFits ⌝ }
 {}
 

@@ -10,10 +10,10 @@ use Rattle.lists.specs.Keyed.{keep}
 use Rattle.lists.specs.Written.{over}
 use Rattle.ids.specs.declared.refusal.Refusal.{Refusal}
 use Rattle.ids.specs.declared.refusal.Refusal.the-variants.{BadPinBook, EpochNotPinned, OutputTooShort}
-use Rattle.ids.specs.declared.refusal.Verdict.{Verdict}
 use Rattle.ids.specs.declared.refusal.Verdict.the-variants.{Accepted, Refused}
 use Rattle.ids.specs.Names.{longestName}
 use Rattle.ids.specs.Verdicts.{_⇒_, judged}
+use Rattle.ids.proofs.Verdicts.{judged-none, refused-at}
 use Rattle.columns.specs.Rows.{rows, column, across}
 use Rattle.snapshot.specs.Entries.{Entry, shownAt, shownBy, shown, entryAt, entries}
 use Rattle.snapshot.specs.Picked.{placesOf, Stand}
@@ -41,35 +41,19 @@ module _ (ks : List (List ℕ)) (a d : List ℕ) (n e r : ℕ) (ps : List ℕ) (
       again [] = refl
       again (x ∷ l) = ap (λ (t : List ℕ). getD (x .ids) j 0 ∷ t) (again l)
 
-module _ (x y z : Bool) where
-  abbrev verdict : Verdict
-  verdict = judged ((x ⇒ BadPinBook) ∷ (y ⇒ EpochNotPinned) ∷ (z ⇒ OutputTooShort) ∷ [])
-
-  first : x ≡ true → verdict ≡ Refused BadPinBook
-  first h = rw h
-
-  second : x ≡ false → y ≡ true → verdict ≡ Refused EpochNotPinned
-  second h k = rw (h, k)
-
-  third : x ≡ false → y ≡ false → z ≡ true → verdict ≡ Refused OutputTooShort
-  third h k l = rw (h, k, l)
-
-  passed : x ≡ false → y ≡ false → z ≡ false → verdict ≡ Accepted
-  passed h k l = rw (h, k, l)
-
 module _ (s : State) (b : PinBook) (u w : Bool) where
   pub book-bad : badBook (s .epoch) b ≡ true → judged (showRules s b u w) ≡ Refused BadPinBook
-  book-bad h = first (badBook (s .epoch) b) u w h
+  book-bad h = refused-at [] (badBook (s .epoch) b) BadPinBook ((u ⇒ EpochNotPinned) ∷ (w ⇒ OutputTooShort) ∷ []) tt h
 
   module _ (h : badBook (s .epoch) b ≡ false) where
     pub not-seen : u ≡ true → judged (showRules s b u w) ≡ Refused EpochNotPinned
-    not-seen k = second (badBook (s .epoch) b) u w h k
+    not-seen k = refused-at ((badBook (s .epoch) b ⇒ BadPinBook) ∷ []) u EpochNotPinned ((w ⇒ OutputTooShort) ∷ []) (h, tt) k
 
     pub too-short : u ≡ false → w ≡ true → judged (showRules s b u w) ≡ Refused OutputTooShort
-    too-short k l = third (badBook (s .epoch) b) u w h k l
+    too-short k l = refused-at ((badBook (s .epoch) b ⇒ BadPinBook) ∷ (u ⇒ EpochNotPinned) ∷ []) w OutputTooShort [] (h, (k, tt)) l
 
     pub seen : u ≡ false → w ≡ false → judged (showRules s b u w) ≡ Accepted
-    seen k l = passed (badBook (s .epoch) b) u w h k l
+    seen k l = judged-none (showRules s b u w) (h, (k, (l, tt)))
 
 module _ (s : State) (b : PinBook) (e : ℕ) where
   module _ (ts rs : List ℕ) (n : ℕ) (counted : n ≡ length (pairsAt e s)) (h : badBook (s .epoch) b ≡ false) (u : unseen s b e ≡ false) where

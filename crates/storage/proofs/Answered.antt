@@ -1,7 +1,7 @@
 -- What a reopen's answer says of the lent buffer. Assumes nothing.
 use mathlib.Core.Path.{_≡_, refl, sym, ap, _∙_}
 use mathlib.Core.Bool.{Bool, true, false, cond}
-use mathlib.Core.List.{List, [], _∷_}
+use mathlib.Core.List.{List, []}
 use Prim.Native.Nat.{ℕ, _≤_}
 use native.Mathlib.Omega.{arith}
 use borrow.Author.Tests.{ltb-false}
@@ -9,7 +9,7 @@ use lib.Dec.{ltb}
 use lib.ListN.{length, getD}
 use Rattle.ids.specs.declared.refusal.Refusal.{Refusal}
 use Rattle.ids.specs.declared.refusal.Refusal.the-variants.{OutputTooShort}
-use Rattle.ids.specs.declared.refusal.Verdict.the-variants.{Accepted, Refused}
+use Rattle.ids.specs.declared.refusal.Verdict.the-variants.{Refused}
 use Rattle.ids.specs.Answers.{Told, told}
 use Rattle.version_state.specs.State.{State, withEpoch}
 use Rattle.rewrite.specs.Rewritten.{rewrittenOf}

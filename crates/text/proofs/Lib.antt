@@ -3,4 +3,3 @@ pub mod Bytes
 pub mod Decimal
 pub mod Round
 pub mod Names
-pub mod Examples

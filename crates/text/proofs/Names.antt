@@ -13,9 +13,9 @@ use Rattle.lists.specs.Keyed.{allOf, anyOf}
 use Rattle.lists.proofs.Tests.{by-cases, both}
 use Rattle.ids.specs.declared.name.Name.{Name}
 use Rattle.ids.specs.Names.{longestName, nameOf}
-use Rattle.text.specs.Class.{isComma, isNewline}
+use Rattle.text.specs.Class.{isNewline}
 use Rattle.text.specs.Name.{isNameByte, isName}
-use Rattle.text.proofs.Bytes.{name-bytes-newline, name-bytes-comma}
+use Rattle.text.proofs.Bytes.{name-bytes-newline}
 
 -- the bytes from i on are all of names
 unfoldable pub allNameFrom : List ℕ → ℕ → Bool
@@ -59,10 +59,6 @@ module _ (s : List ℕ) where
   pub name-newline : isName s ≡ true → anyOf isNewline s ≡ false
   unfolding isName
   name-newline h = name-bytes-newline s (both (ltb 0 (length s) && leb (length s) longestName) (allOf isNameByte s) h .1)
-
-  pub name-comma : isName s ≡ true → anyOf isComma s ≡ false
-  unfolding isName
-  name-comma h = name-bytes-comma s (both (ltb 0 (length s) && leb (length s) longestName) (allOf isNameByte s) h .1)
 
 -- the bytes of a name are the first of its array
 pub name-front : (n : Name) → length (n .bytes) ≡ longestName → take (length (nameOf n)) (n .bytes) ≡ nameOf n

@@ -14,9 +14,9 @@ use Rattle.text.specs.Class.{isDigit}
 use Rattle.text.specs.Decimal.{digits, readOn, readIn, Stops, Starts}
 use Rattle.lists.proofs.Tests.{both}
 use Rattle.lists.specs.Keyed.{allOf, anyOf}
-use Rattle.text.specs.Class.{isComma, isNewline}
+use Rattle.text.specs.Class.{isNewline}
 use Rattle.text.specs.Name.{isNameByte}
-use Rattle.text.proofs.Bytes.{digit-of, digit-bounds, name-byte-digit, name-bytes-newline, name-bytes-comma}
+use Rattle.text.proofs.Bytes.{digit-of, digit-bounds, name-byte-digit, name-bytes-newline}
 use Rattle.text.proofs.Decimal.{digits-small, digits-big, length-small, length-big}
 
 one-digit : (limit i n : ℕ) (rest : List ℕ) → n < 10 → n ≤ limit → readIn limit (digits n ++ rest) i ≡ readOn limit rest n (i + length (digits n))
@@ -135,9 +135,6 @@ name-bytes (suc f) n (no h) p =
 
 pub digits-newline : (n : ℕ) → anyOf isNewline (digits n) ≡ false
 digits-newline n = name-bytes-newline (digits n) (name-bytes n n (decLt n 10) (omega arith))
-
-pub digits-comma : (n : ℕ) → anyOf isComma (digits n) ≡ false
-digits-comma n = name-bytes-comma (digits n) (name-bytes n n (decLt n 10) (omega arith))
 
 -- a 64-bit number has at most 20 digits
 pub digits-64 : (n : ℕ) → n ≤ 18446744073709551615 → length (digits n) ≤ 20

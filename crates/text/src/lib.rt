@@ -213,6 +213,6 @@ pub fn put_name(out: &mut [u8], at: usize, n: Name) -> usize
 }
 
 // The laws of numbers as text.
-pub fn agrees()
+pub fn holds()
     ensures { λ _. ⌜ NumbersAgree ⌝ }
 {}

@@ -23,12 +23,6 @@ use Rattle.ids.specs.Limits.{mostHeld, longestManifest}
 use Rattle.version_state.specs.State.{State, stateOf, countsFit, Hands, pairsAt, vectorsAt}
 use Rattle.version_state.specs.Sound.{leftBehind, beyondLimits, outOfOrder, aboveOwn, badInner}
 use Rattle.version_state.proofs.Facts.{fit-counts, in-order, order-in}
-use Rattle.pins.specs.declared.PinBook.{PinBook}
-use Rattle.pins.specs.Book.{pinsOf, mayShow}
-use Rattle.pins.proofs.Bound.{bound-le, bound-shows}
-use Rattle.ids.specs.declared.refusal.Verdict.the-variants.{Accepted}
-use Rattle.vacuum.specs.declared.Released.{Released}
-use Rattle.vacuum.specs.Says.{boundOf, VacuumIs}
 use Rattle.vacuum.specs.LetGo.{vacuumList, staysBy, vacuumed}
 
 -- a column that came with the state has its length, as the facts of a parameter have it
@@ -143,15 +137,3 @@ vacuum-sound m n b k h d =
     ap (λ (c : Bool). badBy c (stateOf n)) (fit-counts n (d .fits))
     ∙ ap (badBy true) (d .state)
     ∙ none (l .1) (order-left b s (y .0)) (below-left b s (z .0)) (behind-left b s (s .epoch) k ∙ z .1)
-
--- the same of the call
-module _ (m : VersionManagerInner) (b : PinBook) (ts rs : List ℕ) (v : Released) (ts′ rs′ : List ℕ) (is : VacuumIs (stateOf m) b ts rs v ts′ rs′) (yes : v .verdict ≡ Accepted) where
-  pub vacuum-passes : badInner m ≡ false → badInner (v .inner) ≡ false
-  vacuum-passes h = vacuum-sound m (v .inner) (boundOf (stateOf m) b) (bound-le (m .epoch) (pinsOf b)) h (is .inner yes)
-
-  -- what may be shown shows the same pairs and vectors afterwards
-  pub vacuum-keeps-pairs : (e : ℕ) → mayShow (m .epoch) (pinsOf b) e ≡ true → pairsAt e (stateOf (v .inner)) ≡ pairsAt e (stateOf m)
-  vacuum-keeps-pairs e h = ap (pairsAt e) (is .inner yes .state) ∙ pairs-after (boundOf (stateOf m) b) e (stateOf m) (bound-shows (m .epoch) e (pinsOf b) h)
-
-  pub vacuum-keeps-vectors : (e : ℕ) → mayShow (m .epoch) (pinsOf b) e ≡ true → vectorsAt e (stateOf (v .inner)) ≡ vectorsAt e (stateOf m)
-  vacuum-keeps-vectors e h = ap (vectorsAt e) (is .inner yes .state) ∙ vectors-after (boundOf (stateOf m) b) e (stateOf m) (bound-shows (m .epoch) e (pinsOf b) h)

@@ -1,6 +1,6 @@
 -- What a vacuum is where it refuses and where it accepts. Assumes nothing.
 use mathlib.Core.Path.{_≡_, refl, sym, ap, _∙_}
-use mathlib.Core.Bool.{Bool, true, false}
+use mathlib.Core.Bool.{true, false}
 use mathlib.Core.List.{List, [], _∷_, map}
 use Prim.Native.Nat.{ℕ, _≤_, _<_}
 use native.Mathlib.Omega.{arith}
@@ -11,9 +11,9 @@ use Rattle.lists.specs.Written.{over}
 use Rattle.lists.proofs.Keyed.{ascend-to}
 use Rattle.ids.specs.declared.refusal.Refusal.{Refusal}
 use Rattle.ids.specs.declared.refusal.Refusal.the-variants.{BadPinBook, OutputTooShort}
-use Rattle.ids.specs.declared.refusal.Verdict.{Verdict}
 use Rattle.ids.specs.declared.refusal.Verdict.the-variants.{Accepted, Refused}
 use Rattle.ids.specs.Verdicts.{_⇒_, judged}
+use Rattle.ids.proofs.Verdicts.{judged-none, refused-at}
 use Rattle.columns.specs.Rows.{rows, column}
 use Rattle.columns.proofs.Rows.{rows-length}
 use Rattle.snapshot.specs.Entries.{Entry, byIds, entryAt, field}
@@ -49,32 +49,19 @@ module _ (m : VersionManagerInner) (up : ascending byIds (stateOf m .pairs) ≡ 
   pub listed-count : r ≡ length (vacuumList e (stateOf m))
   listed-count = sym (rows-length (column ps) r) ∙ ap length (s .told) ∙ sym (length-map places at) ∙ ap length are-listed
 
-module _ (x y : Bool) where
-  abbrev verdict : Verdict
-  verdict = judged ((x ⇒ BadPinBook) ∷ (y ⇒ OutputTooShort) ∷ [])
-
-  first : x ≡ true → Refused BadPinBook ≡ verdict
-  first h = rw h
-
-  second : x ≡ false → y ≡ true → Refused OutputTooShort ≡ verdict
-  second h k = rw (h, k)
-
-  passed : x ≡ false → y ≡ false → Accepted ≡ verdict
-  passed h k = rw (h, k)
-
 module _ (s : State) (b : PinBook) (ts rs : List ℕ) where
   pub book-bad : badBook (s .epoch) b ≡ true → Refused BadPinBook ≡ judged (vacuumRules s b (length ts) (length rs))
-  book-bad h = first (badBook (s .epoch) b) (tooShort s b (length ts) (length rs)) h
+  book-bad h = sym (refused-at [] (badBook (s .epoch) b) BadPinBook ((tooShort s b (length ts) (length rs) ⇒ OutputTooShort) ∷ []) tt h)
 
   module _ (n : ℕ) (counted : n ≡ length (listOf s b)) (h : badBook (s .epoch) b ≡ false) where
     pub tables-short : length ts < n → Refused OutputTooShort ≡ judged (vacuumRules s b (length ts) (length rs))
-    tables-short l = second (badBook (s .epoch) b) (tooShort s b (length ts) (length rs)) h (rw (← counted, lt-ltb _ _ l))
+    tables-short l = sym (refused-at ((badBook (s .epoch) b ⇒ BadPinBook) ∷ []) (tooShort s b (length ts) (length rs)) OutputTooShort [] (h, tt) (rw (← counted, lt-ltb _ _ l)))
 
     pub rowsets-short : n ≤ length ts → length rs < n → Refused OutputTooShort ≡ judged (vacuumRules s b (length ts) (length rs))
-    rowsets-short l r = second (badBook (s .epoch) b) (tooShort s b (length ts) (length rs)) h (rw (← counted, le-ltb _ _ l, lt-ltb _ _ r))
+    rowsets-short l r = sym (refused-at ((badBook (s .epoch) b ⇒ BadPinBook) ∷ []) (tooShort s b (length ts) (length rs)) OutputTooShort [] (h, tt) (rw (← counted, le-ltb _ _ l, lt-ltb _ _ r)))
 
     pub room-for-all : n ≤ length ts → n ≤ length rs → Accepted ≡ judged (vacuumRules s b (length ts) (length rs))
-    room-for-all l r = passed (badBook (s .epoch) b) (tooShort s b (length ts) (length rs)) h (rw (← counted, le-ltb _ _ l, le-ltb _ _ r))
+    room-for-all l r = sym (judged-none (vacuumRules s b (length ts) (length rs)) (h, (rw (← counted, le-ltb _ _ l, le-ltb _ _ r), tt)))
 
   never : {P : Type 0} (v : Released) (q : Refusal) → v .verdict ≡ Refused q → v .verdict ≡ Accepted → P
   never v q a e = let z : _≡_ {A = ℕ} 0 1 = cc in absurd (omega arith)

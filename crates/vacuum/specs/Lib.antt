@@ -1,3 +1,4 @@
 pub mod LetGo
 pub mod Listed
 pub mod Says
+pub mod Laws

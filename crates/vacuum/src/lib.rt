@@ -22,6 +22,7 @@ ghost use Rattle.version_state.specs.Sound.{badInner};
 ghost use Rattle.vacuum.specs.LetGo.{vacuumed};
 ghost use Rattle.vacuum.specs.Listed.{listPlaces};
 ghost use Rattle.vacuum.specs.Says.{VacuumIs};
+ghost use Rattle.vacuum.specs.Laws.{VacuumLaws};
 
 // What a vacuum lists and leaves: `count` deletions, and the state without them. Beside a refusal both mean nothing.
 pub struct Released {
@@ -29,6 +30,11 @@ pub struct Released {
     pub count: usize,
     pub inner: VersionManagerInner,
 }
+
+// The laws of an accepted vacuum.
+pub fn holds()
+    ensures { λ _. ⌜ VacuumLaws ⌝ }
+{}
 
 // Internal, as is what follows: the count is within the columns. How many of the first `count` are gone by the epoch.
 pub fn counted(deleted: &[u32; MOST_HELD], count: usize, epoch: u32) -> usize

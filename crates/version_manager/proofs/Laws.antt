@@ -1,5 +1,5 @@
 -- What draw and fresh hand out passes 29. Assumes nothing.
-use mathlib.Core.Path.{_≡_, refl, sym, ap, subst, _∙_}
+use mathlib.Core.Path.{_≡_, refl, sym, subst}
 use mathlib.Core.Bool.{true, false}
 use mathlib.Core.List.{List, [], _∷_}
 use Prim.Native.Nat.{ℕ, _+_, _≤_}
@@ -18,7 +18,7 @@ use Rattle.ids.specs.Limits.{longestManifest}
 use Rattle.version_state.specs.State.{State, start, stateOf, withNext, Hands}
 use Rattle.version_state.specs.Sound.{leftBehind, badInner}
 use Rattle.version_state.proofs.Within.{Rises, within-of, of-within, within-up}
-use Rattle.version_state.proofs.Facts.{Ordered, Sound, sound-of, of-sound}
+use Rattle.version_state.proofs.Facts.{Ordered, sound-of, of-sound}
 use Rattle.version_manager.specs.declared.VersionManager.{VersionManager}
 use Rattle.version_manager.specs.Managers.{heldBy, HandsBack}
 use Rattle.version_manager.specs.Draw.{drawRules, rowsetVerdict, vectorVerdict, rowsetDrawn, vectorDrawn}

@@ -87,7 +87,7 @@ pub fn handed(inner: VersionManagerInner) -> VersionManager
 }
 
 // What fresh and draw hand out passes 29.
-pub fn draws_sound()
+pub fn holds()
     ensures { λ _. ⌜ DrawLaws ⌝ }
 {}
 

@@ -1,5 +1,5 @@
 -- `commit::commit_lines` meets its contract. Assumes nothing.
-use mathlib.Core.Path.{_≡_, refl, sym, ap, _∙_}
+use mathlib.Core.Path.{refl, sym, ap, _∙_}
 use mathlib.Core.List.{List}
 use Prim.Native.Nat.{ℕ, _+_, _≤_, _<_}
 use native.Mathlib.Omega.{arith}
@@ -8,7 +8,7 @@ use borrow.Author.Tests.{not-true, not-false}
 use lib.ListN.{length}
 use Rattle.lists.specs.Written.{over}
 use Rattle.lists.proofs.Places.{known}
-use Rattle.ids.specs.Limits.{mostOperations, longestManifest}
+use Rattle.ids.specs.Limits.{mostOperations}
 use Rattle.operations.specs.Columns.{columns, stateIn}
 use Rattle.operations.proofs.Keeps.{rising-pairs}
 use Rattle.commit.specs.Lent.{operationsIn}

@@ -4,7 +4,6 @@ use Prim.Native.Nat.{_+_, _≤_, _<_}
 use native.Mathlib.Omega.{arith}
 use borrow.Author.Tests.{lt-ltb, le-ltb}
 use Rattle.ids.specs.Limits.{longestManifest}
-use Rattle.lists.proofs.Places.{known}
 use Rattle.commit.proofs.ending.Statement.{statement}
 use Rattle.commit.proofs.ending.Tie as tie
 

@@ -2,7 +2,6 @@
 use native.Mathlib.Omega.{arith}
 use Rattle.lists.proofs.Places.{known}
 use Rattle.lists.proofs.Written.{wrote-on}
-use borrow.Author.Needs.{needs}
 use Rattle.frames.proofs.put_letter.Statement.{statement}
 use Rattle.frames.proofs.put_letter.Tie as tie
 

@@ -6,7 +6,6 @@ use Rattle.lists.proofs.Places.{known}
 use Rattle.lists.proofs.Written.{wrote-on}
 use Rattle.manifest.specs.Operations.{operationOf}
 use Rattle.manifest.specs.Lines.{textOf}
-use borrow.Author.Needs.{needs}
 use Rattle.frames.proofs.put_line.Statement.{statement}
 use Rattle.frames.proofs.put_line.Tie as tie
 

@@ -7,7 +7,7 @@ use Rattle.ids.specs.Verdicts.{judged}
 use Rattle.lists.proofs.Places.{known}
 use Rattle.lists.proofs.Views.{view-length}
 use Rattle.pins.specs.declared.PinBook.{PinBook}
-use Rattle.pins.specs.Book.{pinEntry, pinsOf, mostPinned}
+use Rattle.pins.specs.Book.{pinEntry, mostPinned}
 use Rattle.version_manager.specs.declared.VersionManager.{VersionManager}
 use Rattle.pinning.specs.Says.{pinVerdict}
 use Rattle.pinning.proofs.Says.{first-two, two-passed, pin-early, pin-late, Pinnable, pinnable, pin-refuses, pin-accepts}

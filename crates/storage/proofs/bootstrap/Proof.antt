@@ -1,6 +1,5 @@
 -- `storage::bootstrap` meets its contract. Assumes nothing.
 use mathlib.Core.Path.{refl}
-use borrow.Author.Needs.{needs}
 use Rattle.lists.proofs.Places.{known}
 use Rattle.storage.proofs.Replayed.{replay-refused, replay-given}
 use Rattle.storage.proofs.bootstrap.Statement.{statement}

@@ -1,6 +1,5 @@
 -- `calls::reopen::reopen_into` meets its contract. Assumes nothing.
 use Prim.Native.Nat.{_-_}
-use lib.ListN.{length}
 use lib.Seq.{length-take-le}
 use borrow.Author.Needs.{needs}
 use Rattle.calls.proofs.reopen.reopen_into.Statement.{statement}

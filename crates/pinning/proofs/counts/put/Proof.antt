@@ -1,13 +1,11 @@
 -- `pinning::counts::put` meets its contract. Assumes nothing.
 use mathlib.Core.Path.{_≡_, sym, _∙_}
-use mathlib.Core.Bool.{false, _&&_}
 use mathlib.Core.List.{[], _∷_}
 use native.Mathlib.Omega.{arith}
 use borrow.Author.Tests.{lt-ltb, ltb-true}
-use borrow.Author.Needs.{needs}
 use lib.Dec.{ltb}
 use lib.ListN.{length, getD}
-use Rattle.lists.specs.Keyed.{isAt, put, rank}
+use Rattle.lists.specs.Keyed.{isAt, rank}
 use Rattle.lists.proofs.Tests.{both, past}
 use Rattle.lists.proofs.Places.{known}
 use Rattle.lists.proofs.Views.{view-length, put-here, put-other}

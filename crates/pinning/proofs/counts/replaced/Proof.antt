@@ -6,7 +6,6 @@ use lib.Seq.{take-set-lt}
 use Rattle.lists.proofs.Places.{known}
 use Rattle.lists.proofs.Views.{map-set}
 use Rattle.pins.specs.Book.{pinEntry}
-use borrow.Author.Needs.{needs}
 use Rattle.pinning.proofs.counts.replaced.Statement.{statement}
 use Rattle.pinning.proofs.counts.replaced.Tie as tie
 

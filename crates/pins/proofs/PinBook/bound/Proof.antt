@@ -4,9 +4,8 @@ use native.Mathlib.Omega.{arith}
 use lib.ListN.{length}
 use Rattle.lists.proofs.Places.{known}
 use Rattle.lists.proofs.Views.{seen}
-use Rattle.pins.specs.Book.{mostPinned, pinEntry, pinsOf, bound}
+use Rattle.pins.specs.Book.{mostPinned, pinEntry, pinsOf}
 use Rattle.pins.proofs.Bound.{bound-read}
-use borrow.Author.Needs.{needs}
 use Rattle.pins.proofs.PinBook.bound.Statement.{statement}
 use Rattle.pins.proofs.PinBook.bound.Tie as tie
 

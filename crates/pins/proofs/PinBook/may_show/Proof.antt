@@ -1,7 +1,6 @@
 -- `pins::PinBook::may_show` meets its contract. Assumes nothing.
 use borrow.Author.Tests.{eq-eqb, ne-eqb}
 use Rattle.lists.proofs.Places.{known}
-use borrow.Author.Needs.{needs}
 use Rattle.pins.proofs.PinBook.may_show.Statement.{statement}
 use Rattle.pins.proofs.PinBook.may_show.Tie as tie
 

@@ -1,6 +1,5 @@
 -- `replay::finish::build_rowsets` meets its contract. Assumes nothing.
 use mathlib.Core.Path.{refl}
-use native.Mathlib.Omega.{arith}
 use Rattle.lists.proofs.Places.{known}
 use Rattle.replay.proofs.Handing.{pairs-built}
 use Rattle.replay.proofs.finish.build_rowsets.Statement.{statement}

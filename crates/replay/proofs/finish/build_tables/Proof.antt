@@ -1,9 +1,9 @@
 -- `replay::finish::build_tables` meets its contract. Assumes nothing.
-use mathlib.Core.Path.{_≡_, refl, sym, ap, _∙_}
+use mathlib.Core.Path.{_≡_, refl, _∙_}
 use mathlib.Core.List.{List}
 use Prim.Native.Nat.{ℕ, _-_, _≤_}
 use native.Mathlib.Omega.{arith}
-use lib.ListN.{length, take}
+use lib.ListN.{take}
 use Rattle.ids.specs.Limits.{mostTables}
 use Rattle.lists.proofs.Places.{known}
 use Rattle.columns.specs.Rows.{rows}

@@ -1,7 +1,6 @@
 -- `replay::finish::build_vectors` meets its contract. Assumes nothing.
 use mathlib.Core.List.{[], _∷_}
-use native.Mathlib.Omega.{arith}
-use Rattle.lists.proofs.Places.{known, length-mapped}
+use Rattle.lists.proofs.Places.{known}
 use Rattle.snapshot.specs.Entries.{entries}
 use Rattle.replay.proofs.Handing.{vectors-built}
 use Rattle.replay.proofs.finish.build_vectors.Statement.{statement}

@@ -1,7 +1,6 @@
 -- `replay::finish::copied` meets its contract. Assumes nothing.
 use mathlib.Core.Path.{refl}
-use Prim.Native.Nat.{_+_, _-_, _*_, _/_, _%_, _≤_}
-use native.Mathlib.Omega.{arith}
+use Prim.Native.Nat.{_-_, _≤_}
 use lib.ListN.{length}
 use Rattle.ids.specs.Limits.{mostHeld}
 use Rattle.lists.proofs.Places.{known}

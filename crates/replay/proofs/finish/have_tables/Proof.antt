@@ -2,7 +2,6 @@
 use mathlib.Core.Path.{sym, _∙_}
 use mathlib.Core.List.{[], _∷_}
 use Prim.Native.Nat.{_-_, _≤_}
-use native.Mathlib.Omega.{arith}
 use borrow.Author.Tests.{not-true, not-false}
 use Rattle.ids.specs.Limits.{mostHeld}
 use Rattle.lists.specs.Keyed.{has}

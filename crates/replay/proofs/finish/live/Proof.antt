@@ -1,13 +1,12 @@
 -- `replay::finish::live` meets its contract. Assumes nothing.
 use mathlib.Core.Path.{refl, sym, _∙_}
-use mathlib.Core.Bool.{Bool, true, false}
+use mathlib.Core.Bool.{false}
 use mathlib.Core.List.{[], _∷_}
 use Prim.Native.Nat.{_-_, _≤_}
-use native.Mathlib.Omega.{arith}
 use Rattle.ids.specs.Limits.{mostHeld}
 use Rattle.lists.specs.Keyed.{has}
 use Rattle.lists.proofs.Places.{known}
-use Rattle.columns.specs.Rows.{column, across}
+use Rattle.columns.specs.Rows.{column}
 use Rattle.snapshot.specs.Entries.{byIds, entries}
 use Rattle.snapshot.proofs.Entries.{held-ids}
 use Rattle.replay.proofs.Filling.{Filled, fill-start, fill-more, fill-done, has-ids}

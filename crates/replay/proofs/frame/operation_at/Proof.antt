@@ -1,6 +1,6 @@
 -- `replay::frame::operation_at` meets its contract. Assumes nothing.
 use mathlib.Core.Path.{sym, ap, _∙_}
-use mathlib.Core.Bool.{true, false, true≢false}
+use mathlib.Core.Bool.{true≢false}
 use native.Mathlib.Omega.{arith}
 use Rattle.lists.proofs.Places.{known}
 use Rattle.manifest.proofs.Split.{line-placed, line-further}

@@ -1,6 +1,6 @@
 -- `replay::frame::operation_of` meets its contract. Assumes nothing.
 use mathlib.Core.Path.{refl, sym, _∙_}
-use mathlib.Core.Bool.{true, false, true≢false}
+use mathlib.Core.Bool.{true≢false}
 use Rattle.lists.proofs.Places.{known}
 use Rattle.replay.specs.Working.{leading}
 use Rattle.replay.proofs.frame.operation_of.Statement.{statement}

@@ -1,6 +1,6 @@
 -- `replay::lines::operation_line` meets its contract. Assumes nothing.
 use mathlib.Core.Path.{sym, ap, _∙_}
-use mathlib.Core.Bool.{true, false, true≢false}
+use mathlib.Core.Bool.{true≢false}
 use borrow.Author.Tests.{le-leb, lt-leb, not-true, not-false}
 use Rattle.lists.proofs.Places.{known}
 use Rattle.replay.specs.declared.Begun.{Begun}

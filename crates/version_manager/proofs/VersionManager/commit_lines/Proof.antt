@@ -5,8 +5,8 @@ use lib.ListN.{length}
 use Rattle.lists.proofs.Places.{known, length-mapped}
 use Rattle.ids.specs.Limits.{mostTables, mostHeld}
 use Rattle.snapshot.specs.Tables.{nameBytes}
-use Rattle.version_state.specs.State.{State, stateOf}
-use Rattle.operations.specs.Columns.{columns, Stands}
+use Rattle.version_state.specs.State.{stateOf}
+use Rattle.operations.specs.Columns.{columns}
 use Rattle.commit.specs.Commit.{commitOf}
 use Rattle.commit.specs.Lent.{operationsIn}
 use Rattle.commit.proofs.Calls.{ready-of}

@@ -1,14 +1,9 @@
 -- `ids::name::Name::length` meets its contract. Assumes nothing.
-use mathlib.Core.Path.{_≡_, refl, sym, ap, _∙_}
-use Prim.Native.Nat.{ℕ, _+_, _-_, _≤_}
-use native.Mathlib.Omega.{arith}
-use denote.Ref.{now}
-use lib.ListN.{length, take, drop, length-take}
-use lib.Seq.{take-length}
-use Rattle.lists.specs.Order.{same}
+use mathlib.Core.Path.{sym, ap}
+use Prim.Native.Nat.{_-_}
+use lib.ListN.{length}
 use Rattle.lists.proofs.Places.{known}
-use Rattle.ids.specs.Names.{nameOf}
-use Rattle.ids.proofs.Names.{name-short, name-over, name-length, name-room, same-more, same-differ, same-short, same-both, same-long, copy-more}
+use Rattle.ids.proofs.Names.{name-over, name-length}
 use Rattle.ids.proofs.name.Name.length.Statement.{statement}
 use Rattle.ids.proofs.name.Name.length.Tie as tie
 

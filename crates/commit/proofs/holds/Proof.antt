@@ -1,5 +1,5 @@
--- `commit::keeps` meets its contract: the laws of an accepted commit. Assumes nothing.
-use mathlib.Core.Path.{_≡_, refl, sym, ap, _∙_}
+-- `commit::holds` meets its contract: the laws of an accepted commit. Assumes nothing.
+use mathlib.Core.Path.{sym, ap, _∙_}
 use Prim.Native.Nat.{_+_}
 use lib.ListN.{length}
 use Rattle.version_state.specs.State.{State, stateOf}
@@ -7,8 +7,8 @@ use Rattle.frames.specs.Frames.{frameOf}
 use Rattle.commit.proofs.Stepwise.{steps-manifest}
 use Rattle.commit.proofs.Sounds.{accepts, commit-sound}
 use Rattle.commit.proofs.Older.{older-pairs, older-vectors}
-use Rattle.commit.proofs.keeps.Statement.{statement}
-use Rattle.commit.proofs.keeps.Tie as tie
+use Rattle.commit.proofs.holds.Statement.{statement}
+use Rattle.commit.proofs.holds.Tie as tie
 
 returns : tie.Need-returns
 returns c =
@@ -22,5 +22,5 @@ returns c =
       vectors = older-vectors;
     }
 
-pub keeps-spec : {M : Type 1} → statement M
-keeps-spec = tie.close (tie.spec returns)
+pub holds-spec : {M : Type 1} → statement M
+holds-spec = tie.close (tie.spec returns)

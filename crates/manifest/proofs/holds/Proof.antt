@@ -1,9 +1,9 @@
--- `manifest::agrees` meets its contract. Assumes nothing.
+-- `manifest::holds` meets its contract. Assumes nothing.
 use Rattle.manifest.proofs.Lines.{parse-line, text-parse, begin-parse, end-parse, read-back}
 use Rattle.manifest.proofs.Texts.{text-room}
 use Rattle.manifest.proofs.Split.{lines-on-append, rest-newline, lines-prefix}
-use Rattle.manifest.proofs.agrees.Statement.{statement}
-use Rattle.manifest.proofs.agrees.Tie as tie
+use Rattle.manifest.proofs.holds.Statement.{statement}
+use Rattle.manifest.proofs.holds.Tie as tie
 
 returns : tie.Need-returns
 returns c =
@@ -19,5 +19,5 @@ returns c =
       back = read-back;
     }
 
-pub agrees-spec : {M : Type 1} → statement M
-agrees-spec = tie.close (tie.spec returns)
+pub holds-spec : {M : Type 1} → statement M
+holds-spec = tie.close (tie.spec returns)
