@@ -30,7 +30,7 @@ use Rattle.version_manager.specs.Show.{showVerdict}
 use Rattle.plain_record.specs.Sets.{Table}
 use Rattle.plain_record.specs.Plain.{Waiting, Plain, epochOf, Record}
 use Rattle.plain_record.specs.Run.{World}
-use Rattle.plain_record.specs.Claim.{nineAlone, ShowsPairs, ShowsVectors, ShowsTables, namesOf, waitingIn, waitingOf, differ, Agrees}
+use Rattle.plain_record.specs.Claim.{nineAlone, ShowsPairs, ShowsVectors, ShowsTables, namesOf, waitingIn, waitingOf, pairsOf, differ, Agrees}
 use Rattle.plain_record.proofs.Invariant.{plainTable, Inv}
 
 -- three rules that do not hold are passed over
@@ -149,7 +149,7 @@ abbrev rest : List ℕ → List ℕ
 rest [] = []
 rest (x ∷ k) = k
 
-rest-waiting : (l : List Waiting) → map rest (map (λ (x : Waiting). x .epoch ∷ x .pair) l) ≡ map (λ (x : Waiting). x .pair) l
+rest-waiting : (l : List Waiting) → map rest (map (λ (x : Waiting). x .epoch ∷ x .pair) l) ≡ pairsOf l
 rest-waiting [] = refl
 rest-waiting (x ∷ l) = ap (λ k. x .pair ∷ k) (rest-waiting l)
 
@@ -157,9 +157,9 @@ rest-deleted : (l : List Entry) → map rest (map byDeletion l) ≡ map byIds l
 rest-deleted [] = refl
 rest-deleted (x ∷ l) = ap (λ k. x .ids ∷ k) (rest-deleted l)
 
-pairs-apart : (s : State) (p : Plain) → Ascending byIds (s .pairs) → waitingIn s ≡ waitingOf p → differ (map (λ (x : Waiting). x .pair) (p .waiting)) ≡ true
+pairs-apart : (s : State) (p : Plain) → Ascending byIds (s .pairs) → waitingIn s ≡ waitingOf p → differ (pairsOf (p .waiting)) ≡ true
 pairs-apart s p o h =
-    let e : map (λ (x : Waiting). x .pair) (p .waiting) ≡ map byIds (arranged byDeletion (keep waits (s .pairs))) =
+    let e : pairsOf (p .waiting) ≡ map byIds (arranged byDeletion (keep waits (s .pairs))) =
     sym (rest-waiting (p .waiting)) ∙ ap (map rest) (sym h) ∙ rest-deleted (arranged byDeletion (keep waits (s .pairs))) in
     ap differ e ∙ differ-arranged byDeletion byIds (keep waits (s .pairs)) ∙ differ-ascending (keep waits (s .pairs)) (ascending-keep byIds waits (s .pairs) o)
 

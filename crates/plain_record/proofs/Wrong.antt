@@ -237,7 +237,7 @@ lists-nothing claim =
         (refl, vacuumed S w afterTAD 0 (5 ∷ []) (5 ∷ []) nothing-says, tt),
       ),
     ) in
-    not-empty (h .answers .1 .1 .0 refl)
+    true≢false (sym (h .deletions .1 .0 refl refl .0 .0 refl .0 .1))
 
 -- the deletion's own epoch is pinned
 pin-says : PinSays afterTAD unpinned (Pinned 1) once
@@ -266,7 +266,7 @@ keeps-own-epoch claim =
         ),
       ),
     ) in
-    not-empty (h .answers .1 .1 .1 .0 refl)
+    true≢false (sym (h .deletions .1 .0 refl refl .0 .1 refl .1 .0 refl .0 .1))
 
 -- a pin answers the next epoch
 next-says : PinsNext afterTAD unpinned (Pinned 2) once
@@ -406,7 +406,7 @@ ignores-pins claim =
         ),
       ),
     ) in
-    not-empty (sym (h .answers .1 .1 .1 .1 .0 refl))
+    not-empty (sym (h .answers .1 .1 .1 .1 .0 refl .0))
 
 -- An empty commit, then one that creates the table.
 abbrev opsNone : List Operation

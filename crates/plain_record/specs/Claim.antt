@@ -71,6 +71,9 @@ waitingIn s = map byDeletion (arranged byDeletion (keep waits (s .pairs)))
 abbrev pub waitingOf : Plain → List (List ℕ)
 waitingOf p = map (λ (w : Waiting). w .epoch ∷ w .pair) (p .waiting)
 
+abbrev pub pairsOf : List Waiting → List (List ℕ)
+pairsOf l = map (λ (w : Waiting). w .pair) l
+
 -- no two have one pair
 abbrev pub differ : List (List ℕ) → Bool
 differ [] = true
@@ -90,7 +93,7 @@ pub record Agrees (w : World) (p : Plain) : Type 0 where
   pub vectors : (d : ℕ) → mayShow (epochOf p) (pinsOf (w .book)) d ≡ true → ShowsVectors w d (setsAt d p .vectors)
   pub book : map pinsIn (pinsOf (w .book)) ≡ p .pinned
   pub waiting : waitingIn (heldBy (w .manager)) ≡ waitingOf p
-  pub apart : differ (map (λ (x : Waiting). x .pair) (p .waiting)) ≡ true
+  pub apart : differ (pairsOf (p .waiting)) ≡ true
   -- next ids exceed every id that a counted commit added
   pub next : allOf (belowNext (heldBy (w .manager))) (p .added) ≡ true
 
@@ -102,8 +105,8 @@ AnswerBy r e (commit os out missing) = Unit {0}
 -- an accepted pin answers the current epoch
 AnswerBy r e pin = isAccepted (e .told) ≡ true → value 0 (e .told) ≡ epochOf (r .whole)
 AnswerBy r e (unpin d) = Unit {0}
--- an accepted vacuum lists what the record lists, in its order
-AnswerBy r e (vacuum ts rs) = isAccepted (e .told) ≡ true → e .listed ≡ map (λ (w : Waiting). w .pair) (listed (r .whole))
+-- an accepted vacuum lists what the record lists, in its order, and answers how many these are
+AnswerBy r e (vacuum ts rs) = isAccepted (e .told) ≡ true → (e .listed ≡ pairsOf (listed (r .whole))) × (value 0 (e .told) ≡ length (e .listed))
 -- a reopen that is lent enough is never refused
 AnswerBy r e (reopen out stale) = longestRewritten ≤ length out → isAccepted (e .told) ≡ true
 
@@ -145,23 +148,35 @@ vacuums e = isVacuum (e .call) && isAccepted (e .told)
 abbrev pub frees : Waiting → Event → Bool
 frees w e = vacuums e && not (blocked (map pinsIn (pinsOf (e .before .book))) (w .epoch))
 
--- the event lists w: w is told apart by its commit and its operation
+-- w is told apart by its commit and its operation
 abbrev pub isIt : Waiting → Waiting → Bool
 isIt w x = eqb (x .commit) (w .commit) && eqb (x .operation) (w .operation)
 
+-- another deletion of w's pair waits
+abbrev pub another : Waiting → Record → Bool
+another w r = anyOf (λ x. same (w .pair) (x .pair) && not (isIt w x)) (r .whole .waiting)
+
+-- the record's list has w; the event's own list has its pair, which is no other deletion's
+abbrev pub removes : Waiting → Record → Event → Bool
+removes w r e = vacuums e && anyOf (isIt w) (listed (r .whole))
+
 abbrev pub lists : Waiting → Record → Event → Bool
-lists w r e = vacuums e && anyOf (isIt w) (listed (r .whole))
+lists w r e = vacuums e && (anyOf (same (w .pair)) (e .listed) && not (another w r))
+
+-- whether w is listed by the event, in the record and by the manager
+abbrev pub Listing : Bool → Waiting → Record → Event → Type 0
+Listing b w r e = (removes w r e ≡ b) × (lists w r e ≡ b)
 
 -- in the events from the record r on, the first that frees w lists it, and no other does
 abbrev pub NeverListed : Waiting → Record → List Event → Type 0
 NeverListed w r [] = Unit {0}
-NeverListed w r (e ∷ es) = (lists w r e ≡ false) × NeverListed w (nextRecord r e) es
+NeverListed w r (e ∷ es) = Listing false w r e × NeverListed w (nextRecord r e) es
 
 abbrev pub ListedFirst : Waiting → Record → List Event → Type 0
 ListedFirst w r [] = Unit {0}
 ListedFirst w r (e ∷ es) =
-    ((frees w e ≡ true) → (lists w r e ≡ true) × NeverListed w (nextRecord r e) es)
-    × ((frees w e ≡ false) → (lists w r e ≡ false) × ListedFirst w (nextRecord r e) es)
+    ((frees w e ≡ true) → Listing true w r e × NeverListed w (nextRecord r e) es)
+    × ((frees w e ≡ false) → Listing false w r e × ListedFirst w (nextRecord r e) es)
 
 -- no accepted reopen
 abbrev pub neverReopened : List Event → Bool
