@@ -45,7 +45,7 @@ use Rattle.plain_record.specs.Sets as plain
 use Rattle.plain_record.specs.Plain.{Pins}
 use Rattle.plain_record.specs.Calls.{drawRowset, commit, pin, vacuum, reopen}
 use Rattle.plain_record.specs.Run.{Steps, World, world, Event, onward, afterCommit, afterReopen, pairsIn, Starts, Link}
-use Rattle.plain_record.specs.Claim.{ShowsTables}
+use Rattle.plain_record.specs.Shows.{ShowsTables}
 use Rattle.plain_record.specs.Wrong.{unchanged, keepsSets, unjudged, judgesNothing, PinsNext, answersNext, PinsNothing, countsNoPin, VacuumsTo, listsNothing, loweredBound, keepsOwnEpoch, ignoresPins, opensEmpty, firstFrame, readsFirst, closed, countsEarly, forgotten, forgetsIds, Refuted, WrongRefuted}
 
 -- What is not equal.
@@ -442,11 +442,11 @@ unfolding rows stepOf textOf fieldsText digits digitsBy isName isNameByte isDigi
 says-T = (refl, record { fits = few 2 1 0 tables noPairs 16 (omega arith) (omega arith); state = refl }, refl)
 
 -- a manager without tables, where the record has one; and one with a table, where it has none
-no-table : (w : World) (d : ℕ) (t : plain.Table) → ShowTablesSays (w .manager) (w .book) d [] [] [] [] (Shown 0) [] [] [] [] → ShowsTables w d (t ∷ []) → ⊥
-no-table w d t says h = apart (ap (λ (x : Told). x .number) (h [] [] [] [] (Shown 0) [] [] [] [] says .0)) refl
+no-table : (S : Steps) (w : World) (d : ℕ) (t : plain.Table) → S .showTables (w .manager) (w .book) d [] [] [] [] (Shown 0) [] [] [] [] → ShowsTables S w d (t ∷ []) → ⊥
+no-table S w d t says h = apart (ap (λ (x : Told). x .number) (h [] [] [] [] (Shown 0) [] [] [] [] says .0)) refl
 
-a-table : (w : World) (d : ℕ) → ShowTablesSays (w .manager) (w .book) d [] [] [] [] (NotShown OutputTooShort) [] [] [] [] → ShowsTables w d [] → ⊥
-a-table w d says h = apart (ap (λ (x : Told). x .number) (h [] [] [] [] (NotShown OutputTooShort) [] [] [] [] says .0)) refl
+a-table : (S : Steps) (w : World) (d : ℕ) → S .showTables (w .manager) (w .book) d [] [] [] [] (NotShown OutputTooShort) [] [] [] [] → ShowsTables S w d [] → ⊥
+a-table S w d says h = apart (ap (λ (x : Told). x .number) (h [] [] [] [] (NotShown OutputTooShort) [] [] [] [] says .0)) refl
 
 abbrev recorded : plain.Table
 recorded = plain.table 0 7 name
@@ -470,7 +470,7 @@ keeps-sets claim =
       committed S begun opsNone afterNone 1 4 frameNone 0 says-none,
       (refl, committed S (commitNone .after) opsT (afterT noTables) 2 12 frameT 0 unchanged-T, tt),
     ) in
-    no-table (commitT noTables 0 .after) 2 recorded unchanged-shows (h .agrees .tables)
+    no-table S (commitT noTables 0 .after) 2 recorded unchanged-shows (h .agrees .tables)
 
 -- a reopen that leaves nothing
 abbrev rewritten : List ℕ
@@ -485,7 +485,7 @@ empty-shows = record { answer = refl; ids = refl; shapes = refl; lengths = refl;
 
 module _ (S : Steps) (fresh : S .fresh first) (none : S .commit (first .manager) (length opsNone) opsNone frameNone (appended afterNone 1 4) frameNone)
     (one : S .commit afterNone (length opsT) opsT frameT (appended (afterT tables) 2 12) frameT)
-    (opens : S .reopen (frameNone ++ frameT) rewritten (rewrittenBy empty 12) rewritten) where
+    (opens : S .reopen (frameNone ++ frameT) rewritten (rewrittenBy empty 12) rewritten) (shows : S .showTables empty unpinned 1 [] [] [] [] (Shown 0) [] [] [] []) where
   all-gone : Refuted S
   all-gone claim =
       let w = commitT tables 0 .after in
@@ -500,21 +500,21 @@ module _ (S : Steps) (fresh : S .fresh first) (none : S .commit (first .manager)
           (refl, reopened S w empty 12 rewritten opens, tt),
         ),
       ) in
-      no-table (o .after) 1 recorded empty-shows (h .agrees .tables)
+      no-table S (o .after) 1 recorded shows (h .agrees .tables)
 
 empty-says : ReopenSays [] rewritten (rewrittenBy empty 12) rewritten
 unfolding rows textOf fieldsText digits digitsBy lines linesOn
 empty-says = (refl, record { fits = few 1 0 0 noTables noPairs 12 (omega arith) (omega arith); state = refl }, no-pins, refl)
 
 opens-empty : Refuted opensEmpty
-opens-empty = all-gone opensEmpty fresh-says says-none says-T empty-says
+opens-empty = all-gone opensEmpty fresh-says says-none says-T empty-says empty-shows
 
 first-says : ReopenSays (firstFrame (frameNone ++ frameT)) rewritten (rewrittenBy empty 12) rewritten
 unfolding rows textOf fieldsText digits digitsBy lines linesOn lineOf lineBy
 first-says = (refl, record { fits = few 1 0 0 noTables noPairs 12 (omega arith) (omega arith); state = refl }, no-pins, refl)
 
 reads-first : Refuted readsFirst
-reads-first = all-gone readsFirst fresh-says says-none says-T first-says
+reads-first = all-gone readsFirst fresh-says says-none says-T first-says empty-shows
 
 -- Reopens that find the table, where the next table's digit is n.
 abbrev rewrittenT : ℕ → List ℕ
@@ -550,7 +550,7 @@ counts-early claim =
         (refl, reopened S w (found 1) 20 (rewrittenT 49) early-says, tt),
       ),
     ) in
-    a-table (o .after) 1 found-shows (h .agrees .tables)
+    a-table S (o .after) 1 found-shows (h .agrees .tables)
 
 -- the used ids are forgotten
 forgets-says : ReopenIs (forgotten (frameNone ++ frameT) 20) (rewrittenT 48) (rewrittenBy (found 0) 20) (rewrittenT 48)

@@ -1,63 +1,21 @@
 -- Demand 3: what is claimed of every run, beside the plain record of its calls. Assumes nothing.
 use mathlib.Core.Path.{_≡_}
-use mathlib.Core.Bool.{Bool, true, false, cond, not, _&&_, _||_}
-use mathlib.Core.List.{List, [], _∷_, _++_, map}
-use Prim.Native.Nat.{ℕ, _+_, _*_, _≤_}
+use mathlib.Core.Bool.{Bool, true, false, not, _&&_}
+use mathlib.Core.List.{List, [], _∷_, map}
+use Prim.Native.Nat.{ℕ, _+_, _≤_}
 use lib.Dec.{eqb, ltb}
 use lib.ListN.{length}
 use Rattle.lists.specs.Order.{same}
 use Rattle.lists.specs.Keyed.{keep, allOf, anyOf, arranged}
-use Rattle.lists.specs.Written.{over}
-use Rattle.ids.specs.declared.refusal.Refusal.the-variants.{OutputTooShort}
-use Rattle.ids.specs.declared.refusal.Verdict.{Verdict}
-use Rattle.ids.specs.Names.{longestName}
-use Rattle.ids.specs.Verdicts.{_⇒_, judged}
-use Rattle.ids.specs.Answers.{told, after}
 use Rattle.snapshot.specs.Entries.{Entry, byDeletion, waits}
 use Rattle.version_state.specs.State.{State}
 use Rattle.pins.specs.Book.{PinEntry, pinsOf, mayShow}
-use Rattle.show.specs.declared.ShowAnswer.{ShowAnswer}
-use Rattle.show.specs.Names.{padded}
-use Rattle.show.specs.Says.{showTold, shownField}
 use Rattle.version_manager.specs.Managers.{heldBy}
-use Rattle.version_manager.specs.Show.{ShowTablesSays, ShowPairsSays, ShowVectorsSays}
 use Rattle.rewrite.specs.Rewritten.{longestRewritten}
-use Rattle.plain_record.specs.Sets.{Table, Sets}
 use Rattle.plain_record.specs.Calls.{Call, drawRowset, drawVector, commit, pin, unpin, vacuum, reopen}
 use Rattle.plain_record.specs.Plain.{Pins, pins, Waiting, Id, tableId, rowsetId, vectorId, Plain, epochOf, setsAt, deletions, blocked, listed, Record, atStart, turn}
 use Rattle.plain_record.specs.Run.{Steps, World, Event, isAccepted, value, Chain, lastOf, Starts}
-
--- What show gives, whatever is lent: the rows, refused by 9 alone.
-
-abbrev pub nineAlone : Bool → Verdict
-nineAlone short = judged ((short ⇒ OutputTooShort) ∷ [])
-
-abbrev pub ShowsPairs : World → ℕ → List (List ℕ) → Type 0
-ShowsPairs w d l =
-    (ts rs : List ℕ) (a : ShowAnswer) (ts′ rs′ : List ℕ) → ShowPairsSays (w .manager) (w .book) d ts rs a ts′ rs′
-    → let v = nineAlone (ltb (length ts) (length l) || ltb (length rs) (length l)) in
-    (showTold a ≡ told v (length l ∷ [])) × (ts′ ≡ after v (over (shownField 0 l) ts) ts) × (rs′ ≡ after v (over (shownField 1 l) rs) rs)
-
-abbrev pub ShowsVectors : World → ℕ → List (List ℕ) → Type 0
-ShowsVectors w d l =
-    (ts rs vs : List ℕ) (a : ShowAnswer) (ts′ rs′ vs′ : List ℕ) → ShowVectorsSays (w .manager) (w .book) d ts rs vs a ts′ rs′ vs′
-    → let v = nineAlone (ltb (length ts) (length l) || (ltb (length rs) (length l) || ltb (length vs) (length l))) in
-    (showTold a ≡ told v (length l ∷ [])) × (ts′ ≡ after v (over (shownField 0 l) ts) ts) × (rs′ ≡ after v (over (shownField 1 l) rs) rs) × (vs′ ≡ after v (over (shownField 2 l) vs) vs)
-
--- the names of tables, 32 bytes each
-abbrev pub namesOf : List Table → List ℕ
-namesOf [] = []
-namesOf (t ∷ l) = padded (t .name) ++ namesOf l
-
-abbrev pub ShowsTables : World → ℕ → List Table → Type 0
-ShowsTables w d l =
-    (is hs ls ns : List ℕ) (a : ShowAnswer) (is′ hs′ ls′ ns′ : List ℕ) → ShowTablesSays (w .manager) (w .book) d is hs ls ns a is′ hs′ ls′ ns′
-    → let v = nineAlone (ltb (length is) (length l) || (ltb (length hs) (length l) || (ltb (length ls) (length l) || ltb (length ns) (longestName * length l)))) in
-    (showTold a ≡ told v (length l ∷ []))
-    × (is′ ≡ after v (over (map (λ (t : Table). t .id) l) is) is)
-    × (hs′ ≡ after v (over (map (λ (t : Table). t .shape) l) hs) hs)
-    × (ls′ ≡ after v (over (map (λ (t : Table). length (t .name)) l) ls) ls)
-    × (ns′ ≡ after v (over (namesOf l) ns) ns)
+use Rattle.plain_record.specs.Shows.{ShowsTables, ShowsPairs, ShowsVectors}
 
 -- What the manager and the book hold beside it, in the record's terms.
 
@@ -85,12 +43,12 @@ belowNext s (rowsetId r) = ltb r (s .nextRowset)
 belowNext s (vectorId v) = ltb v (s .nextVector)
 
 -- equal after the list
-pub record Agrees (w : World) (p : Plain) : Type 0 where
+pub record Agrees (S : Steps) (w : World) (p : Plain) : Type 0 where
   pub epoch : heldBy (w .manager) .epoch ≡ epochOf p
-  pub tables : ShowsTables w (epochOf p) (p .now .tables)
+  pub tables : ShowsTables S w (epochOf p) (p .now .tables)
   -- of the current epoch and of each pinned one
-  pub pairs : (d : ℕ) → mayShow (epochOf p) (pinsOf (w .book)) d ≡ true → ShowsPairs w d (setsAt d p .pairs)
-  pub vectors : (d : ℕ) → mayShow (epochOf p) (pinsOf (w .book)) d ≡ true → ShowsVectors w d (setsAt d p .vectors)
+  pub pairs : (d : ℕ) → mayShow (epochOf p) (pinsOf (w .book)) d ≡ true → ShowsPairs S w d (setsAt d p .pairs)
+  pub vectors : (d : ℕ) → mayShow (epochOf p) (pinsOf (w .book)) d ≡ true → ShowsVectors S w d (setsAt d p .vectors)
   pub book : map pinsIn (pinsOf (w .book)) ≡ p .pinned
   pub waiting : waitingIn (heldBy (w .manager)) ≡ waitingOf p
   pub apart : differ (pairsOf (p .waiting)) ≡ true
@@ -203,10 +161,10 @@ Deletions r (e ∷ es) =
     (isAccepted (e .told) ≡ true → neverReopened es ≡ true → EachListed (deletionsBy r (e .call)) (nextRecord r e) es) × Deletions (nextRecord r e) es
 
 -- after every list of calls
-pub record Holds (w : World) (es : List Event) : Type 0 where
-  pub agrees : Agrees (lastOf w es) (recordOf atStart es .whole)
+pub record Holds (S : Steps) (w : World) (es : List Event) : Type 0 where
+  pub agrees : Agrees S (lastOf w es) (recordOf atStart es .whole)
   pub answers : Answers atStart es
   pub deletions : Deletions atStart es
 
 abbrev pub Claim : Steps → Type 0
-Claim S = (w : World) (es : List Event) → Starts S w → Chain S w es → Holds w es
+Claim S = (w : World) (es : List Event) → Starts S w → Chain S w es → Holds S w es

@@ -48,6 +48,9 @@ committing c =
       unpin = port .unpin;
       vacuum = port .vacuum;
       reopen = port .reopen;
+      showTables = port .showTables;
+      showPairs = port .showPairs;
+      showVectors = port .showVectors;
     }
 
 abbrev pub pinning : (VersionManager → PinBook → PinAnswer → PinBook → Type 0) → Steps
@@ -61,6 +64,9 @@ pinning p =
       unpin = port .unpin;
       vacuum = port .vacuum;
       reopen = port .reopen;
+      showTables = port .showTables;
+      showPairs = port .showPairs;
+      showVectors = port .showVectors;
     }
 
 abbrev pub vacuuming : (VersionManager → PinBook → List ℕ → List ℕ → Vacuumed → List ℕ → List ℕ → Type 0) → Steps
@@ -74,6 +80,9 @@ vacuuming v =
       unpin = port .unpin;
       vacuum = v;
       reopen = port .reopen;
+      showTables = port .showTables;
+      showPairs = port .showPairs;
+      showVectors = port .showVectors;
     }
 
 abbrev pub reopening : (List ℕ → List ℕ → Reopened → List ℕ → Type 0) → Steps
@@ -87,6 +96,9 @@ reopening o =
       unpin = port .unpin;
       vacuum = port .vacuum;
       reopen = o;
+      showTables = port .showTables;
+      showPairs = port .showPairs;
+      showVectors = port .showVectors;
     }
 
 -- a commit raises the epoch and the next ids, and keeps the old sets

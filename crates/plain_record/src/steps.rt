@@ -4,6 +4,7 @@ use manifest::operation::Batch;
 use pinning::PinStep;
 use pinning::UnpinStep;
 use pins::PinBook;
+use show::ShowAnswer;
 use storage::Reopened;
 use version_manager::Committed;
 use version_manager::DrawnRowset;
@@ -73,4 +74,43 @@ pub fn reopen(src: &[u8], out: &mut [u8]) -> Reopened
     ensures { λ r. ⌜ port .reopen (now (src .entry)) (now (out .entry)) r (now (out .exit)) ⌝ }
 {
     storage::bootstrap(src, out)
+}
+
+pub fn show_tables(
+    manager: VersionManager,
+    book: PinBook,
+    epoch: u32,
+    ids: &mut [u32],
+    shapes: &mut [u32],
+    lengths: &mut [u32],
+    names: &mut [u8],
+) -> ShowAnswer
+    ensures { λ r. ⌜ port .showTables manager book epoch (now (ids .entry)) (now (shapes .entry)) (now (lengths .entry)) (now (names .entry)) r (now (ids .exit)) (now (shapes .exit)) (now (lengths .exit)) (now (names .exit)) ⌝ }
+{
+    manager.show_tables(book, epoch, ids, shapes, lengths, names)
+}
+
+pub fn show_pairs(
+    manager: VersionManager,
+    book: PinBook,
+    epoch: u32,
+    tables: &mut [u32],
+    rowsets: &mut [u32],
+) -> ShowAnswer
+    ensures { λ r. ⌜ port .showPairs manager book epoch (now (tables .entry)) (now (rowsets .entry)) r (now (tables .exit)) (now (rowsets .exit)) ⌝ }
+{
+    manager.show_pairs(book, epoch, tables, rowsets)
+}
+
+pub fn show_vectors(
+    manager: VersionManager,
+    book: PinBook,
+    epoch: u32,
+    tables: &mut [u32],
+    rowsets: &mut [u32],
+    vectors: &mut [u64],
+) -> ShowAnswer
+    ensures { λ r. ⌜ port .showVectors manager book epoch (now (tables .entry)) (now (rowsets .entry)) (now (vectors .entry)) r (now (tables .exit)) (now (rowsets .exit)) (now (vectors .exit)) ⌝ }
+{
+    manager.show_vectors(book, epoch, tables, rowsets, vectors)
 }
