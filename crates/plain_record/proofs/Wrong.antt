@@ -2,12 +2,13 @@
 use mathlib.Core.Path.{_≡_, refl, sym, ap, _∙_}
 use mathlib.Core.Bool.{Bool, true, false, true≢false}
 use mathlib.Core.List.{List, [], _∷_, _++_}
-use Prim.Native.Nat.{ℕ, _≤_}
+use Prim.Native.Nat.{ℕ, _-_, _≤_}
 use native.Mathlib.Omega.{arith}
 use lib.Dec.{eqb}
-use lib.ListN.{length}
+use lib.ListN.{length, replicate}
 use borrow.Author.Tests.{eq-eqb}
 use Rattle.columns.specs.Rows.{rows}
+use Rattle.ids.specs.Limits.{mostTables, mostHeld}
 use Rattle.ids.specs.declared.refusal.Refusal.the-variants.{OutputTooShort}
 use Rattle.ids.specs.Answers.{Told}
 use Rattle.text.specs.Class.{isDigit, isLower}
@@ -18,10 +19,12 @@ use Rattle.manifest.specs.Lines.{fieldAt, named as namedAt, tableFields, lineBy
 use Rattle.manifest.specs.Split.{linesOn, restOn, lines}
 use Rattle.snapshot.specs.declared.rowsets.Rowsets.{Rowsets}
 use Rattle.snapshot.specs.declared.tables.Tables.{Tables}
+use Rattle.snapshot.specs.declared.vectors.Vectors.{Vectors}
+use Rattle.snapshot.specs.Tables.{nameBytes}
 use Rattle.snapshot.specs.Entries.{goneAt, shownAt}
 use Rattle.version_state.specs.State.{Fit}
 use Rattle.pins.specs.declared.PinBook.{PinBook}
-use Rattle.pins.specs.Book.{Keeps}
+use Rattle.pins.specs.Book.{mostPinned, Keeps}
 use Rattle.operations.specs.Steps.{stepOf}
 use Rattle.version_manager.specs.declared.VersionManager.{VersionManager}
 use Rattle.version_manager.specs.declared.Opened.{Opened}
@@ -59,12 +62,25 @@ not-empty {A} e = true≢false (ap isNone e)
     isNone [] = true
     isNone (x ∷ l) = false
 
--- Managers and books.
+-- Managers and books, their arrays of the lengths that they have in the code: what is held, and zeros after it.
+abbrev places : ℕ → List ℕ → List ℕ
+places n l = l ++ replicate (n - length l) 0
+
+abbrev holds : List ℕ → List ℕ → List ℕ → List ℕ → ℕ → Tables
+holds i h l s n =
+    record { ids = places mostTables i; shapes = places mostTables h; lengths = places mostTables l; names = places nameBytes s; locked = replicate mostTables false; count = n }
+
+abbrev holdsPairs : List ℕ → List ℕ → List ℕ → List ℕ → ℕ → Rowsets
+holdsPairs t r a d n = record { tables = places mostHeld t; rowsets = places mostHeld r; added = places mostHeld a; deleted = places mostHeld d; count = n }
+
 abbrev noTables : Tables
-noTables = record { ids = []; shapes = []; lengths = []; names = []; locked = []; count = 0 }
+noTables = holds [] [] [] [] 0
 
 abbrev noPairs : Rowsets
-noPairs = record { tables = []; rowsets = []; added = []; deleted = []; count = 0 }
+noPairs = holdsPairs [] [] [] [] 0
+
+abbrev noVectors : Vectors
+noVectors = record { tables = places mostHeld []; rowsets = places mostHeld []; vectors = places mostHeld []; added = places mostHeld []; deleted = places mostHeld []; count = 0 }
 
 abbrev holding : ℕ → ℕ → ℕ → Tables → Rowsets → ℕ → VersionManager
 holding e t r ts rs n =
@@ -74,7 +90,7 @@ holding e t r ts rs n =
         next = record { table = record { 0 = t }; rowset = record { 0 = r }; vector = record { 0 = 0 } };
         tables = ts;
         rowsets = rs;
-        vectors = record { tables = []; rowsets = []; vectors = []; added = []; deleted = []; count = 0 };
+        vectors = noVectors;
         manifest = n;
       };
     }
@@ -83,11 +99,11 @@ few : (e t r : ℕ) (ts : Tables) (rs : Rowsets) (n : ℕ) → ts .count ≤ 1 �
 few e t r ts rs n h k = record { tables = omega arith; rowsets = omega arith; vectors = omega arith }
 
 abbrev unpinned : PinBook
-unpinned = record { items = []; count = 0 }
+unpinned = record { items = replicate mostPinned (record { epoch = 0; count = 0 }); count = 0 }
 
 -- one pin, on epoch 1
 abbrev once : PinBook
-once = record { items = record { epoch = 1; count = 1 } ∷ []; count = 1 }
+once = record { items = record { epoch = 1; count = 1 } ∷ replicate (mostPinned - 1) (record { epoch = 0; count = 0 }); count = 1 }
 
 no-pins : Keeps unpinned []
 no-pins = record { fits = omega arith; pins = refl }
@@ -193,10 +209,10 @@ abbrev deletes : Operation
 deletes = deleteRowset 0 0
 
 abbrev tables : Tables
-tables = record { ids = 0 ∷ []; shapes = 7 ∷ []; lengths = 1 ∷ []; names = name; locked = false ∷ []; count = 1 }
+tables = holds (0 ∷ []) (7 ∷ []) (1 ∷ []) name 1
 
 abbrev pair : ℕ → ℕ → Rowsets
-pair a d = record { tables = 0 ∷ []; rowsets = 0 ∷ []; added = a ∷ []; deleted = d ∷ []; count = 1 }
+pair a d = holdsPairs (0 ∷ []) (0 ∷ []) (a ∷ []) (d ∷ []) 1
 
 -- The table is created, the rowset added and deleted, all at epoch 1.
 abbrev opsTAD : List Operation
