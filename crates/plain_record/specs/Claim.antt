@@ -17,7 +17,7 @@ use Rattle.plain_record.specs.Plain.{Pins, pins, Waiting, Id, tableId, r
 use Rattle.plain_record.specs.Run.{Steps, World, Event, isAccepted, value, Chain, lastOf, Starts}
 use Rattle.plain_record.specs.Shows.{ShowsTables, ShowsPairs, ShowsVectors}
 
--- What the manager and the book hold beside it, in the record's terms.
+-- What the manager and the book hold, in the record's terms.
 
 abbrev pub pinsIn : PinEntry → Pins
 pinsIn p = pins (p .epoch) (p .count)
@@ -114,10 +114,11 @@ isIt w x = eqb (x .commit) (w .commit) && eqb (x .operation) (w .operation)
 abbrev pub another : Waiting → Record → Bool
 another w r = anyOf (λ x. same (w .pair) (x .pair) && not (isIt w x)) (r .whole .waiting)
 
--- the record's list has w; the event's own list has its pair, which is no other deletion's
+-- the record's list has w
 abbrev pub removes : Waiting → Record → Event → Bool
 removes w r e = vacuums e && anyOf (isIt w) (listed (r .whole))
 
+-- the event's own list has w's pair, and it stands for no other deletion
 abbrev pub lists : Waiting → Record → Event → Bool
 lists w r e = vacuums e && (anyOf (same (w .pair)) (e .listed) && not (another w r))
 

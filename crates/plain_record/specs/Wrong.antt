@@ -40,7 +40,7 @@ use Rattle.storage.specs.Reopen.{openedOf, ReopenIs, ReopenSays}
 use Rattle.plain_record.specs.Run.{Steps, port}
 use Rattle.plain_record.specs.Claim.{Claim}
 
--- the port with other calls
+-- the port with these calls in place of its own
 abbrev pub exchanged : (VersionManager → ℕ → List Operation → List ℕ → Committed → List ℕ → Type 0)
     → (VersionManager → PinBook → PinAnswer → PinBook → Type 0)
     → (VersionManager → ℕ → PinBook → UnpinAnswer → PinBook → Type 0)
@@ -63,7 +63,7 @@ exchanged c p u v o s =
       showVectors = port .showVectors;
     }
 
--- and with one
+-- with one of them
 abbrev pub committing : (VersionManager → ℕ → List Operation → List ℕ → Committed → List ℕ → Type 0) → Steps
 committing c = exchanged c (port .pin) (port .unpin) (port .vacuum) (port .reopen) (port .showPairs)
 
