@@ -29,8 +29,9 @@ use Rattle.version_manager.specs.Managers.{heldBy, badManager}
 use Rattle.version_manager.specs.Show.{showVerdict}
 use Rattle.plain_record.specs.Sets.{Table}
 use Rattle.plain_record.specs.Plain.{Waiting, Plain, epochOf, Record}
-use Rattle.plain_record.specs.Run.{World}
-use Rattle.plain_record.specs.Claim.{nineAlone, ShowsPairs, ShowsVectors, ShowsTables, namesOf, waitingIn, waitingOf, differ, Agrees}
+use Rattle.plain_record.specs.Run.{port, World}
+use Rattle.plain_record.specs.Shows.{nineAlone, namesOf, ShowsPairs, ShowsVectors, ShowsTables}
+use Rattle.plain_record.specs.Claim.{waitingIn, waitingOf, pairsOf, differ, Agrees}
 use Rattle.plain_record.proofs.Invariant.{plainTable, Inv}
 
 -- three rules that do not hold are passed over
@@ -46,7 +47,7 @@ module _ (w : World) (good : badManager (w .manager) ≡ false) (book : badBook 
     seen-not : unseen (heldBy (w .manager)) (w .book) d ≡ false
     seen-not = ap not seen
 
-    pairs-shown : ShowsPairs w d (pairsAt d (heldBy (w .manager)))
+    pairs-shown : ShowsPairs port w d (pairsAt d (heldBy (w .manager)))
     pairs-shown ts rs a ts′ rs′ says =
         let l = pairsAt d (heldBy (w .manager)) in
         let e = nine (unseen (heldBy (w .manager)) (w .book) d) (ltb (length ts) (length l) || ltb (length rs) (length l)) seen-not in (
@@ -55,7 +56,7 @@ module _ (w : World) (good : badManager (w .manager) ≡ false) (book : badBook 
           says .rowsets ∙ ap (λ (v : Verdict). after v (over (shownField 1 l) rs) rs) e,
         )
 
-    vectors-shown : ShowsVectors w d (vectorsAt d (heldBy (w .manager)))
+    vectors-shown : ShowsVectors port w d (vectorsAt d (heldBy (w .manager)))
     vectors-shown ts rs vs a ts′ rs′ vs′ says =
         let l = vectorsAt d (heldBy (w .manager)) in
         let e = nine (unseen (heldBy (w .manager)) (w .book) d) (ltb (length ts) (length l) || (ltb (length rs) (length l) || ltb (length vs) (length l))) seen-not in (
@@ -89,7 +90,7 @@ module _ (w : World) (good : badManager (w .manager) ≡ false) (book : badBook 
   abbrev short : ℕ → ℕ → ℕ → ℕ → ℕ → Bool
   short i h l n k = ltb i k || (ltb h k || (ltb l k || ltb n (longestName * k)))
 
-  tables-shown : ShowsTables w d (map plainTable (heldBy (w .manager) .tables))
+  tables-shown : ShowsTables port w d (map plainTable (heldBy (w .manager) .tables))
   tables-shown is hs ls ns a is′ hs′ ls′ ns′ says =
       let l = heldBy (w .manager) .tables in
       let k = sym (length-map l plainTable) in
@@ -149,7 +150,7 @@ abbrev rest : List ℕ → List ℕ
 rest [] = []
 rest (x ∷ k) = k
 
-rest-waiting : (l : List Waiting) → map rest (map (λ (x : Waiting). x .epoch ∷ x .pair) l) ≡ map (λ (x : Waiting). x .pair) l
+rest-waiting : (l : List Waiting) → map rest (map (λ (x : Waiting). x .epoch ∷ x .pair) l) ≡ pairsOf l
 rest-waiting [] = refl
 rest-waiting (x ∷ l) = ap (λ k. x .pair ∷ k) (rest-waiting l)
 
@@ -157,19 +158,19 @@ rest-deleted : (l : List Entry) → map rest (map byDeletion l) ≡ map byIds l
 rest-deleted [] = refl
 rest-deleted (x ∷ l) = ap (λ k. x .ids ∷ k) (rest-deleted l)
 
-pairs-apart : (s : State) (p : Plain) → Ascending byIds (s .pairs) → waitingIn s ≡ waitingOf p → differ (map (λ (x : Waiting). x .pair) (p .waiting)) ≡ true
+pairs-apart : (s : State) (p : Plain) → Ascending byIds (s .pairs) → waitingIn s ≡ waitingOf p → differ (pairsOf (p .waiting)) ≡ true
 pairs-apart s p o h =
-    let e : map (λ (x : Waiting). x .pair) (p .waiting) ≡ map byIds (arranged byDeletion (keep waits (s .pairs))) =
+    let e : pairsOf (p .waiting) ≡ map byIds (arranged byDeletion (keep waits (s .pairs))) =
     sym (rest-waiting (p .waiting)) ∙ ap (map rest) (sym h) ∙ rest-deleted (arranged byDeletion (keep waits (s .pairs))) in
     ap differ e ∙ differ-arranged byDeletion byIds (keep waits (s .pairs)) ∙ differ-ascending (keep waits (s .pairs)) (ascending-keep byIds waits (s .pairs) o)
 
-pub agree : (w : World) (r : Record) → Inv w r → Agrees w (r .whole)
+pub agree : (w : World) (r : Record) → Inv w r → Agrees port w (r .whole)
 agree w r i =
     record {
       epoch = i .epoch;
-      tables = subst (ShowsTables w (epochOf (r .whole))) (i .tables) (tables-shown w (i .sound) (i .book) (epochOf (r .whole)) (sym (i .epoch)));
-      pairs = λ d h. subst (ShowsPairs w d) (i .pairs d (seen d h)) (pairs-shown w (i .sound) (i .book) d (shows d h));
-      vectors = λ d h. subst (ShowsVectors w d) (i .vectors d (seen d h)) (vectors-shown w (i .sound) (i .book) d (shows d h));
+      tables = subst (ShowsTables port w (epochOf (r .whole))) (i .tables) (tables-shown w (i .sound) (i .book) (epochOf (r .whole)) (sym (i .epoch)));
+      pairs = λ d h. subst (ShowsPairs port w d) (i .pairs d (seen d h)) (pairs-shown w (i .sound) (i .book) d (shows d h));
+      vectors = λ d h. subst (ShowsVectors port w d) (i .vectors d (seen d h)) (vectors-shown w (i .sound) (i .book) d (shows d h));
       book = i .pins;
       waiting = i .waiting;
       apart = pairs-apart (heldBy (w .manager)) (r .whole) (ascend-to byIds (heldBy (w .manager) .pairs) (sound-of (w .manager .inner) (i .sound) .ordered .pairs)) (i .waiting);

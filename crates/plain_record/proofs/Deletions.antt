@@ -2,29 +2,45 @@
 use mathlib.Core.Path.{_≡_, refl, sym, ap, _∙_}
 use mathlib.Core.Bool.{Bool, true, false, cond, not, _&&_, _||_}
 use mathlib.Core.List.{List, [], _∷_, map}
-use Prim.Native.Nat.{ℕ, _+_, _<_}
+use Prim.Native.Nat.{ℕ, _+_, _<_, _≤_}
 use native.Mathlib.Omega.{arith}
 use lib.Dec.{eqb}
-use borrow.Author.Tests.{eq-eqb, ne-eqb, not-true}
+use borrow.Author.Tests.{eq-eqb, ne-eqb, eqb-true, not-true}
+use Rattle.lists.specs.Order.{same}
 use Rattle.lists.specs.Keyed.{keep, anyOf, placed}
-use Rattle.lists.proofs.Tests.{by-cases, clash, neither}
+use Rattle.lists.proofs.Tests.{by-cases, clash, both, join, neither}
+use Rattle.lists.proofs.Order.{same-refl, same-true}
 use Rattle.lists.proofs.Keyed.{All, all-map, all-placed, all-keep, anyOf-placed, none-anyOf}
 use Rattle.manifest.specs.Operations.{Operation, createTable, dropTable, addRowset, deleteRowset, addVector, deleteVector, nextIds}
 use Rattle.pins.specs.Book.{pinsOf}
 use Rattle.plain_record.specs.Calls.{Call, drawRowset, drawVector, commit, pin, unpin, vacuum, reopen}
-use Rattle.plain_record.specs.Plain.{Waiting, byEpochAndPair, epochOf, deletions, await, counted, blocked, Record, atStart, turn}
+use Rattle.plain_record.specs.Plain.{Waiting, byEpochAndPair, epochOf, deletions, await, counted, blocked, listed, Record, atStart, turn}
 use Rattle.plain_record.specs.Run.{Event, isAccepted}
-use Rattle.plain_record.specs.Claim.{pinsIn, nextRecord, isVacuum, isReopen, vacuums, frees, isIt, lists, NeverListed, ListedFirst, deletionsBy, EachListed, Deletions}
+use Rattle.plain_record.specs.Claim.{pinsIn, pairsOf, differ, AnswerBy, nextRecord, isVacuum, isReopen, vacuums, frees, isIt, another, removes, lists, Listing, NeverListed, ListedFirst, deletionsBy, EachListed, Deletions}
 
 -- every waiting entry comes from a commit before the next call
 pub record Below (r : Record) : Type 0 where
   pub whole : All (λ (x : Waiting). x .commit < r .place) (r .whole .waiting)
   pub torn : All (λ (x : Waiting). x .commit < r .place) (r .torn .waiting)
 
--- before each call the book's pins are the record's
-abbrev pub BooksAgree : Record → List Event → Type 0
-BooksAgree r [] = Unit {0}
-BooksAgree r (e ∷ es) = (map pinsIn (pinsOf (e .before .book)) ≡ r .whole .pinned) × BooksAgree (nextRecord r e) es
+-- at each call the book's pins are the record's, no two deletions that wait have one pair, and a vacuum lists the record's list
+pub record Seen (r : Record) (e : Event) : Type 0 where
+  pub book : map pinsIn (pinsOf (e .before .book)) ≡ r .whole .pinned
+  pub apart : differ (pairsOf (r .whole .waiting)) ≡ true
+  pub list : vacuums e ≡ true → e .listed ≡ pairsOf (listed (r .whole))
+
+abbrev pub AllSeen : Record → List Event → Type 0
+AllSeen r [] = Unit {0}
+AllSeen r (e ∷ es) = Seen r e × AllSeen (nextRecord r e) es
+
+pub answer-lists : (r : Record) (e : Event) (c : Call) → AnswerBy r e c → isVacuum c && isAccepted (e .told) ≡ true → e .listed ≡ pairsOf (listed (r .whole))
+answer-lists r e drawRowset a v = clash v refl
+answer-lists r e drawVector a v = clash v refl
+answer-lists r e (commit os out missing) a v = clash v refl
+answer-lists r e pin a v = clash v refl
+answer-lists r e (unpin d) a v = clash v refl
+answer-lists r e (vacuum ts rs) a v = a v .0
+answer-lists r e (reopen out stale) a v = clash v refl
 
 all-await : (P : Waiting → Type 0) (ws l : List Waiting) → All P ws → All P l → All P (await ws l)
 all-await P [] l p q = q
@@ -56,6 +72,37 @@ all-of c e i (addVector t r v ∷ os) = all-of c e (i + 1) os
 all-of c e i (deleteVector t r v ∷ os) = all-of c e (i + 1) os
 all-of c e i (nextIds t r v ∷ os) = all-of c e (i + 1) os
 
+-- the pair of one of them is that of its operation
+abbrev pairIn : Operation → List ℕ
+pairIn (createTable t h n) = []
+pairIn (dropTable t) = []
+pairIn (addRowset t r) = []
+pairIn (deleteRowset t r) = t ∷ r ∷ []
+pairIn (addVector t r v) = []
+pairIn (deleteVector t r v) = []
+pairIn (nextIds t r v) = []
+
+abbrev pairFrom : ℕ → List Operation → ℕ → List ℕ
+pairFrom i [] n = []
+pairFrom i (o ∷ os) n = cond (eqb i n) (pairIn o) (pairFrom (i + 1) os n)
+
+abbrev From : ℕ → List Operation → Waiting → Type 0
+From i os x = (x .pair ≡ pairFrom i os (x .operation)) × (i ≤ x .operation)
+
+from-later : (c e i : ℕ) (o : Operation) (os : List Operation) → All (From (i + 1) os) (deletions c e (i + 1) os) → All (From i (o ∷ os)) (deletions c e (i + 1) os)
+from-later c e i o os a =
+    all-map (deletions c e (i + 1) os) (λ x f. let h = f .1 in (rw (ne-eqb i (x .operation) (λ s. omega arith)) (f .0), omega arith)) a
+
+all-from : (c e i : ℕ) (os : List Operation) → All (From i os) (deletions c e i os)
+all-from c e i [] = tt
+all-from c e i (createTable t h n ∷ os) = from-later c e i (createTable t h n) os (all-from c e (i + 1) os)
+all-from c e i (dropTable t ∷ os) = from-later c e i (dropTable t) os (all-from c e (i + 1) os)
+all-from c e i (addRowset t r ∷ os) = from-later c e i (addRowset t r) os (all-from c e (i + 1) os)
+all-from c e i (deleteRowset t r ∷ os) = ((rw (eq-eqb i i refl), omega arith), from-later c e i (deleteRowset t r) os (all-from c e (i + 1) os))
+all-from c e i (addVector t r v ∷ os) = from-later c e i (addVector t r v) os (all-from c e (i + 1) os)
+all-from c e i (deleteVector t r v ∷ os) = from-later c e i (deleteVector t r v) os (all-from c e (i + 1) os)
+all-from c e i (nextIds t r v ∷ os) = from-later c e i (nextIds t r v) os (all-from c e (i + 1) os)
+
 new-below : (n e : ℕ) (os : List Operation) → All (λ (x : Waiting). x .commit < n + 1) (deletions n e 0 os)
 new-below n e os = all-map (deletions n e 0 os) (λ x o. let h = o .0 in omega arith) (all-of n e 0 os)
 
@@ -84,10 +131,13 @@ below-turn c false r b = record { whole = later (r .place) (r .whole .waiting) (
 pub below-start : Below atStart
 below-start = record { whole = tt; torn = tt }
 
--- Of one deletion d: it is from an earlier commit, and what waits under its tag has its epoch.
+-- Of one deletion d: it is from an earlier commit, and what waits under its tag has its epoch and its pair.
+abbrev Alike : Waiting → Waiting → Type 0
+Alike d x = isIt d x ≡ true → (x .epoch ≡ d .epoch) × (x .pair ≡ d .pair)
+
 record Tagged (d : Waiting) (r : Record) : Type 0 where
   pub earlier : d .commit < r .place
-  pub alike : All (λ (x : Waiting). isIt d x ≡ true → x .epoch ≡ d .epoch) (r .whole .waiting)
+  pub alike : All (Alike d) (r .whole .waiting)
 
 -- an accepted reopen
 abbrev reopens : Event → Bool
@@ -102,13 +152,13 @@ other-commit d x n = rw (ne-eqb (x .commit) (d .commit) n)
 
 module _ (d : Waiting) where
   -- of what has its tag, a test of the epoch keeps all or nothing
-  kept-tag : (q : ℕ → Bool) (l : List Waiting) → All (λ (x : Waiting). isIt d x ≡ true → x .epoch ≡ d .epoch) l
+  kept-tag : (q : ℕ → Bool) (l : List Waiting) → All (Alike d) l
       → anyOf (isIt d) (keep (λ w. q (w .epoch)) l) ≡ q (d .epoch) && anyOf (isIt d) l
   kept-tag q [] a = by-cases (q (d .epoch)) (λ e. rw e) (λ e. rw e)
   kept-tag q (x ∷ l) a =
       let ih = kept-tag q l (a .1) in
       by-cases (isIt d x)
-      (λ t. let s = a .0 t in by-cases (q (d .epoch)) (λ e. rw (s, e, t)) (λ e. rw (s, e) (ih ∙ rw e)))
+      (λ t. let s = a .0 t .0 in by-cases (q (d .epoch)) (λ e. rw (s, e, t)) (λ e. rw (s, e) (ih ∙ rw e)))
       (λ t. by-cases (q (x .epoch)) (λ e. rw (e, t) ih) (λ e. rw (e, t) ih))
 
   new-other : (n e : ℕ) (os : List Operation) → d .commit < n → All (λ (x : Waiting). isIt d x ≡ false) (deletions n e 0 os)
@@ -123,14 +173,14 @@ module _ (d : Waiting) where
       record {
         earlier = omega arith;
         alike =
-            all-await (λ (x : Waiting). isIt d x ≡ true → x .epoch ≡ d .epoch) (deletions (r .place) (epochOf (r .whole) + 1) 0 os) (r .whole .waiting)
+            all-await (Alike d) (deletions (r .place) (epochOf (r .whole) + 1) 0 os) (r .whole .waiting)
             (all-map (deletions (r .place) (epochOf (r .whole) + 1) 0 os) (λ x f g. clash g f) n) (t .alike);
       }
   tagged-turn pin true r t = let h = t .earlier in record { earlier = omega arith; alike = t .alike }
   tagged-turn (unpin e) true r t = let h = t .earlier in record { earlier = omega arith; alike = t .alike }
   tagged-turn (vacuum ts rs) true r t =
       let h = t .earlier in
-      record { earlier = omega arith; alike = all-keep (λ (x : Waiting). isIt d x ≡ true → x .epoch ≡ d .epoch) (λ w. blocked (r .whole .pinned) (w .epoch)) (r .whole .waiting) (t .alike) }
+      record { earlier = omega arith; alike = all-keep (Alike d) (λ w. blocked (r .whole .pinned) (w .epoch)) (r .whole .waiting) (t .alike) }
   tagged-turn (reopen out stale) true r t = let h = t .earlier in record { earlier = omega arith; alike = tt }
   tagged-turn c false r t = let h = t .earlier in record { earlier = omega arith; alike = t .alike }
 
@@ -154,16 +204,76 @@ module _ (d : Waiting) where
   waits-turn (vacuum ts rs) false r t = refl
   waits-turn (reopen out stale) false r t = refl
 
-  -- an event lists it if it waits and the event frees it
-  lists-is : (r : Record) (e : Event) → Tagged d r → map pinsIn (pinsOf (e .before .book)) ≡ r .whole .pinned → lists d r e ≡ frees d e && waitsIn d r
-  lists-is r e t b =
-      ap (λ (x : Bool). vacuums e && x) (kept-tag (λ n. not (blocked (r .whole .pinned) n)) (r .whole .waiting) (t .alike))
-      ∙ and-move (vacuums e) (not (blocked (r .whole .pinned) (d .epoch))) (waitsIn d r)
-      ∙ ap (λ l. (vacuums e && not (blocked l (d .epoch))) && waitsIn d r) (sym b)
+  -- where no pair of a list is d's, nothing in it is d
+  none-is : (l : List Waiting) → All (Alike d) l → anyOf (same (d .pair)) (pairsOf l) ≡ false → anyOf (isIt d) l ≡ false
+  none-is [] a n = refl
+  none-is (x ∷ l) a n =
+      let m = neither (same (d .pair) (x .pair)) (anyOf (same (d .pair)) (pairsOf l)) n in
+      by-cases (isIt d x)
+      (λ t. clash (same-refl (d .pair)) (ap (same (d .pair)) (sym (a .0 t .1)) ∙ m .0))
+      (λ t. rw t (none-is l (a .1) (m .1)))
+
+  none-kept : (q : Waiting → Bool) (l : List Waiting) → anyOf (same (d .pair)) (pairsOf l) ≡ false → anyOf (same (d .pair)) (pairsOf (keep q l)) ≡ false
+  none-kept q [] n = refl
+  none-kept q (x ∷ l) n =
+      let m = neither (same (d .pair) (x .pair)) (anyOf (same (d .pair)) (pairsOf l)) n in
+      by-cases (q x) (λ t. rw (t, m .0) (none-kept q l (m .1))) (λ t. rw t (none-kept q l (m .1)))
+
+  none-other : (l : List Waiting) → anyOf (same (d .pair)) (pairsOf l) ≡ false → anyOf (λ x. same (d .pair) (x .pair) && not (isIt d x)) l ≡ false
+  none-other [] n = refl
+  none-other (x ∷ l) n =
+      let m = neither (same (d .pair) (x .pair)) (anyOf (same (d .pair)) (pairsOf l)) n in
+      rw (m .0) (none-other l (m .1))
+
+  -- where pairs differ, one that is listed is d's if d waits and passes, and else another's
+  listed-tag : (q : ℕ → Bool) (l : List Waiting) → All (Alike d) l → differ (pairsOf l) ≡ true
+      → anyOf (same (d .pair)) (pairsOf (keep (λ w. q (w .epoch)) l)) && not (anyOf (λ x. same (d .pair) (x .pair) && not (isIt d x)) l) ≡ q (d .epoch) && anyOf (isIt d) l
+  listed-tag q [] a f = by-cases (q (d .epoch)) (λ e. rw e) (λ e. rw e)
+  listed-tag q (x ∷ l) a f =
+      let p = both (not (anyOf (same (x .pair)) (pairsOf l))) (differ (pairsOf l)) f in
+      let ih = listed-tag q l (a .1) (p .1) in
+      by-cases (isIt d x)
+      (λ t.
+      let s = a .0 t .0 in
+      let k = a .0 t .1 in
+      let n : anyOf (same (d .pair)) (pairsOf l) ≡ false = ap (λ y. anyOf (same y) (pairsOf l)) (sym k) ∙ not-true _ (p .0) in
+      by-cases (q (d .epoch))
+      (λ e. rw (s, k, e, t, same-refl (d .pair), none-other l n))
+      (λ e. rw (s, e, none-kept (λ w. q (w .epoch)) l n)))
+      (λ t. by-cases (same (d .pair) (x .pair))
+      (λ u.
+      let n : anyOf (same (d .pair)) (pairsOf l) ≡ false = ap (λ y. anyOf (same y) (pairsOf l)) (same-true (d .pair) (x .pair) u) ∙ not-true _ (p .0) in
+      rw (t, u, none-is l (a .1) n) (neither-way (anyOf (same (d .pair)) (pairsOf (keep (λ w. q (w .epoch)) (x ∷ l)))) (q (d .epoch))))
+      (λ u. by-cases (q (x .epoch)) (λ e. rw e (rw (t, u) ih)) (λ e. rw e (rw (t, u) ih))))
     where
-      and-move : (x y z : Bool) → x && (y && z) ≡ (x && y) && z
-      and-move true y z = refl
-      and-move false y z = refl
+      neither-way : (b c : Bool) → b && false ≡ c && false
+      neither-way true true = refl
+      neither-way true false = refl
+      neither-way false true = refl
+      neither-way false false = refl
+
+  and-move : (x y z : Bool) → x && (y && z) ≡ (x && y) && z
+  and-move true y z = refl
+  and-move false y z = refl
+
+  -- an event lists it if it waits and the event frees it, in the record and by its own list
+  module _ (r : Record) (e : Event) (t : Tagged d r) (s : Seen r e) where
+    frees-and : vacuums e && (not (blocked (r .whole .pinned) (d .epoch)) && waitsIn d r) ≡ frees d e && waitsIn d r
+    frees-and =
+        and-move (vacuums e) (not (blocked (r .whole .pinned) (d .epoch))) (waitsIn d r)
+        ∙ ap (λ l. (vacuums e && not (blocked l (d .epoch))) && waitsIn d r) (sym (s .book))
+
+    removes-is : removes d r e ≡ frees d e && waitsIn d r
+    removes-is = ap (λ (x : Bool). vacuums e && x) (kept-tag (λ n. not (blocked (r .whole .pinned) n)) (r .whole .waiting) (t .alike)) ∙ frees-and
+
+    lists-is : lists d r e ≡ frees d e && waitsIn d r
+    lists-is = by-cases (vacuums e)
+        (λ v. ap (λ l. vacuums e && (anyOf (same (d .pair)) l && not (another d r))) (s .list v)
+        ∙ ap (λ (x : Bool). vacuums e && x) (listed-tag (λ n. not (blocked (r .whole .pinned) n)) (r .whole .waiting) (t .alike) (s .apart)) ∙ frees-and)
+        (λ v. rw v)
+
+    listing : (b : Bool) → frees d e && waitsIn d r ≡ b → Listing b d r e
+    listing b h = (removes-is ∙ h, lists-is ∙ h)
 
   -- after a turn it waits or not by what came of the call, x for a reopen and y for a vacuum, and by whether a pin keeps it
   after-gone : (x y z u : Bool) → u ≡ false → cond x false (cond y (z && u) u) ≡ false
@@ -207,29 +317,26 @@ module _ (d : Waiting) where
       stayed-next : reopens e ≡ false → frees d e ≡ false → waitsIn d r ≡ true → waitsIn d (nextRecord r e) ≡ true
       stayed-next n f h = turned ∙ after-stayed (reopens e) (vacuums e) keeps (waitsIn d r) n (sym frees-by ∙ f) h
 
-  never : (r : Record) (es : List Event) → Tagged d r → BooksAgree r es → waitsIn d r ≡ false → NeverListed d r es
+  never : (r : Record) (es : List Event) → Tagged d r → AllSeen r es → waitsIn d r ≡ false → NeverListed d r es
   never r [] t b h = tt
   never r (e ∷ es) t b h =
-      (lists-is r e t (b .0) ∙ rw h (by-cases (frees d e) (λ f. rw f) (λ f. rw f)), never (nextRecord r e) es (tagged-next r e t) (b .1) (gone-next r e t h))
+      (listing r e t (b .0) false (rw h (by-cases (frees d e) (λ f. rw f) (λ f. rw f))), never (nextRecord r e) es (tagged-next r e t) (b .1) (gone-next r e t h))
 
-  first : (r : Record) (es : List Event) → Tagged d r → BooksAgree r es → anyOf reopens es ≡ false → waitsIn d r ≡ true
+  first : (r : Record) (es : List Event) → Tagged d r → AllSeen r es → anyOf reopens es ≡ false → waitsIn d r ≡ true
       → ListedFirst d r es
   first r [] t b n h = tt
   first r (e ∷ es) t b n h =
       let m = neither (reopens e) (anyOf reopens es) n in
-      let l = lists-is r e t (b .0) in (
-        λ f. (l ∙ both-true f h, never (nextRecord r e) es (tagged-next r e t) (b .1) (freed-next r e t (b .0) f)),
-        λ f. (l ∙ ap (λ (x : Bool). x && waitsIn d r) f, first (nextRecord r e) es (tagged-next r e t) (b .1) (m .1) (stayed-next r e t (b .0) (m .0) f h)),
+      let l = listing r e t (b .0) in (
+        λ f. (l true (join f h), never (nextRecord r e) es (tagged-next r e t) (b .1) (freed-next r e t (b .0 .book) f)),
+        λ f. (l false (ap (λ (x : Bool). x && waitsIn d r) f), first (nextRecord r e) es (tagged-next r e t) (b .1) (m .1) (stayed-next r e t (b .0 .book) (m .0) f h)),
       )
-    where
-      both-true : {x y : Bool} → x ≡ true → y ≡ true → x && y ≡ true
-      both-true p q = rw (p, q)
 
 -- a deletion that has just begun to wait
 abbrev Begun : Record → Waiting → Type 0
 Begun r d = Tagged d r × (waitsIn d r ≡ true)
 
-each : (ws : List Waiting) (r : Record) (es : List Event) → All (Begun r) ws → BooksAgree r es → anyOf reopens es ≡ false
+each : (ws : List Waiting) (r : Record) (es : List Event) → All (Begun r) ws → AllSeen r es → anyOf reopens es ≡ false
     → EachListed ws r es
 each [] r es a b n = tt
 each (w ∷ ws) r es a b n = (first w r es (a .0 .0) b n (a .0 .1), each ws r es (a .1) b n)
@@ -253,19 +360,28 @@ module _ (os : List Operation) (r : Record) (b : Below r) (q : Record) (place : 
   abbrev made : List Waiting
   made = deletions (r .place) (epochOf (r .whole) + 1) 0 os
 
-  begins : (d : Waiting) → Of (r .place) (epochOf (r .whole) + 1) d → anyOf (isIt d) made ≡ true → Begun q d
-  begins d o h =
+  made-all : All (λ d. Of (r .place) (epochOf (r .whole) + 1) d × From 0 os d) made
+  made-all =
+      all-both (Of (r .place) (epochOf (r .whole) + 1)) (From 0 os) made (all-of (r .place) (epochOf (r .whole) + 1) 0 os) (all-from (r .place) (epochOf (r .whole) + 1) 0 os)
+
+  begins : (d : Waiting) → Of (r .place) (epochOf (r .whole) + 1) d → From 0 os d → anyOf (isIt d) made ≡ true → Begun q d
+  begins d o f h =
       let c = o .0 in
-      let a : All (λ (x : Waiting). isIt d x ≡ true → x .epoch ≡ d .epoch) (await made (r .whole .waiting)) =
-      all-await (λ (x : Waiting). isIt d x ≡ true → x .epoch ≡ d .epoch) made (r .whole .waiting)
-      (all-map made (λ x p t. p .1 ∙ sym (o .1)) (all-of (r .place) (epochOf (r .whole) + 1) 0 os))
+      let a : All (Alike d) (await made (r .whole .waiting)) =
+      all-await (Alike d) made (r .whole .waiting)
+      (all-map made (λ x p t. (p .0 .1 ∙ sym (o .1), p .1 .0 ∙ ap (pairFrom 0 os) (same-operation d x t) ∙ sym (f .0))) made-all)
       (all-map (r .whole .waiting) (λ x p t. clash t (other-commit d x (λ s. omega arith))) (b .whole)) in
       (record { earlier = omega arith; alike = rw waiting a }, rw waiting (anyOf-await (isIt d) made (r .whole .waiting) ∙ rw h))
+    where
+      same-operation : (d x : Waiting) → isIt d x ≡ true → x .operation ≡ d .operation
+      same-operation d x t = eqb-true (x .operation) (d .operation) (both (eqb (x .commit) (d .commit)) (eqb (x .operation) (d .operation)) t .1)
 
   all-begun : All (Begun q) made
-  all-begun = all-map made (λ d p. begins d (p .0) (p .1)) (all-both (Of (r .place) (epochOf (r .whole) + 1)) (λ d. anyOf (isIt d) made ≡ true) made (all-of (r .place) (epochOf (r .whole) + 1) 0 os) (all-there made))
+  all-begun =
+      all-map made (λ d p. begins d (p .0 .0) (p .0 .1) (p .1))
+      (all-both (λ d. Of (r .place) (epochOf (r .whole) + 1) d × From 0 os d) (λ d. anyOf (isIt d) made ≡ true) made made-all (all-there made))
 
-opened : (c : Call) (a : Bool) (r : Record) (es : List Event) → a ≡ true → Below r → BooksAgree (turn c a r) es → anyOf reopens es ≡ false
+opened : (c : Call) (a : Bool) (r : Record) (es : List Event) → a ≡ true → Below r → AllSeen (turn c a r) es → anyOf reopens es ≡ false
     → EachListed (deletionsBy r c) (turn c a r) es
 opened drawRowset a r es t b k n = tt
 opened drawVector a r es t b k n = tt
@@ -277,7 +393,7 @@ opened (unpin e) a r es t b k n = tt
 opened (vacuum ts rs) a r es t b k n = tt
 opened (reopen out stale) a r es t b k n = tt
 
-pub deletions-hold : (r : Record) (es : List Event) → Below r → BooksAgree r es → Deletions r es
+pub deletions-hold : (r : Record) (es : List Event) → Below r → AllSeen r es → Deletions r es
 deletions-hold r [] b k = tt
 deletions-hold r (e ∷ es) b k =
     (λ t n. opened (e .call) (isAccepted (e .told)) r es t b (k .1) (not-true _ n), deletions-hold (nextRecord r e) es (below-turn (e .call) (isAccepted (e .told)) r b) (k .1))

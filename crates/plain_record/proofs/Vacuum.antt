@@ -32,8 +32,8 @@ use Rattle.version_manager.specs.Vacuum.{vacuumVerdict}
 use Rattle.recovery.specs.Sets.{setsOf}
 use Rattle.plain_record.specs.Calls.{vacuum}
 use Rattle.plain_record.specs.Plain.{Pins, Waiting, byEpochAndPair, Plain, blocked, listed, swept, Record, turn}
-use Rattle.plain_record.specs.Run.{port, World, world, isAccepted, paired, pairsIn, listedIf, DidVacuum}
-use Rattle.plain_record.specs.Claim.{pinsIn, waitingIn, waitingOf}
+use Rattle.plain_record.specs.Run.{port, World, world, isAccepted, value, paired, pairsIn, listedIf, DidVacuum}
+use Rattle.plain_record.specs.Claim.{pinsIn, waitingIn, waitingOf, pairsOf}
 use Rattle.plain_record.proofs.Invariant.{Inv}
 use Rattle.plain_record.proofs.Refused.{refused-number}
 use Rattle.plain_record.proofs.Stands.{Stands, accepted-stands, refused-stands, by-verdict}
@@ -118,7 +118,7 @@ module _ (e : ℕ) (l : List PinEntry) where
           ∙ keep-map byEpochAndPair (free l) (p .waiting)
           ∙ ap (map byEpochAndPair) (keep-same (λ (w : Waiting). free l (byEpochAndPair w)) (λ (w : Waiting). not (blocked (p .pinned) (w .epoch))) (p .waiting) (all-any (p .waiting) free-alike))
 
-      pub list-pairs : map (λ (x : Entry). x .ids) (vacuumList (bound e l) s) ≡ map (λ (w : Waiting). w .pair) (listed p)
+      pub list-pairs : map (λ (x : Entry). x .ids) (vacuumList (bound e l) s) ≡ pairsOf (listed p)
       list-pairs =
           sym (map-map byDeletion rest (vacuumList (bound e l) s)) ∙ ap (map rest) list-keys ∙ map-map byEpochAndPair rest (listed p)
 
@@ -212,13 +212,17 @@ module _ (w : World) (r : Record) (t : Told) (l : List (List ℕ)) (v : World) (
       (vacuum-sound inner (d .result .manager .inner) to (bound-le (inner .epoch) (pinsOf (w .book))) (i .sound) h) (h .state) stands-swept)
       (λ k a. refused-stands w r (d .result .manager) (w .book) (subst Handed a (d .says .manager)) refl i))
 
-  lists-by : (c : Verdict) (ts′ rs′ : List ℕ) → t ≡ told c (length (listOf (heldBy (w .manager)) (w .book)) ∷ []) → ts′ ≡ after c (over (field 0 (listOf (heldBy (w .manager)) (w .book))) ts) ts
-      → rs′ ≡ after c (over (field 1 (listOf (heldBy (w .manager)) (w .book))) rs) rs → isAccepted t ≡ true → listedIf t ts′ rs′ ≡ map (λ (x : Waiting). x .pair) (listed (r .whole))
-  lists-by Accepted ts′ rs′ e f g a =
-      rw (e, f, g) (pairs-written (listOf (heldBy (w .manager)) (w .book)) ts rs (two-ids inner to)
-      ∙ list-pairs (inner .epoch) (pinsOf (w .book)) (stateOf inner) deletions-below (r .whole) (i .pins) (i .waiting))
+  abbrev list : List Entry
+  list = listOf (heldBy (w .manager)) (w .book)
+
+  lists-by : (c : Verdict) (ts′ rs′ : List ℕ) → t ≡ told c (length list ∷ []) → ts′ ≡ after c (over (field 0 list) ts) ts → rs′ ≡ after c (over (field 1 list) rs) rs → isAccepted t ≡ true
+      → (listedIf t ts′ rs′ ≡ map (λ (x : Entry). x .ids) list) × (value 0 t ≡ length list)
+  lists-by Accepted ts′ rs′ e f g a = (rw (e, f, g) (pairs-written list ts rs (two-ids inner to)), rw e)
   lists-by (Refused q) ts′ rs′ e f g a = clash a (rw e (refused-number q))
 
-  -- it lists what the record lists
-  pub vacuum-lists : isAccepted t ≡ true → l ≡ map (λ (x : Waiting). x .pair) (listed (r .whole))
-  vacuum-lists a = d .listed ∙ lists-by verdict (d .tables) (d .rowsets) tells (d .says .tables) (d .says .rowsets) a
+  -- it lists what the record lists, and answers how many these are
+  pub vacuum-lists : isAccepted t ≡ true → (l ≡ pairsOf (listed (r .whole))) × (value 0 t ≡ length l)
+  vacuum-lists a =
+      let h = lists-by verdict (d .tables) (d .rowsets) tells (d .says .tables) (d .says .rowsets) a in
+      let e = d .listed ∙ h .0 in
+      (e ∙ list-pairs (inner .epoch) (pinsOf (w .book)) (stateOf inner) deletions-below (r .whole) (i .pins) (i .waiting), h .1 ∙ sym (ap length e ∙ length-map list (λ (x : Entry). x .ids)))

@@ -2,12 +2,13 @@
 use mathlib.Core.Path.{_≡_, refl, sym, ap, _∙_}
 use mathlib.Core.Bool.{Bool, true, false, true≢false}
 use mathlib.Core.List.{List, [], _∷_, _++_}
-use Prim.Native.Nat.{ℕ, _≤_}
+use Prim.Native.Nat.{ℕ, _-_, _≤_}
 use native.Mathlib.Omega.{arith}
 use lib.Dec.{eqb}
-use lib.ListN.{length}
+use lib.ListN.{length, replicate, length-replicate}
 use borrow.Author.Tests.{eq-eqb}
 use Rattle.columns.specs.Rows.{rows}
+use Rattle.ids.specs.Limits.{mostTables, mostHeld}
 use Rattle.ids.specs.declared.refusal.Refusal.the-variants.{OutputTooShort}
 use Rattle.ids.specs.Answers.{Told}
 use Rattle.text.specs.Class.{isDigit, isLower}
@@ -18,10 +19,12 @@ use Rattle.manifest.specs.Lines.{fieldAt, named as namedAt, tableFields, lineBy
 use Rattle.manifest.specs.Split.{linesOn, restOn, lines}
 use Rattle.snapshot.specs.declared.rowsets.Rowsets.{Rowsets}
 use Rattle.snapshot.specs.declared.tables.Tables.{Tables}
+use Rattle.snapshot.specs.declared.vectors.Vectors.{Vectors}
+use Rattle.snapshot.specs.Tables.{nameBytes}
 use Rattle.snapshot.specs.Entries.{goneAt, shownAt}
 use Rattle.version_state.specs.State.{Fit}
 use Rattle.pins.specs.declared.PinBook.{PinBook}
-use Rattle.pins.specs.Book.{Keeps}
+use Rattle.pins.specs.Book.{mostPinned, Keeps}
 use Rattle.operations.specs.Steps.{stepOf}
 use Rattle.version_manager.specs.declared.VersionManager.{VersionManager}
 use Rattle.version_manager.specs.declared.Opened.{Opened}
@@ -34,19 +37,21 @@ use Rattle.version_manager.specs.declared.Vacuumed.{Vacuumed}
 use Rattle.version_manager.specs.Managers.{FreshSays}
 use Rattle.version_manager.specs.Draw.{DrawRowsetSays}
 use Rattle.version_manager.specs.Commit.{CommitEnds, CommitSays}
-use Rattle.version_manager.specs.Show.{ShowTablesSays}
+use Rattle.version_manager.specs.Show.{ShowTablesSays, ShowPairsSays}
 use Rattle.pinning.specs.declared.PinAnswer.the-variants.{Pinned}
-use Rattle.pinning.specs.Says.{current, PinSays}
+use Rattle.pinning.specs.declared.UnpinAnswer.the-variants.{Unpinned}
+use Rattle.pinning.specs.Says.{PinSays}
 use Rattle.show.specs.declared.ShowAnswer.the-variants.{Shown, Refused as NotShown}
 use Rattle.storage.specs.declared.Reopened.{Reopened}
-use Rattle.storage.specs.declared.ReopenAnswer.the-variants.{Rewritten}
+use Rattle.rewrite.specs.Rewritten.{longestRewritten}
+use Rattle.storage.specs.declared.ReopenAnswer.the-variants.{Rewritten, Refused as NotOpened}
 use Rattle.storage.specs.Reopen.{ReopenIs, ReopenSays}
 use Rattle.plain_record.specs.Sets as plain
 use Rattle.plain_record.specs.Plain.{Pins}
-use Rattle.plain_record.specs.Calls.{drawRowset, commit, pin, vacuum, reopen}
+use Rattle.plain_record.specs.Calls.{drawRowset, commit, pin, unpin, vacuum, reopen}
 use Rattle.plain_record.specs.Run.{Steps, World, world, Event, onward, afterCommit, afterReopen, pairsIn, Starts, Link}
-use Rattle.plain_record.specs.Claim.{ShowsTables}
-use Rattle.plain_record.specs.Wrong.{unchanged, keepsSets, unjudged, judgesNothing, PinsNext, answersNext, PinsNothing, countsNoPin, VacuumsTo, listsNothing, loweredBound, keepsOwnEpoch, ignoresPins, opensEmpty, firstFrame, readsFirst, closed, countsEarly, forgotten, forgetsIds, Refuted, WrongRefuted}
+use Rattle.plain_record.specs.Shows.{ShowsTables}
+use Rattle.plain_record.specs.Wrong.{unchanged, keepsSets, unraised, leavesEpoch, unjudged, judgesNothing, PinsNext, answersNext, PinsNothing, countsNoPin, UnpinsNothing, keepsPin, VacuumsTo, nothing, listsNothing, portBound, keepsListed, loweredBound, keepsOwnEpoch, unguarded, ignoresPins, opensEmpty, firstFrame, readsFirst, closed, countsEarly, forgotten, forgetsIds, refusesReopen, showsCurrent, Refuted, WrongRefuted}
 
 -- What is not equal.
 apart : {m n : ℕ} → m ≡ n → eqb m n ≡ false → ⊥
@@ -59,12 +64,25 @@ not-empty {A} e = true≢false (ap isNone e)
     isNone [] = true
     isNone (x ∷ l) = false
 
--- Managers and books.
+-- Managers and books, their arrays of the lengths that they have in the code: what is held, and zeros after it.
+abbrev places : ℕ → List ℕ → List ℕ
+places n l = l ++ replicate (n - length l) 0
+
+abbrev holds : List ℕ → List ℕ → List ℕ → List ℕ → ℕ → Tables
+holds i h l s n =
+    record { ids = places mostTables i; shapes = places mostTables h; lengths = places mostTables l; names = places nameBytes s; locked = replicate mostTables false; count = n }
+
+abbrev holdsPairs : List ℕ → List ℕ → List ℕ → List ℕ → ℕ → Rowsets
+holdsPairs t r a d n = record { tables = places mostHeld t; rowsets = places mostHeld r; added = places mostHeld a; deleted = places mostHeld d; count = n }
+
 abbrev noTables : Tables
-noTables = record { ids = []; shapes = []; lengths = []; names = []; locked = []; count = 0 }
+noTables = holds [] [] [] [] 0
 
 abbrev noPairs : Rowsets
-noPairs = record { tables = []; rowsets = []; added = []; deleted = []; count = 0 }
+noPairs = holdsPairs [] [] [] [] 0
+
+abbrev noVectors : Vectors
+noVectors = record { tables = places mostHeld []; rowsets = places mostHeld []; vectors = places mostHeld []; added = places mostHeld []; deleted = places mostHeld []; count = 0 }
 
 abbrev holding : ℕ → ℕ → ℕ → Tables → Rowsets → ℕ → VersionManager
 holding e t r ts rs n =
@@ -74,7 +92,7 @@ holding e t r ts rs n =
         next = record { table = record { 0 = t }; rowset = record { 0 = r }; vector = record { 0 = 0 } };
         tables = ts;
         rowsets = rs;
-        vectors = record { tables = []; rowsets = []; vectors = []; added = []; deleted = []; count = 0 };
+        vectors = noVectors;
         manifest = n;
       };
     }
@@ -83,11 +101,11 @@ few : (e t r : ℕ) (ts : Tables) (rs : Rowsets) (n : ℕ) → ts .count ≤ 1 �
 few e t r ts rs n h k = record { tables = omega arith; rowsets = omega arith; vectors = omega arith }
 
 abbrev unpinned : PinBook
-unpinned = record { items = []; count = 0 }
+unpinned = record { items = replicate mostPinned (record { epoch = 0; count = 0 }); count = 0 }
 
 -- one pin, on epoch 1
 abbrev once : PinBook
-once = record { items = record { epoch = 1; count = 1 } ∷ []; count = 1 }
+once = record { items = record { epoch = 1; count = 1 } ∷ replicate (mostPinned - 1) (record { epoch = 0; count = 0 }); count = 1 }
 
 no-pins : Keeps unpinned []
 no-pins = record { fits = omega arith; pins = refl }
@@ -130,6 +148,9 @@ commits w os m e n out missing =
 abbrev pins : World → ℕ → PinBook → Event
 pins w e b = record { before = w; call = pin; told = telling (e ∷ []); listed = []; after = onward (w .manager) b (telling (e ∷ [])) w }
 
+abbrev unpins : World → ℕ → PinBook → Event
+unpins w e b = record { before = w; call = unpin e; told = telling (0 ∷ 0 ∷ []); listed = []; after = onward (w .manager) b (telling (0 ∷ 0 ∷ [])) w }
+
 abbrev vacuums : World → VersionManager → ℕ → List ℕ → List ℕ → Event
 vacuums w m n ts rs =
     record {
@@ -164,6 +185,9 @@ module _ (S : Steps) where
   pinned : (w : World) (e : ℕ) (b : PinBook) → S .pin (w .manager) (w .book) (Pinned e) b → Link S (pins w e b)
   pinned w e b h = record { answer = Pinned e; book = b; says = h; told = refl; none = refl; after = refl }
 
+  released : (w : World) (e : ℕ) (b : PinBook) → S .unpin (w .manager) e (w .book) (Unpinned false 0) b → Link S (unpins w e b)
+  released w e b h = record { answer = Unpinned false 0; book = b; says = h; told = refl; none = refl; after = refl }
+
   vacuumed : (w : World) (m : VersionManager) (n : ℕ) (ts rs : List ℕ) → S .vacuum (w .manager) (w .book) (5 ∷ []) (5 ∷ []) (listedBy m n) ts rs → Link S (vacuums w m n ts rs)
   vacuumed w m n ts rs h =
       record { result = listedBy m n; tables = ts; rowsets = rs; says = h; told = refl; listed = refl; after = refl }
@@ -193,10 +217,10 @@ abbrev deletes : Operation
 deletes = deleteRowset 0 0
 
 abbrev tables : Tables
-tables = record { ids = 0 ∷ []; shapes = 7 ∷ []; lengths = 1 ∷ []; names = name; locked = false ∷ []; count = 1 }
+tables = holds (0 ∷ []) (7 ∷ []) (1 ∷ []) name 1
 
 abbrev pair : ℕ → ℕ → Rowsets
-pair a d = record { tables = 0 ∷ []; rowsets = 0 ∷ []; added = a ∷ []; deleted = d ∷ []; count = 1 }
+pair a d = holdsPairs (0 ∷ []) (0 ∷ []) (a ∷ []) (d ∷ []) 1
 
 -- The table is created, the rowset added and deleted, all at epoch 1.
 abbrev opsTAD : List Operation
@@ -219,7 +243,7 @@ unfolding rows stepOf textOf fieldsText digits digitsBy isName isNameByte isDigi
 says-TAD = (refl, record { fits = fits-TAD; state = refl }, refl)
 
 -- a vacuum lists nothing
-nothing-says : VacuumsTo (λ m b. 0) afterTAD unpinned (5 ∷ []) (5 ∷ []) (listedBy afterTAD 0) (5 ∷ []) (5 ∷ [])
+nothing-says : VacuumsTo nothing nothing afterTAD unpinned (5 ∷ []) (5 ∷ []) (listedBy afterTAD 0) (5 ∷ []) (5 ∷ [])
 unfolding rows isName isNameByte isDigit isLower goneAt shownAt
 nothing-says = record { answer = refl; tables = refl; rowsets = refl; manager = record { fits = fits-TAD; state = refl } }
 
@@ -237,14 +261,40 @@ lists-nothing claim =
         (refl, vacuumed S w afterTAD 0 (5 ∷ []) (5 ∷ []) nothing-says, tt),
       ),
     ) in
-    not-empty (h .answers .1 .1 .0 refl)
+    true≢false (sym (h .deletions .1 .0 refl refl .0 .0 refl .0 .1))
+
+-- a vacuum lists the deletion and keeps it, so that the next one lists it again
+listed-says : VacuumsTo portBound nothing afterTAD unpinned (5 ∷ []) (5 ∷ []) (listedBy afterTAD 1) (0 ∷ []) (0 ∷ [])
+unfolding rows isName isNameByte isDigit isLower goneAt shownAt
+listed-says = record { answer = refl; tables = refl; rowsets = refl; manager = record { fits = fits-TAD; state = refl } }
+
+keeps-listed : Refuted keepsListed
+keeps-listed claim =
+    let S = keepsListed in
+    let w = commitTAD .after in
+    let v = vacuums w afterTAD 1 (0 ∷ []) (0 ∷ []) in
+    let h =
+    claim begun (draws ∷ commitTAD ∷ v ∷ vacuums (v .after) afterTAD 1 (0 ∷ []) (0 ∷ []) ∷ []) (begins S fresh-says) (
+      refl,
+      drew S draw-says,
+      (
+        refl,
+        committed S (draws .after) opsTAD afterTAD 1 24 frameTAD 0 says-TAD,
+        (
+          refl,
+          vacuumed S w afterTAD 1 (0 ∷ []) (0 ∷ []) listed-says,
+          (refl, vacuumed S (v .after) afterTAD 1 (0 ∷ []) (0 ∷ []) listed-says, tt),
+        ),
+      ),
+    ) in
+    true≢false (h .deletions .1 .0 refl refl .0 .0 refl .1 .0 .1)
 
 -- the deletion's own epoch is pinned
 pin-says : PinSays afterTAD unpinned (Pinned 1) once
 unfolding rows isName isNameByte isDigit isLower goneAt shownAt
 pin-says = record { answer = refl; book = record { fits = omega arith; pins = refl } }
 
-own-says : VacuumsTo loweredBound afterTAD once (5 ∷ []) (5 ∷ []) (listedBy afterTAD 0) (5 ∷ []) (5 ∷ [])
+own-says : VacuumsTo loweredBound loweredBound afterTAD once (5 ∷ []) (5 ∷ []) (listedBy afterTAD 0) (5 ∷ []) (5 ∷ [])
 unfolding rows isName isNameByte isDigit isLower goneAt shownAt
 own-says = record { answer = refl; tables = refl; rowsets = refl; manager = record { fits = fits-TAD; state = refl } }
 
@@ -266,7 +316,7 @@ keeps-own-epoch claim =
         ),
       ),
     ) in
-    not-empty (h .answers .1 .1 .1 .0 refl)
+    true≢false (sym (h .deletions .1 .0 refl refl .0 .1 refl .1 .0 refl .0 .1))
 
 -- a pin answers the next epoch
 next-says : PinsNext afterTAD unpinned (Pinned 2) once
@@ -364,6 +414,15 @@ frameD = 66 ∷ 10 ∷ 68 ∷ 44 ∷ 48 ∷ 44 ∷ 48 ∷ 10 ∷ 69 ∷ 10 ∷ [
 abbrev afterD : Rowsets → VersionManager
 afterD l = holding 2 1 1 tables l 28
 
+abbrev commitTA : Event
+commitTA = commits (draws .after) opsTA afterTA 1 18 frameTA 0
+
+abbrev pinTA : Event
+pinTA = pins (commitTA .after) 1 once
+
+abbrev commitD : Event
+commitD = commits (pinTA .after) opsD (afterD (pair 1 2)) 2 10 frameD 0
+
 says-TA : CommitSays (drawn .manager) (length opsTA) opsTA frameTA (appended afterTA 1 18) frameTA
 unfolding rows stepOf textOf fieldsText digits digitsBy isName isNameByte isDigit isLower goneAt shownAt
 says-TA = (refl, record { fits = few 1 1 1 tables (pair 1 0) 18 (omega arith) (omega arith); state = refl }, refl)
@@ -377,7 +436,7 @@ unfolding rows stepOf textOf fieldsText digits digitsBy isName isNameByte isDigi
 says-D = (refl, record { fits = few 2 1 1 tables (pair 1 2) 28 (omega arith) (omega arith); state = refl }, refl)
 
 -- a vacuum ignores the pin
-all-says : VacuumsTo (λ m b. current m) (afterD (pair 1 2)) once (5 ∷ []) (5 ∷ []) (listedBy (afterD noPairs) 1) (0 ∷ []) (0 ∷ [])
+all-says : VacuumsTo unguarded unguarded (afterD (pair 1 2)) once (5 ∷ []) (5 ∷ []) (listedBy (afterD noPairs) 1) (0 ∷ []) (0 ∷ [])
 unfolding rows isName isNameByte isDigit isLower goneAt shownAt
 all-says =
     record { answer = refl; tables = refl; rowsets = refl; manager = record { fits = few 2 1 1 tables noPairs 28 (omega arith) (omega arith); state = refl } }
@@ -385,11 +444,9 @@ all-says =
 ignores-pins : Refuted ignoresPins
 ignores-pins claim =
     let S = ignoresPins in
-    let a = commits (draws .after) opsTA afterTA 1 18 frameTA 0 in
-    let p = pins (a .after) 1 once in
-    let d = commits (p .after) opsD (afterD (pair 1 2)) 2 10 frameD 0 in
+    let d = commitD in
     let h =
-    claim begun (draws ∷ a ∷ p ∷ d ∷ vacuums (d .after) (afterD noPairs) 1 (0 ∷ []) (0 ∷ []) ∷ []) (begins S fresh-says) (
+    claim begun (draws ∷ commitTA ∷ pinTA ∷ d ∷ vacuums (d .after) (afterD noPairs) 1 (0 ∷ []) (0 ∷ []) ∷ []) (begins S fresh-says) (
       refl,
       drew S draw-says,
       (
@@ -397,16 +454,40 @@ ignores-pins claim =
         committed S (draws .after) opsTA afterTA 1 18 frameTA 0 says-TA,
         (
           refl,
-          pinned S (a .after) 1 once pin-says-TA,
+          pinned S (commitTA .after) 1 once pin-says-TA,
           (
             refl,
-            committed S (p .after) opsD (afterD (pair 1 2)) 2 10 frameD 0 says-D,
+            committed S (pinTA .after) opsD (afterD (pair 1 2)) 2 10 frameD 0 says-D,
             (refl, vacuumed S (d .after) (afterD noPairs) 1 (0 ∷ []) (0 ∷ []) all-says, tt),
           ),
         ),
       ),
     ) in
-    not-empty (sym (h .answers .1 .1 .1 .1 .0 refl))
+    not-empty (sym (h .answers .1 .1 .1 .1 .0 refl .0))
+
+-- a show of epoch 1 gives what epoch 2 has
+current-says : ShowPairsSays (afterD (pair 1 2)) once 2 [] [] (Shown 0) [] []
+unfolding rows isName isNameByte isDigit isLower goneAt shownAt
+current-says = record { answer = refl; tables = refl; rowsets = refl }
+
+shows-current : Refuted showsCurrent
+shows-current claim =
+    let S = showsCurrent in
+    let h =
+    claim begun (draws ∷ commitTA ∷ pinTA ∷ commitD ∷ []) (begins S fresh-says) (
+      refl,
+      drew S draw-says,
+      (
+        refl,
+        committed S (draws .after) opsTA afterTA 1 18 frameTA 0 says-TA,
+        (
+          refl,
+          pinned S (commitTA .after) 1 once pin-says-TA,
+          (refl, committed S (pinTA .after) opsD (afterD (pair 1 2)) 2 10 frameD 0 says-D, tt),
+        ),
+      ),
+    ) in
+    apart (ap (λ (x : Told). x .number) (h .agrees .pairs 1 refl [] [] (Shown 0) [] [] current-says .0)) refl
 
 -- An empty commit, then one that creates the table.
 abbrev opsNone : List Operation
@@ -441,12 +522,56 @@ says-T : CommitSays afterNone (length opsT) opsT frameT (appended (afterT tables
 unfolding rows stepOf textOf fieldsText digits digitsBy isName isNameByte isDigit isLower goneAt shownAt
 says-T = (refl, record { fits = few 2 1 0 tables noPairs 16 (omega arith) (omega arith); state = refl }, refl)
 
--- a manager without tables, where the record has one; and one with a table, where it has none
-no-table : (w : World) (d : ℕ) (t : plain.Table) → ShowTablesSays (w .manager) (w .book) d [] [] [] [] (Shown 0) [] [] [] [] → ShowsTables w d (t ∷ []) → ⊥
-no-table w d t says h = apart (ap (λ (x : Told). x .number) (h [] [] [] [] (Shown 0) [] [] [] [] says .0)) refl
+-- the empty commit leaves the epoch
+abbrev unraisedNone : VersionManager
+unraisedNone = holding 0 0 0 noTables noPairs 4
 
-a-table : (w : World) (d : ℕ) → ShowTablesSays (w .manager) (w .book) d [] [] [] [] (NotShown OutputTooShort) [] [] [] [] → ShowsTables w d [] → ⊥
-a-table w d says h = apart (ap (λ (x : Told). x .number) (h [] [] [] [] (NotShown OutputTooShort) [] [] [] [] says .0)) refl
+unraised-says : CommitEnds (unraised (first .manager) (length opsNone) opsNone 4) (first .manager) opsNone frameNone (appended unraisedNone 0 4) frameNone
+unfolding rows
+unraised-says = (refl, record { fits = few 0 0 0 noTables noPairs 4 (omega arith) (omega arith); state = refl }, refl)
+
+leaves-epoch : Refuted leavesEpoch
+leaves-epoch claim =
+    let S = leavesEpoch in
+    let h =
+    claim begun (commits begun opsNone unraisedNone 0 4 frameNone 0 ∷ []) (begins S fresh-says) (
+      refl,
+      committed S begun opsNone unraisedNone 0 4 frameNone 0 unraised-says,
+      tt,
+    ) in
+    apart (h .agrees .epoch) refl
+
+-- epoch 1 is pinned and unpinned, and the pin stays
+pin-says-none : PinSays afterNone unpinned (Pinned 1) once
+unfolding rows
+pin-says-none = record { answer = refl; book = record { fits = omega arith; pins = refl } }
+
+stays-says : UnpinsNothing afterNone 1 once (Unpinned false 0) once
+unfolding rows
+stays-says = record { answer = refl; ready = omega arith; book = refl }
+
+keeps-pin : Refuted keepsPin
+keeps-pin claim =
+    let S = keepsPin in
+    let p = pins (commitNone .after) 1 once in
+    let h =
+    claim begun (commitNone ∷ p ∷ unpins (p .after) 1 once ∷ []) (begins S fresh-says) (
+      refl,
+      committed S begun opsNone afterNone 1 4 frameNone 0 says-none,
+      (
+        refl,
+        pinned S (commitNone .after) 1 once pin-says-none,
+        (refl, released S (p .after) 1 once stays-says, tt),
+      ),
+    ) in
+    not-empty (sym (h .agrees .book))
+
+-- a manager without tables, where the record has one; and one with a table, where it has none
+no-table : (S : Steps) (w : World) (d : ℕ) (t : plain.Table) → S .showTables (w .manager) (w .book) d [] [] [] [] (Shown 0) [] [] [] [] → ShowsTables S w d (t ∷ []) → ⊥
+no-table S w d t says h = apart (ap (λ (x : Told). x .number) (h [] [] [] [] (Shown 0) [] [] [] [] says .0)) refl
+
+a-table : (S : Steps) (w : World) (d : ℕ) → S .showTables (w .manager) (w .book) d [] [] [] [] (NotShown OutputTooShort) [] [] [] [] → ShowsTables S w d [] → ⊥
+a-table S w d says h = apart (ap (λ (x : Told). x .number) (h [] [] [] [] (NotShown OutputTooShort) [] [] [] [] says .0)) refl
 
 abbrev recorded : plain.Table
 recorded = plain.table 0 7 name
@@ -470,7 +595,7 @@ keeps-sets claim =
       committed S begun opsNone afterNone 1 4 frameNone 0 says-none,
       (refl, committed S (commitNone .after) opsT (afterT noTables) 2 12 frameT 0 unchanged-T, tt),
     ) in
-    no-table (commitT noTables 0 .after) 2 recorded unchanged-shows (h .agrees .tables)
+    no-table S (commitT noTables 0 .after) 2 recorded unchanged-shows (h .agrees .tables)
 
 -- a reopen that leaves nothing
 abbrev rewritten : List ℕ
@@ -485,7 +610,7 @@ empty-shows = record { answer = refl; ids = refl; shapes = refl; lengths = refl;
 
 module _ (S : Steps) (fresh : S .fresh first) (none : S .commit (first .manager) (length opsNone) opsNone frameNone (appended afterNone 1 4) frameNone)
     (one : S .commit afterNone (length opsT) opsT frameT (appended (afterT tables) 2 12) frameT)
-    (opens : S .reopen (frameNone ++ frameT) rewritten (rewrittenBy empty 12) rewritten) where
+    (opens : S .reopen (frameNone ++ frameT) rewritten (rewrittenBy empty 12) rewritten) (shows : S .showTables empty unpinned 1 [] [] [] [] (Shown 0) [] [] [] []) where
   all-gone : Refuted S
   all-gone claim =
       let w = commitT tables 0 .after in
@@ -500,21 +625,21 @@ module _ (S : Steps) (fresh : S .fresh first) (none : S .commit (first .manager)
           (refl, reopened S w empty 12 rewritten opens, tt),
         ),
       ) in
-      no-table (o .after) 1 recorded empty-shows (h .agrees .tables)
+      no-table S (o .after) 1 recorded shows (h .agrees .tables)
 
 empty-says : ReopenSays [] rewritten (rewrittenBy empty 12) rewritten
 unfolding rows textOf fieldsText digits digitsBy lines linesOn
 empty-says = (refl, record { fits = few 1 0 0 noTables noPairs 12 (omega arith) (omega arith); state = refl }, no-pins, refl)
 
 opens-empty : Refuted opensEmpty
-opens-empty = all-gone opensEmpty fresh-says says-none says-T empty-says
+opens-empty = all-gone opensEmpty fresh-says says-none says-T empty-says empty-shows
 
 first-says : ReopenSays (firstFrame (frameNone ++ frameT)) rewritten (rewrittenBy empty 12) rewritten
 unfolding rows textOf fieldsText digits digitsBy lines linesOn lineOf lineBy
 first-says = (refl, record { fits = few 1 0 0 noTables noPairs 12 (omega arith) (omega arith); state = refl }, no-pins, refl)
 
 reads-first : Refuted readsFirst
-reads-first = all-gone readsFirst fresh-says says-none says-T first-says
+reads-first = all-gone readsFirst fresh-says says-none says-T first-says empty-shows
 
 -- Reopens that find the table, where the next table's digit is n.
 abbrev rewrittenT : ℕ → List ℕ
@@ -550,7 +675,7 @@ counts-early claim =
         (refl, reopened S w (found 1) 20 (rewrittenT 49) early-says, tt),
       ),
     ) in
-    a-table (o .after) 1 found-shows (h .agrees .tables)
+    a-table S (o .after) 1 found-shows (h .agrees .tables)
 
 -- the used ids are forgotten
 forgets-says : ReopenIs (forgotten (frameNone ++ frameT) 20) (rewrittenT 48) (rewrittenBy (found 0) 20) (rewrittenT 48)
@@ -574,18 +699,47 @@ forgets-ids claim =
     ) in
     true≢false (sym (h .agrees .next))
 
+-- a reopen is refused, though it is lent enough
+module _ (out : List ℕ) (long : longestRewritten ≤ length out) where
+  abbrev refusal : Event
+  refusal = record { before = begun; call = reopen out false; told = record { number = 9; place = 0; values = [] }; listed = []; after = begun }
+
+  refusal-says : Link refusesReopen refusal
+  refusal-says =
+      record {
+        result = record { manager = first .manager; book = unpinned; answer = NotOpened OutputTooShort };
+        left = out;
+        says = (refl, fresh-says .manager, no-pins, refl);
+        told = refl;
+        none = refl;
+        after = refl;
+      }
+
+  opens-never : Refuted refusesReopen
+  opens-never claim =
+      let h = claim begun (refusal ∷ []) (begins refusesReopen fresh-says) (refl, refusal-says, tt) in
+      true≢false (sym (h .answers .0 long))
+
+refuses-reopen : Refuted refusesReopen
+refuses-reopen = opens-never (replicate longestRewritten 0) (rw (length-replicate {0} {A = ℕ} longestRewritten 0) (omega arith))
+
 pub wrong-refuted : WrongRefuted
 wrong-refuted =
     record {
       keepsSets = keeps-sets;
+      leavesEpoch = leaves-epoch;
       judgesNothing = judges-nothing;
       answersNext = answers-next;
       countsNoPin = counts-no-pin;
+      keepsPin = keeps-pin;
       listsNothing = lists-nothing;
+      keepsListed = keeps-listed;
       keepsOwnEpoch = keeps-own-epoch;
       ignoresPins = ignores-pins;
       opensEmpty = opens-empty;
       readsFirst = reads-first;
       countsEarly = counts-early;
       forgetsIds = forgets-ids;
+      refusesReopen = refuses-reopen;
+      showsCurrent = shows-current;
     }

@@ -1,65 +1,23 @@
 -- Demand 3: what is claimed of every run, beside the plain record of its calls. Assumes nothing.
 use mathlib.Core.Path.{_≡_}
-use mathlib.Core.Bool.{Bool, true, false, cond, not, _&&_, _||_}
-use mathlib.Core.List.{List, [], _∷_, _++_, map}
-use Prim.Native.Nat.{ℕ, _+_, _*_, _≤_}
+use mathlib.Core.Bool.{Bool, true, false, not, _&&_}
+use mathlib.Core.List.{List, [], _∷_, map}
+use Prim.Native.Nat.{ℕ, _+_, _≤_}
 use lib.Dec.{eqb, ltb}
 use lib.ListN.{length}
 use Rattle.lists.specs.Order.{same}
 use Rattle.lists.specs.Keyed.{keep, allOf, anyOf, arranged}
-use Rattle.lists.specs.Written.{over}
-use Rattle.ids.specs.declared.refusal.Refusal.the-variants.{OutputTooShort}
-use Rattle.ids.specs.declared.refusal.Verdict.{Verdict}
-use Rattle.ids.specs.Names.{longestName}
-use Rattle.ids.specs.Verdicts.{_⇒_, judged}
-use Rattle.ids.specs.Answers.{told, after}
 use Rattle.snapshot.specs.Entries.{Entry, byDeletion, waits}
 use Rattle.version_state.specs.State.{State}
 use Rattle.pins.specs.Book.{PinEntry, pinsOf, mayShow}
-use Rattle.show.specs.declared.ShowAnswer.{ShowAnswer}
-use Rattle.show.specs.Names.{padded}
-use Rattle.show.specs.Says.{showTold, shownField}
 use Rattle.version_manager.specs.Managers.{heldBy}
-use Rattle.version_manager.specs.Show.{ShowTablesSays, ShowPairsSays, ShowVectorsSays}
 use Rattle.rewrite.specs.Rewritten.{longestRewritten}
-use Rattle.plain_record.specs.Sets.{Table, Sets}
 use Rattle.plain_record.specs.Calls.{Call, drawRowset, drawVector, commit, pin, unpin, vacuum, reopen}
 use Rattle.plain_record.specs.Plain.{Pins, pins, Waiting, Id, tableId, rowsetId, vectorId, Plain, epochOf, setsAt, deletions, blocked, listed, Record, atStart, turn}
 use Rattle.plain_record.specs.Run.{Steps, World, Event, isAccepted, value, Chain, lastOf, Starts}
+use Rattle.plain_record.specs.Shows.{ShowsTables, ShowsPairs, ShowsVectors}
 
--- What show gives, whatever is lent: the rows, refused by 9 alone.
-
-abbrev pub nineAlone : Bool → Verdict
-nineAlone short = judged ((short ⇒ OutputTooShort) ∷ [])
-
-abbrev pub ShowsPairs : World → ℕ → List (List ℕ) → Type 0
-ShowsPairs w d l =
-    (ts rs : List ℕ) (a : ShowAnswer) (ts′ rs′ : List ℕ) → ShowPairsSays (w .manager) (w .book) d ts rs a ts′ rs′
-    → let v = nineAlone (ltb (length ts) (length l) || ltb (length rs) (length l)) in
-    (showTold a ≡ told v (length l ∷ [])) × (ts′ ≡ after v (over (shownField 0 l) ts) ts) × (rs′ ≡ after v (over (shownField 1 l) rs) rs)
-
-abbrev pub ShowsVectors : World → ℕ → List (List ℕ) → Type 0
-ShowsVectors w d l =
-    (ts rs vs : List ℕ) (a : ShowAnswer) (ts′ rs′ vs′ : List ℕ) → ShowVectorsSays (w .manager) (w .book) d ts rs vs a ts′ rs′ vs′
-    → let v = nineAlone (ltb (length ts) (length l) || (ltb (length rs) (length l) || ltb (length vs) (length l))) in
-    (showTold a ≡ told v (length l ∷ [])) × (ts′ ≡ after v (over (shownField 0 l) ts) ts) × (rs′ ≡ after v (over (shownField 1 l) rs) rs) × (vs′ ≡ after v (over (shownField 2 l) vs) vs)
-
--- the names of tables, 32 bytes each
-abbrev pub namesOf : List Table → List ℕ
-namesOf [] = []
-namesOf (t ∷ l) = padded (t .name) ++ namesOf l
-
-abbrev pub ShowsTables : World → ℕ → List Table → Type 0
-ShowsTables w d l =
-    (is hs ls ns : List ℕ) (a : ShowAnswer) (is′ hs′ ls′ ns′ : List ℕ) → ShowTablesSays (w .manager) (w .book) d is hs ls ns a is′ hs′ ls′ ns′
-    → let v = nineAlone (ltb (length is) (length l) || (ltb (length hs) (length l) || (ltb (length ls) (length l) || ltb (length ns) (longestName * length l)))) in
-    (showTold a ≡ told v (length l ∷ []))
-    × (is′ ≡ after v (over (map (λ (t : Table). t .id) l) is) is)
-    × (hs′ ≡ after v (over (map (λ (t : Table). t .shape) l) hs) hs)
-    × (ls′ ≡ after v (over (map (λ (t : Table). length (t .name)) l) ls) ls)
-    × (ns′ ≡ after v (over (namesOf l) ns) ns)
-
--- What the manager and the book hold beside it, in the record's terms.
+-- What the manager and the book hold, in the record's terms.
 
 abbrev pub pinsIn : PinEntry → Pins
 pinsIn p = pins (p .epoch) (p .count)
@@ -70,6 +28,9 @@ waitingIn s = map byDeletion (arranged byDeletion (keep waits (s .pairs)))
 
 abbrev pub waitingOf : Plain → List (List ℕ)
 waitingOf p = map (λ (w : Waiting). w .epoch ∷ w .pair) (p .waiting)
+
+abbrev pub pairsOf : List Waiting → List (List ℕ)
+pairsOf l = map (λ (w : Waiting). w .pair) l
 
 -- no two have one pair
 abbrev pub differ : List (List ℕ) → Bool
@@ -82,15 +43,15 @@ belowNext s (rowsetId r) = ltb r (s .nextRowset)
 belowNext s (vectorId v) = ltb v (s .nextVector)
 
 -- equal after the list
-pub record Agrees (w : World) (p : Plain) : Type 0 where
+pub record Agrees (S : Steps) (w : World) (p : Plain) : Type 0 where
   pub epoch : heldBy (w .manager) .epoch ≡ epochOf p
-  pub tables : ShowsTables w (epochOf p) (p .now .tables)
+  pub tables : ShowsTables S w (epochOf p) (p .now .tables)
   -- of the current epoch and of each pinned one
-  pub pairs : (d : ℕ) → mayShow (epochOf p) (pinsOf (w .book)) d ≡ true → ShowsPairs w d (setsAt d p .pairs)
-  pub vectors : (d : ℕ) → mayShow (epochOf p) (pinsOf (w .book)) d ≡ true → ShowsVectors w d (setsAt d p .vectors)
+  pub pairs : (d : ℕ) → mayShow (epochOf p) (pinsOf (w .book)) d ≡ true → ShowsPairs S w d (setsAt d p .pairs)
+  pub vectors : (d : ℕ) → mayShow (epochOf p) (pinsOf (w .book)) d ≡ true → ShowsVectors S w d (setsAt d p .vectors)
   pub book : map pinsIn (pinsOf (w .book)) ≡ p .pinned
   pub waiting : waitingIn (heldBy (w .manager)) ≡ waitingOf p
-  pub apart : differ (map (λ (x : Waiting). x .pair) (p .waiting)) ≡ true
+  pub apart : differ (pairsOf (p .waiting)) ≡ true
   -- next ids exceed every id that a counted commit added
   pub next : allOf (belowNext (heldBy (w .manager))) (p .added) ≡ true
 
@@ -102,8 +63,8 @@ AnswerBy r e (commit os out missing) = Unit {0}
 -- an accepted pin answers the current epoch
 AnswerBy r e pin = isAccepted (e .told) ≡ true → value 0 (e .told) ≡ epochOf (r .whole)
 AnswerBy r e (unpin d) = Unit {0}
--- an accepted vacuum lists what the record lists, in its order
-AnswerBy r e (vacuum ts rs) = isAccepted (e .told) ≡ true → e .listed ≡ map (λ (w : Waiting). w .pair) (listed (r .whole))
+-- an accepted vacuum lists what the record lists, in its order, and answers how many these are
+AnswerBy r e (vacuum ts rs) = isAccepted (e .told) ≡ true → (e .listed ≡ pairsOf (listed (r .whole))) × (value 0 (e .told) ≡ length (e .listed))
 -- a reopen that is lent enough is never refused
 AnswerBy r e (reopen out stale) = longestRewritten ≤ length out → isAccepted (e .told) ≡ true
 
@@ -145,23 +106,36 @@ vacuums e = isVacuum (e .call) && isAccepted (e .told)
 abbrev pub frees : Waiting → Event → Bool
 frees w e = vacuums e && not (blocked (map pinsIn (pinsOf (e .before .book))) (w .epoch))
 
--- the event lists w: w is told apart by its commit and its operation
+-- w is told apart by its commit and its operation
 abbrev pub isIt : Waiting → Waiting → Bool
 isIt w x = eqb (x .commit) (w .commit) && eqb (x .operation) (w .operation)
 
+-- another deletion of w's pair waits
+abbrev pub another : Waiting → Record → Bool
+another w r = anyOf (λ x. same (w .pair) (x .pair) && not (isIt w x)) (r .whole .waiting)
+
+-- the record's list has w
+abbrev pub removes : Waiting → Record → Event → Bool
+removes w r e = vacuums e && anyOf (isIt w) (listed (r .whole))
+
+-- the event's own list has w's pair, and it stands for no other deletion
 abbrev pub lists : Waiting → Record → Event → Bool
-lists w r e = vacuums e && anyOf (isIt w) (listed (r .whole))
+lists w r e = vacuums e && (anyOf (same (w .pair)) (e .listed) && not (another w r))
+
+-- whether w is listed by the event, in the record and by the manager
+abbrev pub Listing : Bool → Waiting → Record → Event → Type 0
+Listing b w r e = (removes w r e ≡ b) × (lists w r e ≡ b)
 
 -- in the events from the record r on, the first that frees w lists it, and no other does
 abbrev pub NeverListed : Waiting → Record → List Event → Type 0
 NeverListed w r [] = Unit {0}
-NeverListed w r (e ∷ es) = (lists w r e ≡ false) × NeverListed w (nextRecord r e) es
+NeverListed w r (e ∷ es) = Listing false w r e × NeverListed w (nextRecord r e) es
 
 abbrev pub ListedFirst : Waiting → Record → List Event → Type 0
 ListedFirst w r [] = Unit {0}
 ListedFirst w r (e ∷ es) =
-    ((frees w e ≡ true) → (lists w r e ≡ true) × NeverListed w (nextRecord r e) es)
-    × ((frees w e ≡ false) → (lists w r e ≡ false) × ListedFirst w (nextRecord r e) es)
+    ((frees w e ≡ true) → Listing true w r e × NeverListed w (nextRecord r e) es)
+    × ((frees w e ≡ false) → Listing false w r e × ListedFirst w (nextRecord r e) es)
 
 -- no accepted reopen
 abbrev pub neverReopened : List Event → Bool
@@ -188,10 +162,10 @@ Deletions r (e ∷ es) =
     (isAccepted (e .told) ≡ true → neverReopened es ≡ true → EachListed (deletionsBy r (e .call)) (nextRecord r e) es) × Deletions (nextRecord r e) es
 
 -- after every list of calls
-pub record Holds (w : World) (es : List Event) : Type 0 where
-  pub agrees : Agrees (lastOf w es) (recordOf atStart es .whole)
+pub record Holds (S : Steps) (w : World) (es : List Event) : Type 0 where
+  pub agrees : Agrees S (lastOf w es) (recordOf atStart es .whole)
   pub answers : Answers atStart es
   pub deletions : Deletions atStart es
 
 abbrev pub Claim : Steps → Type 0
-Claim S = (w : World) (es : List Event) → Starts S w → Chain S w es → Holds w es
+Claim S = (w : World) (es : List Event) → Starts S w → Chain S w es → Holds S w es

@@ -2,6 +2,7 @@ pub mod Sets
 pub mod Calls
 pub mod Plain
 pub mod Run
+pub mod Shows
 pub mod Claim
 pub mod Examples
 pub mod Wrong

@@ -9,6 +9,7 @@ use Rattle.ids.specs.Answers.{Told}
 use Rattle.manifest.specs.Operations.{Operation, batchOf}
 use Rattle.manifest.specs.declared.operation.Batch.{Batch}
 use Rattle.pins.specs.declared.PinBook.{PinBook}
+use Rattle.show.specs.declared.ShowAnswer.{ShowAnswer}
 use Rattle.version_manager.specs.declared.VersionManager.{VersionManager}
 use Rattle.version_manager.specs.declared.Opened.{Opened}
 use Rattle.version_manager.specs.declared.DrawnRowset.{DrawnRowset}
@@ -19,6 +20,7 @@ use Rattle.version_manager.specs.Managers.{FreshSays}
 use Rattle.version_manager.specs.Draw.{rowsetTold, vectorTold, DrawRowsetSays, DrawVectorSays}
 use Rattle.version_manager.specs.Commit.{commitTold, CommitSays}
 use Rattle.version_manager.specs.Vacuum.{vacuumTold, VacuumSays}
+use Rattle.version_manager.specs.Show.{ShowTablesSays, ShowPairsSays, ShowVectorsSays}
 use Rattle.pinning.specs.declared.PinAnswer.{PinAnswer}
 use Rattle.pinning.specs.declared.UnpinAnswer.{UnpinAnswer}
 use Rattle.pinning.specs.Says.{pinTold, unpinTold, PinSays, UnpinSays}
@@ -36,6 +38,9 @@ pub record Steps : Type 1 where
   pub unpin : VersionManager → ℕ → PinBook → UnpinAnswer → PinBook → Type 0
   pub vacuum : VersionManager → PinBook → List ℕ → List ℕ → Vacuumed → List ℕ → List ℕ → Type 0
   pub reopen : List ℕ → List ℕ → Reopened → List ℕ → Type 0
+  pub showTables : VersionManager → PinBook → ℕ → List ℕ → List ℕ → List ℕ → List ℕ → ShowAnswer → List ℕ → List ℕ → List ℕ → List ℕ → Type 0
+  pub showPairs : VersionManager → PinBook → ℕ → List ℕ → List ℕ → ShowAnswer → List ℕ → List ℕ → Type 0
+  pub showVectors : VersionManager → PinBook → ℕ → List ℕ → List ℕ → List ℕ → ShowAnswer → List ℕ → List ℕ → List ℕ → Type 0
 
 -- the port's own
 abbrev pub port : Steps
@@ -49,6 +54,9 @@ port =
       unpin = UnpinSays;
       vacuum = VacuumSays;
       reopen = ReopenSays;
+      showTables = ShowTablesSays;
+      showPairs = ShowPairsSays;
+      showVectors = ShowVectorsSays;
     }
 
 -- what stands between two calls: the manager, the book, the manifest file if all landed, and the file if the next accepted call is a reopen

@@ -2,92 +2,85 @@
 use mathlib.Core.Path.{_≡_}
 use mathlib.Core.Bool.{cond}
 use mathlib.Core.List.{List, [], _∷_, _++_, map}
-use Prim.Native.Nat.{ℕ, _+_, _-_}
+use Prim.Native.Nat.{ℕ, _+_, _-_, _≤_}
 use lib.ListN.{length}
 use Rattle.lists.specs.Order.{same}
 use Rattle.lists.specs.Written.{over}
 use Rattle.text.specs.Class.{newline}
-use Rattle.ids.specs.declared.refusal.Refusal.the-variants.{BadManager}
+use Rattle.ids.specs.declared.refusal.Refusal.the-variants.{BadManager, OutputTooShort}
 use Rattle.ids.specs.Verdicts.{_⇒_, judged}
 use Rattle.ids.specs.Answers.{told, after}
 use Rattle.manifest.specs.Operations.{Operation, end}
 use Rattle.manifest.specs.Lines.{lineText}
 use Rattle.manifest.specs.Split.{restOn, lines, joined}
 use Rattle.snapshot.specs.Entries.{field}
-use Rattle.version_state.specs.State.{State, withTables, withPairs, withVectors, withNext}
+use Rattle.version_state.specs.State.{State, withTables, withPairs, withVectors, withNext, withEpoch}
 use Rattle.pins.specs.declared.PinBook.{PinBook}
 use Rattle.pins.specs.Book.{PinEntry, pinsOf, bound}
 use Rattle.operations.specs.Effect.{applied}
 use Rattle.operations.specs.Steps.{Outcome, left, stopped, onward}
 use Rattle.commit.specs.Commit.{firstRules, finishOf}
 use Rattle.vacuum.specs.LetGo.{vacuumList, vacuumed}
+use Rattle.vacuum.specs.Says.{boundOf, listOf}
+use Rattle.show.specs.declared.ShowAnswer.{ShowAnswer}
 use Rattle.version_manager.specs.declared.VersionManager.{VersionManager}
 use Rattle.version_manager.specs.declared.Committed.{Committed}
 use Rattle.version_manager.specs.declared.Vacuumed.{Vacuumed}
 use Rattle.version_manager.specs.Managers.{heldBy, badManager, HandsBack}
 use Rattle.version_manager.specs.Commit.{outcomeOf, CommitEnds}
 use Rattle.version_manager.specs.Vacuum.{vacuumTold, vacuumVerdict}
+use Rattle.version_manager.specs.Show.{ShowPairsSays}
 use Rattle.pinning.specs.declared.PinAnswer.{PinAnswer}
+use Rattle.pinning.specs.declared.UnpinAnswer.{UnpinAnswer}
 use Rattle.pinning.specs.Counts.{withPin}
-use Rattle.pinning.specs.Says.{current, BookAfter, pinVerdict, pinTold}
-use Rattle.replay.specs.Replay.{Result, andThen, replayOf}
+use Rattle.pinning.specs.Says.{current, BookAfter, pinVerdict, pinTold, unpinVerdict, isDue, flag, unpinTold, readyOf}
+use Rattle.replay.specs.Replay.{Result, refused, andThen, replayOf}
 use Rattle.storage.specs.declared.Reopened.{Reopened}
 use Rattle.storage.specs.Reopen.{openedOf, ReopenIs, ReopenSays}
 use Rattle.plain_record.specs.Run.{Steps, port}
 use Rattle.plain_record.specs.Claim.{Claim}
 
--- the port with one call replaced
-abbrev pub committing : (VersionManager → ℕ → List Operation → List ℕ → Committed → List ℕ → Type 0) → Steps
-committing c =
+-- the port with these calls in place of its own
+abbrev pub exchanged : (VersionManager → ℕ → List Operation → List ℕ → Committed → List ℕ → Type 0)
+    → (VersionManager → PinBook → PinAnswer → PinBook → Type 0)
+    → (VersionManager → ℕ → PinBook → UnpinAnswer → PinBook → Type 0)
+    → (VersionManager → PinBook → List ℕ → List ℕ → Vacuumed → List ℕ → List ℕ → Type 0)
+    → (List ℕ → List ℕ → Reopened → List ℕ → Type 0)
+    → (VersionManager → PinBook → ℕ → List ℕ → List ℕ → ShowAnswer → List ℕ → List ℕ → Type 0)
+    → Steps
+exchanged c p u v o s =
     record {
       fresh = port .fresh;
       drawRowset = port .drawRowset;
       drawVector = port .drawVector;
       commit = c;
-      pin = port .pin;
-      unpin = port .unpin;
-      vacuum = port .vacuum;
-      reopen = port .reopen;
+      pin = p;
+      unpin = u;
+      vacuum = v;
+      reopen = o;
+      showTables = port .showTables;
+      showPairs = s;
+      showVectors = port .showVectors;
     }
+
+-- with one of them
+abbrev pub committing : (VersionManager → ℕ → List Operation → List ℕ → Committed → List ℕ → Type 0) → Steps
+committing c = exchanged c (port .pin) (port .unpin) (port .vacuum) (port .reopen) (port .showPairs)
 
 abbrev pub pinning : (VersionManager → PinBook → PinAnswer → PinBook → Type 0) → Steps
-pinning p =
-    record {
-      fresh = port .fresh;
-      drawRowset = port .drawRowset;
-      drawVector = port .drawVector;
-      commit = port .commit;
-      pin = p;
-      unpin = port .unpin;
-      vacuum = port .vacuum;
-      reopen = port .reopen;
-    }
+pinning p = exchanged (port .commit) p (port .unpin) (port .vacuum) (port .reopen) (port .showPairs)
+
+abbrev pub unpinning : (VersionManager → ℕ → PinBook → UnpinAnswer → PinBook → Type 0) → Steps
+unpinning u = exchanged (port .commit) (port .pin) u (port .vacuum) (port .reopen) (port .showPairs)
 
 abbrev pub vacuuming : (VersionManager → PinBook → List ℕ → List ℕ → Vacuumed → List ℕ → List ℕ → Type 0) → Steps
-vacuuming v =
-    record {
-      fresh = port .fresh;
-      drawRowset = port .drawRowset;
-      drawVector = port .drawVector;
-      commit = port .commit;
-      pin = port .pin;
-      unpin = port .unpin;
-      vacuum = v;
-      reopen = port .reopen;
-    }
+vacuuming v = exchanged (port .commit) (port .pin) (port .unpin) v (port .reopen) (port .showPairs)
 
 abbrev pub reopening : (List ℕ → List ℕ → Reopened → List ℕ → Type 0) → Steps
-reopening o =
-    record {
-      fresh = port .fresh;
-      drawRowset = port .drawRowset;
-      drawVector = port .drawVector;
-      commit = port .commit;
-      pin = port .pin;
-      unpin = port .unpin;
-      vacuum = port .vacuum;
-      reopen = o;
-    }
+reopening o = exchanged (port .commit) (port .pin) (port .unpin) (port .vacuum) o (port .showPairs)
+
+abbrev pub showing : (VersionManager → PinBook → ℕ → List ℕ → List ℕ → ShowAnswer → List ℕ → List ℕ → Type 0) → Steps
+showing s = exchanged (port .commit) (port .pin) (port .unpin) (port .vacuum) (port .reopen) s
 
 -- a commit raises the epoch and the next ids, and keeps the old sets
 abbrev pub withSets : State → Outcome → Outcome
@@ -99,6 +92,17 @@ unchanged m n os room = withSets (heldBy m) (outcomeOf m n os room)
 
 abbrev pub keepsSets : Steps
 keepsSets = committing (λ m n os out r out′. CommitEnds (unchanged m n os (length out)) m os out r out′)
+
+-- a commit leaves the epoch as it is
+abbrev pub atEpoch : ℕ → Outcome → Outcome
+atEpoch e (left s) = left (withEpoch s e (s .manifest))
+atEpoch e (stopped k) = stopped k
+
+abbrev pub unraised : VersionManager → ℕ → List Operation → ℕ → Outcome
+unraised m n os room = atEpoch (current m) (outcomeOf m n os room)
+
+abbrev pub leavesEpoch : Steps
+leavesEpoch = committing (λ m n os out r out′. CommitEnds (unraised m n os (length out)) m os out r out′)
 
 -- a commit judges no operation, so that a pair that waits may be added again
 abbrev pub appliedAt : ℕ → List Operation → State → State
@@ -128,16 +132,35 @@ pub record PinsNothing (m : VersionManager) (b : PinBook) (a : PinAnswer) (b′ 
 abbrev pub countsNoPin : Steps
 countsNoPin = pinning PinsNothing
 
--- a vacuum lists and lets go up to an epoch of its own; its verdict is the port's
-pub record VacuumsTo (to : VersionManager → PinBook → ℕ) (m : VersionManager) (b : PinBook) (ts rs : List ℕ) (r : Vacuumed) (ts′ rs′ : List ℕ) : Type 0 where
+-- an unpin is answered, and its pin stays
+pub record UnpinsNothing (m : VersionManager) (e : ℕ) (b : PinBook) (a : UnpinAnswer) (b′ : PinBook) : Type 0 where
+  pub answer : unpinTold a ≡ told (unpinVerdict m e b) (flag (isDue m e b) ∷ readyOf a ∷ [])
+  pub ready : readyOf a ≤ length (listOf (heldBy m) b′)
+  pub book : b′ ≡ b
+
+abbrev pub keepsPin : Steps
+keepsPin = unpinning UnpinsNothing
+
+-- a vacuum lists up to one epoch and lets go up to another; its verdict is the port's
+pub record VacuumsTo (to gone : VersionManager → PinBook → ℕ) (m : VersionManager) (b : PinBook) (ts rs : List ℕ) (r : Vacuumed) (ts′ rs′ : List ℕ) : Type 0 where
   pub answer : vacuumTold (r .answer) ≡ told (vacuumVerdict m b (length ts) (length rs)) (length (vacuumList (to m b) (heldBy m)) ∷ [])
   pub tables : ts′ ≡ after (vacuumVerdict m b (length ts) (length rs)) (over (field 0 (vacuumList (to m b) (heldBy m))) ts) ts
   pub rowsets : rs′ ≡ after (vacuumVerdict m b (length ts) (length rs)) (over (field 1 (vacuumList (to m b) (heldBy m))) rs) rs
-  pub manager : HandsBack (vacuumVerdict m b (length ts) (length rs)) m (vacuumed (to m b) (heldBy m)) (r .manager)
+  pub manager : HandsBack (vacuumVerdict m b (length ts) (length rs)) m (vacuumed (gone m b) (heldBy m)) (r .manager)
+
+abbrev pub nothing : VersionManager → PinBook → ℕ
+nothing m b = 0
 
 -- it lists nothing
 abbrev pub listsNothing : Steps
-listsNothing = vacuuming (VacuumsTo (λ m b. 0))
+listsNothing = vacuuming (VacuumsTo nothing nothing)
+
+-- it lists what the port lists, and never lets go
+abbrev pub portBound : VersionManager → PinBook → ℕ
+portBound m b = boundOf (heldBy m) b
+
+abbrev pub keepsListed : Steps
+keepsListed = vacuuming (VacuumsTo portBound nothing)
 
 -- a pin keeps what was deleted at its own epoch too
 abbrev pub lowered : PinEntry → PinEntry
@@ -147,11 +170,14 @@ abbrev pub loweredBound : VersionManager → PinBook → ℕ
 loweredBound m b = bound (current m) (map lowered (pinsOf b))
 
 abbrev pub keepsOwnEpoch : Steps
-keepsOwnEpoch = vacuuming (VacuumsTo loweredBound)
+keepsOwnEpoch = vacuuming (VacuumsTo loweredBound loweredBound)
 
 -- no pin keeps a deletion from it
+abbrev pub unguarded : VersionManager → PinBook → ℕ
+unguarded m b = current m
+
 abbrev pub ignoresPins : Steps
-ignoresPins = vacuuming (VacuumsTo (λ m b. current m))
+ignoresPins = vacuuming (VacuumsTo unguarded unguarded)
 
 -- a reopen finds nothing in any manifest
 abbrev pub opensEmpty : Steps
@@ -186,18 +212,31 @@ forgotten src room = andThen (replayOf src) (λ s. openedOf room (withNext s 0 0
 abbrev pub forgetsIds : Steps
 forgetsIds = reopening (λ src out. ReopenIs (forgotten src (length out)) out)
 
+-- a reopen is always refused: no buffer is long enough
+abbrev pub refusesReopen : Steps
+refusesReopen = reopening (λ src. ReopenIs (refused OutputTooShort))
+
+-- a show of pairs gives the current epoch's, whichever is asked for
+abbrev pub showsCurrent : Steps
+showsCurrent = showing (λ m b e. ShowPairsSays m b (current m))
+
 abbrev pub Refuted : Steps → Type 0
 Refuted S = Claim S → ⊥
 
 pub record WrongRefuted : Type 0 where
   pub keepsSets : Refuted keepsSets
+  pub leavesEpoch : Refuted leavesEpoch
   pub judgesNothing : Refuted judgesNothing
   pub answersNext : Refuted answersNext
   pub countsNoPin : Refuted countsNoPin
+  pub keepsPin : Refuted keepsPin
   pub listsNothing : Refuted listsNothing
+  pub keepsListed : Refuted keepsListed
   pub keepsOwnEpoch : Refuted keepsOwnEpoch
   pub ignoresPins : Refuted ignoresPins
   pub opensEmpty : Refuted opensEmpty
   pub readsFirst : Refuted readsFirst
   pub countsEarly : Refuted countsEarly
   pub forgetsIds : Refuted forgetsIds
+  pub refusesReopen : Refuted refusesReopen
+  pub showsCurrent : Refuted showsCurrent

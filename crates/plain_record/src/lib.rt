@@ -1,9 +1,11 @@
-// The plain record, and demand 3: after every list of calls the manager agrees with it. No code is here; the functions pin
-// what is claimed to the check.
+// The plain record, and demand 3: after every list of calls the manager agrees with it. Only the calls in `steps` are code; the
+// functions here pin what is claimed to the check.
 ghost use Rattle.plain_record.specs.Run.{port, BatchCounted};
 ghost use Rattle.plain_record.specs.Claim.{Claim};
 ghost use Rattle.plain_record.specs.Examples.{Examples};
 ghost use Rattle.plain_record.specs.Wrong.{WrongRefuted};
+
+pub mod steps;
 
 pub fn agrees()
     ensures { λ _. ⌜ Claim port ⌝ }
