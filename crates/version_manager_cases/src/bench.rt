@@ -43,7 +43,7 @@ impl Bench {
     }
 
     pub fn with_inner(self, inner: VersionManagerInner) -> Bench {
-        let manager = VersionManager { inner };
+        let manager = version_manager::handed(inner);
         let mut bench = self;
         bench.manager = manager;
         bench
