@@ -1,4 +1,5 @@
 // Columns of numbers, lent to small functions: the first `count` places of columns side by side are rows, ascending by their keys.
+// All here is internal: the caller has looked at the count.
 use ids::limits::MOST_HELD;
 
 pub mod triples;

@@ -1,4 +1,4 @@
-// The same for rows of three numbers, the last one wider: the laws are those of rows of two.
+// The same for rows of three numbers, the last one wider: the laws are those of rows of two. All here is internal.
 use ids::limits::MOST_HELD;
 ghost use mathlib.Core.Path.{_≡_};
 ghost use mathlib.Core.Bool.{true, _&&_};

@@ -67,6 +67,7 @@ pub fn record_size(row: RowNo, sizes: &[usize; ROW_BITS + 1]) -> usize
     sizes[significant_bits(row)]
 }
 
+// Internal: the caller has looked at the room.
 fn put_varint(n: u32, out: &mut [u8], at: usize) -> usize
     requires { ⌜ at + length (varint n) ≤ length (now out) ⌝ }
     ensures { λ r. ⌜ Wrote (now (out .entry)) at (varint n) (now (out .exit)) r ⌝ }
@@ -96,6 +97,8 @@ pub fn put_record(row: RowNo, out: &mut [u8], at: usize, sizes: &[usize; ROW_BIT
     put_varint(row.0, out, at + 2)
 }
 
+// Internal, as is what follows: the place is in the file or at its end. Whether the file has at `at` what the writer makes of
+// the number.
 fn holds_varint(file: &[u8], at: usize, n: u32) -> bool
     requires { ⌜ at ≤ length (now file) ⌝ }
     ensures { λ r. ⌜ r ≡ startsWith (varint n) (drop at (now (file .entry))) ⌝ }

@@ -1,3 +1,4 @@
+// Names of tables.
 use crate::limits::LONGEST_NAME;
 ghost use mathlib.Core.Path.{_≡_};
 ghost use Prim.Native.Nat.{_≤_};

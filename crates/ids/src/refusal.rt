@@ -1,3 +1,4 @@
+// Refusals, and the verdict of a call.
 ghost use mathlib.Core.Path.{_≡_};
 ghost use mathlib.Core.Bool.{true};
 ghost use Rattle.ids.specs.Refusals.{numberOf, placeOf};

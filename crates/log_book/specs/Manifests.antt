@@ -1,24 +1,21 @@
--- Entries on manifests. Assumes nothing.
+-- Entries on manifests: what a reopen of their bytes gives, and the manifest rewritten. Assumes nothing.
 use mathlib.Core.Path.{_≡_}
+use mathlib.Core.Bool.{false}
 use mathlib.Core.List.{List, [], _∷_, _++_}
 use Prim.Native.Nat.{ℕ}
 use Rattle.manifest.specs.Split.{joined}
-use Rattle.snapshot.specs.Entries.{addedAt}
-use Rattle.snapshot.specs.Tables.{created}
-use Rattle.version_state.specs.State.{State, start, withTables, withPairs, withNext, withEpoch}
+use Rattle.snapshot.specs.Tables.{TableEntry}
+use Rattle.version_state.specs.State.{State}
 use Rattle.rewrite.specs.Rewritten.{rewrittenOf, longestRewritten}
 use Rattle.replay.specs.Replay.{given}
 use Rattle.storage.specs.Reopen.{reopenOf}
 
--- `B`, `E`, `N,0,0,0`
+-- `B`, `E`
 abbrev pub begin : List ℕ
 begin = 66 ∷ []
 
 abbrev pub end : List ℕ
 end = 69 ∷ []
-
-abbrev pub noIds : List ℕ
-noIds = 78 ∷ 44 ∷ 48 ∷ 44 ∷ 48 ∷ 44 ∷ 48 ∷ []
 
 -- `slots`, `T,0,7,slots`
 abbrev pub slots : List ℕ
@@ -40,27 +37,37 @@ delete0 = 68 ∷ 44 ∷ 48 ∷ 44 ∷ 48 ∷ []
 abbrev pub delete1 : List ℕ
 delete1 = 68 ∷ 44 ∷ 48 ∷ 44 ∷ 49 ∷ []
 
--- `N,1,2,0`
-abbrev pub nextIds : List ℕ
-nextIds = 78 ∷ 44 ∷ 49 ∷ 44 ∷ 50 ∷ 44 ∷ 48 ∷ []
-
--- the empty store at epoch 1, with the length of its rewritten manifest
+-- the empty store at epoch 1, with the length of its rewritten manifest; written out, as all that the facts end in
 abbrev pub empty : State
-empty = withEpoch start 1 12
+empty = record { epoch = 1; nextTable = 0; nextRowset = 0; nextVector = 0; tables = []; pairs = []; vectors = []; manifest = 12 }
 
 -- the table and the pair (0, 1)
+abbrev pub table : TableEntry
+table = record { table = 0; shape = 7; name = slots; locked = false }
+
 abbrev pub merged : State
-merged = withEpoch (withNext (withPairs (withTables start (created 0 7 slots ∷ [])) (addedAt 1 (0 ∷ 1 ∷ []) ∷ [])) 1 2 0) 1 30
+merged =
+    record {
+      epoch = 1;
+      nextTable = 1;
+      nextRowset = 2;
+      nextVector = 0;
+      tables = table ∷ [];
+      pairs = record { ids = 0 ∷ 1 ∷ []; added = 1; deleted = 0 } ∷ [];
+      vectors = [];
+      manifest = 30;
+    }
 
 pub record ManifestCases : Type 0 where
   -- "Empty manifest: `B`, `N,0,0,0`, `E`; epoch 1."
   pub nothing : reopenOf [] longestRewritten ≡ given empty
-  pub nothingText : rewrittenOf empty ≡ joined (begin ∷ noIds ∷ end ∷ [])
+  pub nothingText : rewrittenOf empty ≡ 66 ∷ 10 ∷ 78 ∷ 44 ∷ 48 ∷ 44 ∷ 48 ∷ 44 ∷ 48 ∷ 10 ∷ 69 ∷ 10 ∷ []
   -- "`B T,0,7,slots A,0,0 E B A,0,1 D,0,0 E B D,0,1`, a line each", read and written anew: `B N,1,2,0 T,0,7,slots A,0,1 E`
   pub frames :
       reopenOf (joined (begin ∷ create ∷ add0 ∷ end ∷ begin ∷ add1 ∷ delete0 ∷ end ∷ begin ∷ delete1 ∷ [])) longestRewritten
       ≡ given merged
-  pub framesText : rewrittenOf merged ≡ joined (begin ∷ nextIds ∷ create ∷ add1 ∷ end ∷ [])
+  pub framesText : rewrittenOf merged
+      ≡ 66 ∷ 10 ∷ 78 ∷ 44 ∷ 49 ∷ 44 ∷ 50 ∷ 44 ∷ 48 ∷ 10 ∷ 84 ∷ 44 ∷ 48 ∷ 44 ∷ 55 ∷ 44 ∷ 115 ∷ 108 ∷ 111 ∷ 116 ∷ 115 ∷ 10 ∷ 65 ∷ 44 ∷ 48 ∷ 44 ∷ 49 ∷ 10 ∷ 69 ∷ 10 ∷ []
   -- "`B T,0,7,slots B E`: no table."
   pub begunAgain : reopenOf (joined (begin ∷ create ∷ begin ∷ end ∷ [])) longestRewritten ≡ given empty
   -- "`E` without newline: no effect."

@@ -1,11 +1,13 @@
 -- Entries on pins. Assumes nothing.
 use mathlib.Core.Path.{_≡_}
-use Rattle.ids.specs.declared.refusal.Refusal.the-variants.{PinAtEpochZero}
-use Rattle.ids.specs.declared.refusal.Verdict.the-variants.{Refused}
+use mathlib.Core.List.{[]}
+use Rattle.pins.specs.declared.PinBook.{PinBook}
 use Rattle.version_manager.specs.declared.Opened.{Opened}
 use Rattle.version_manager.specs.Managers.{FreshSays}
-use Rattle.pinning.specs.Says.{pinVerdict}
+use Rattle.pinning.specs.declared.PinAnswer.{PinAnswer}
+use Rattle.pinning.specs.Says.{pinTold, PinSays}
 
 pub record PinCases : Type 0 where
-  -- "Pin when fresh: 10."
-  pub fresh : (r : Opened) → FreshSays r → pinVerdict (r .manager) (r .book) ≡ Refused PinAtEpochZero
+  -- "Pin when fresh: 10.": what a pin of a fresh manager and its book answers
+  pub fresh : (r : Opened) → FreshSays r → (a : PinAnswer) (b : PinBook) → PinSays (r .manager) (r .book) a b
+      → pinTold a ≡ record { number = 10; place = 0; values = [] }

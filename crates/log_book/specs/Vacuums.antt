@@ -1,32 +1,69 @@
--- Entries on deletions and pins. Assumes nothing.
+-- Entries on deletions and pins, of every manager and book that stand for a state and its pins. Assumes nothing.
 use mathlib.Core.Path.{_≡_}
+use mathlib.Core.Bool.{false}
 use mathlib.Core.List.{List, [], _∷_}
-use Prim.Native.Nat.{ℕ}
-use Rattle.snapshot.specs.Entries.{Entry, addedAt, deletedAt}
-use Rattle.version_state.specs.State.{State, start, withPairs, withEpoch}
-use Rattle.pins.specs.Book.{PinEntry, bound}
-use Rattle.vacuum.specs.LetGo.{vacuumList, vacuumed}
+use Rattle.ids.specs.declared.refusal.Verdict.the-variants.{Accepted}
+use Rattle.manifest.specs.Operations.{createTable, addRowset, deleteRowset}
+use Rattle.snapshot.specs.Entries.{Entry}
+use Rattle.version_state.specs.State.{State, start}
+use Rattle.operations.specs.Steps.{left}
+use Rattle.commit.specs.Commit.{commitOf}
+use Rattle.pins.specs.declared.PinBook.{PinBook}
+use Rattle.pins.specs.Book.{PinEntry, Keeps}
+use Rattle.vacuum.specs.LetGo.{vacuumed}
+use Rattle.vacuum.specs.Says.{boundOf, listOf}
+use Rattle.version_manager.specs.declared.VersionManager.{VersionManager}
+use Rattle.version_manager.specs.Managers.{heldBy, badManager, Manages}
+use Rattle.version_manager.specs.Draw.{rowsetDrawn}
+use Rattle.version_manager.specs.Vacuum.{vacuumVerdict}
 use Rattle.pinning.specs.Counts.{withPin, withoutPin}
+use Rattle.log_book.specs.Manifests.{slots, table}
 
--- the pair (0, 0), added at epoch 1 and deleted at 2, which is the current epoch
+-- the pair (0, 0), added at epoch 1, and then deleted at 2
+abbrev pub shownPair : Entry
+shownPair = record { ids = 0 ∷ 0 ∷ []; added = 1; deleted = 0 }
+
 abbrev pub pair : Entry
-pair = deletedAt 2 (addedAt 1 (0 ∷ 0 ∷ []))
+pair = record { ids = 0 ∷ 0 ∷ []; added = 1; deleted = 2 }
 
-abbrev pub held : State
-held = withEpoch (withPairs start (pair ∷ [])) 2 0
+-- the pair is added at epoch 1, deleted at 2, and let go
+abbrev pub one : State
+one = record { epoch = 1; nextTable = 1; nextRowset = 1; nextVector = 0; tables = table ∷ []; pairs = shownPair ∷ []; vectors = []; manifest = 22 }
 
--- the pins after a pin of an epoch alone, and after the unpin of it
-abbrev pub pinOn : ℕ → List PinEntry
-pinOn e = withPin e []
+abbrev pub two : State
+two = record { epoch = 2; nextTable = 1; nextRowset = 1; nextVector = 0; tables = table ∷ []; pairs = pair ∷ []; vectors = []; manifest = 32 }
 
-abbrev pub unpinOn : ℕ → List PinEntry
-unpinOn e = withoutPin e (pinOn e)
+abbrev pub cleared : State
+cleared = record { epoch = 2; nextTable = 1; nextRowset = 1; nextVector = 0; tables = table ∷ []; pairs = []; vectors = []; manifest = 32 }
+
+-- one pin on epoch 1 alone, one on 2 alone
+abbrev pub on1 : List PinEntry
+on1 = record { epoch = 1; count = 1 } ∷ []
+
+abbrev pub on2 : List PinEntry
+on2 = record { epoch = 2; count = 1 } ∷ []
+
+-- a manager that 29 lets pass: the vacuum of it, lent one place in each slice, is accepted, lists es and leaves s
+pub record Lists (m : VersionManager) (b : PinBook) (es : List Entry) (s : State) : Type 0 where
+  pub passes : badManager m ≡ false
+  pub verdict : vacuumVerdict m b 1 1 ≡ Accepted
+  pub list : listOf (heldBy m) b ≡ es
+  pub leaves : vacuumed (boundOf (heldBy m) b) (heldBy m) ≡ s
+
+-- the same of every manager that stands for s and every book that stands for the pins l
+abbrev pub Vacuum : State → List PinEntry → List Entry → State → Type 0
+Vacuum s l es t = (m : VersionManager) (b : PinBook) → Manages m s → Keeps b l → Lists m b es t
 
 pub record VacuumCases : Type 0 where
-  -- "Pair at epoch 1 pinned, deleted at 2: vacuum lists none; after unpin it, then none."
-  pub pinned : vacuumList (bound 2 (pinOn 1)) held ≡ []
-  pub kept : vacuumed (bound 2 (pinOn 1)) held ≡ held
-  pub unpinned : vacuumList (bound 2 (unpinOn 1)) held ≡ pair ∷ []
-  pub then : vacuumList (bound 2 (unpinOn 1)) (vacuumed (bound 2 (unpinOn 1)) held) ≡ []
+  -- "Pair at epoch 1 pinned, deleted at 2": a rowset id is drawn, and a pin stands between two commits
+  pub adds : commitOf (rowsetDrawn start) 2 (createTable 0 7 slots ∷ addRowset 0 0 ∷ []) 22 ≡ left one
+  pub pins : withPin 1 [] ≡ on1
+  pub deletes : commitOf one 1 (deleteRowset 0 0 ∷ []) 10 ≡ left two
+  -- "vacuum lists none; after unpin it, then none."
+  pub pinned : Vacuum two on1 [] two
+  pub unpins : withoutPin 1 on1 ≡ []
+  pub unpinned : Vacuum two [] (pair ∷ []) cleared
+  pub then : Vacuum cleared [] [] cleared
   -- "Pinned at 2 only: listed."
-  pub ownEpoch : vacuumList (bound 2 (pinOn 2)) held ≡ pair ∷ []
+  pub pinsLater : withPin 2 [] ≡ on2
+  pub ownEpoch : Vacuum two on2 (pair ∷ []) cleared

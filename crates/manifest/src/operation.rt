@@ -1,3 +1,4 @@
+// Operations, and the lines of a manifest as values.
 use ids::RowsetNo;
 use ids::TableNo;
 use ids::VectorNo;

@@ -1,3 +1,4 @@
+// From the bytes of a line to what it says.
 use crate::operation::EpochOp;
 use crate::operation::ManifestOperation;
 use crate::operation::Parsed;

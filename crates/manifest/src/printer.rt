@@ -1,3 +1,4 @@
+// From an operation to the bytes of its line. All here is internal: the caller has looked for room.
 use crate::operation::Change;
 use crate::operation::EpochOp;
 use ids::name::Name;
@@ -11,7 +12,7 @@ ghost use Rattle.text.specs.Class.{comma};
 ghost use Rattle.manifest.specs.Operations.{operationOf};
 ghost use Rattle.manifest.specs.Lines.{createLetter, fieldsText, textOf, longestText};
 
-// A comma and a number. Every function that writes here wants room: the caller has looked for it.
+// A comma and a number.
 fn put_field(out: &mut [u8], at: usize, n: u64) -> usize
     requires { ⌜ at + length (fieldsText (n ∷ [])) ≤ length (now out) ⌝ }
     ensures { λ r. ⌜ Wrote (now (out .entry)) at (fieldsText (n ∷ [])) (now (out .exit)) r ⌝ }
@@ -54,7 +55,7 @@ fn put_table(out: &mut [u8], at: usize, x: u64, y: u64, name: Name) -> usize
     text::put_name(out, j, name)
 }
 
-// Internal: the operation as a line without its newline, where there is room for it. Returns the place after it.
+// The operation as a line without its newline. Returns the place after it.
 pub fn print(out: &mut [u8], at: usize, change: Change) -> usize
     requires { ⌜ at + length (textOf (operationOf change)) ≤ length (now out) ⌝ }
     ensures { λ r. ⌜ Wrote (now (out .entry)) at (textOf (operationOf change)) (now (out .exit)) r ⌝ }

@@ -1,3 +1,4 @@
+// The line that starts at a place of a manifest.
 ghost use mathlib.Core.Path.{_≡_};
 ghost use Rattle.text.specs.Class.{Classes};
 ghost use Rattle.manifest.specs.Split.{lineAt};

@@ -136,7 +136,8 @@ pub fn after_pin(manager: VersionManager, book: PinBook) -> PinStep
     }
 }
 
-// The count is within the column, and the book has passed 28. How many deletions a vacuum would list where one is due, and else 0.
+// Internal: the count is within the column, and the book has passed 28. How many deletions a vacuum would list where one is due,
+// and else 0.
 fn ready(deleted: &[u32; MOST_HELD], count: usize, current: u32, book: PinBook, due: bool) -> usize
     requires { ⌜ (count ≤ mostHeld) × GoodBook current book ⌝ }
     ensures { λ r. ⌜ r ≡ cond due (length (keep (goneAt (bound current (pinsOf book))) (rows (column (now (deleted .entry))) count))) 0 ⌝ }

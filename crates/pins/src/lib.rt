@@ -62,7 +62,8 @@ impl PinBook {
         }
     }
 
-    // Every place is valid, and the epochs rise strictly. No epoch is 0, so the first one is after 0.
+    // Internal: the count is within the array. Every place is valid, and the epochs rise strictly. No epoch is 0, so the first one is
+    // after 0.
     fn sound(self, current: u32) -> bool
         requires { ⌜ self .count ≤ mostPinned ⌝ }
         ensures { λ r. ⌜ r ≡ allOf (validPin current) (pinsOf self) && ascending byEpoch (pinsOf self) ⌝ }

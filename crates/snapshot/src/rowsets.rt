@@ -1,3 +1,4 @@
+// The rowsets that are held, in columns.
 use ids::limits::MOST_HELD;
 ghost use mathlib.Core.Path.{_≡_};
 ghost use mathlib.Core.List.{[]};

@@ -118,7 +118,8 @@ fn as_before(src: &[u8], t: Told, first: &[u8]) -> bool {
     same(first, &out)
 }
 
-// Internal: the first cut, from `before` up to the whole, at which a reopen does not answer as before; or the whole length.
+// Internal, as is the next: the place is in the manifest. The first cut, from `before` up to the whole, at which a reopen does not
+// answer as before; or the whole length.
 fn cuts(src: &[u8], before: usize, t: Told, first: &[u8]) -> usize
     requires { ⌜ before ≤ length (now src) ⌝ }
     ensures { λ r. ⌜ before ≤ r ⌝ }

@@ -1,4 +1,4 @@
-// 17: what an epoch shows without what it rests on. Internal: lists that rise, in columns that are lent.
+// 17: what an epoch shows without what it rests on. All here is internal: lists that rise, in columns that are lent.
 use ids::limits::MOST_HELD;
 use ids::limits::MOST_TABLES;
 ghost use mathlib.Core.Path.{_≡_};

@@ -40,7 +40,7 @@ pub struct VersionManagerInner {
     pub manifest: usize,
 }
 
-// 29 of the state that stands in columns that are lent, so that none is copied. It looks neither at shapes nor at locks.
+// Internal: 29 of the state that stands in columns that are lent, so that none is copied. It looks neither at shapes nor at locks.
 pub fn bad<'a>(
     ids: &'a [u32; MOST_TABLES],
     lengths: &'a [u32; MOST_TABLES],

@@ -1,4 +1,4 @@
-// The tests of 29 that look at one list at a time, over columns that are lent. Internal.
+// The tests of 29 that look at one list at a time, over columns that are lent. All here is internal.
 use crate::NextIds;
 use ids::limits::LONGEST_MANIFEST;
 use ids::limits::LONGEST_NAME;

@@ -1,5 +1,5 @@
-use mathlib.Core.Logic.{⊎-elim}
 -- `text_cases::show_all` meets its contract. Assumes nothing.
+use mathlib.Core.Logic.{⊎-elim}
 use Prim.Native.Nat.{_≤_, _-_}
 use native.Mathlib.Omega.{arith}
 use borrow.Author.Needs.{needs}
