@@ -49,9 +49,10 @@ use Rattle.storage.specs.Reopen.{ReopenIs, ReopenSays}
 use Rattle.plain_record.specs.Sets as plain
 use Rattle.plain_record.specs.Plain.{Pins}
 use Rattle.plain_record.specs.Calls.{drawRowset, commit, pin, unpin, vacuum, reopen}
-use Rattle.plain_record.specs.Run.{Steps, World, world, Event, onward, afterCommit, afterReopen, pairsIn, Starts, Link}
+use Rattle.plain_record.specs.Run.{Steps, World, world, Event, onward, afterCommit, afterReopen, pairsIn, Starts, Link, Chain}
+use Rattle.plain_record.specs.Claim.{Claim, Holds}
 use Rattle.plain_record.specs.Shows.{ShowsTables}
-use Rattle.plain_record.specs.Wrong.{unchanged, keepsSets, unraised, leavesEpoch, unjudged, judgesNothing, PinsNext, answersNext, PinsNothing, countsNoPin, UnpinsNothing, keepsPin, VacuumsTo, nothing, listsNothing, portBound, keepsListed, loweredBound, keepsOwnEpoch, unguarded, ignoresPins, opensEmpty, firstFrame, readsFirst, closed, countsEarly, forgotten, forgetsIds, refusesReopen, showsCurrent, Refuted, WrongRefuted}
+use Rattle.plain_record.specs.Wrong.{unchanged, keepsSets, unraised, leavesEpoch, unjudged, judgesNothing, PinsNext, answersNext, PinsNothing, countsNoPin, UnpinsNothing, keepsPin, VacuumsTo, nothing, listsNothing, portBound, keepsListed, countsOneMore, loweredBound, keepsOwnEpoch, unguarded, ignoresPins, opensEmpty, firstFrame, readsFirst, closed, countsEarly, forgotten, forgetsIds, refusesReopen, showsCurrent, Refuted, WrongRefuted}
 
 -- What is not equal.
 apart : {m n : ℕ} → m ≡ n → eqb m n ≡ false → ⊥
@@ -242,8 +243,16 @@ says-TAD : CommitSays (drawn .manager) (length opsTAD) opsTAD frameTAD (appended
 unfolding rows stepOf textOf fieldsText digits digitsBy isName isNameByte isDigit isLower goneAt shownAt
 says-TAD = (refl, record { fits = fits-TAD; state = refl }, refl)
 
+abbrev CommitsTAD : Steps → Type 0
+CommitsTAD S = S .commit (drawn .manager) (length opsTAD) opsTAD frameTAD (appended afterTAD 1 24) frameTAD
+
+-- the claim of a draw, this commit and further calls
+on-TAD : (S : Steps) → Claim S → S .fresh first → S .drawRowset (first .manager) drawn → CommitsTAD S → (es : List Event) → Chain S (commitTAD .after) es → Holds S begun (draws ∷ commitTAD ∷ es)
+on-TAD S claim fresh draw says es c =
+    claim begun (draws ∷ commitTAD ∷ es) (begins S fresh) (refl, drew S draw, (refl, committed S (draws .after) opsTAD afterTAD 1 24 frameTAD 0 says, c))
+
 -- a vacuum lists nothing
-nothing-says : VacuumsTo nothing nothing afterTAD unpinned (5 ∷ []) (5 ∷ []) (listedBy afterTAD 0) (5 ∷ []) (5 ∷ [])
+nothing-says : VacuumsTo 0 nothing nothing afterTAD unpinned (5 ∷ []) (5 ∷ []) (listedBy afterTAD 0) (5 ∷ []) (5 ∷ [])
 unfolding rows isName isNameByte isDigit isLower goneAt shownAt
 nothing-says = record { answer = refl; tables = refl; rowsets = refl; manager = record { fits = fits-TAD; state = refl } }
 
@@ -252,19 +261,11 @@ lists-nothing claim =
     let S = listsNothing in
     let w = commitTAD .after in
     let h =
-    claim begun (draws ∷ commitTAD ∷ vacuums w afterTAD 0 (5 ∷ []) (5 ∷ []) ∷ []) (begins S fresh-says) (
-      refl,
-      drew S draw-says,
-      (
-        refl,
-        committed S (draws .after) opsTAD afterTAD 1 24 frameTAD 0 says-TAD,
-        (refl, vacuumed S w afterTAD 0 (5 ∷ []) (5 ∷ []) nothing-says, tt),
-      ),
-    ) in
+    on-TAD S claim fresh-says draw-says says-TAD (vacuums w afterTAD 0 (5 ∷ []) (5 ∷ []) ∷ []) (refl, vacuumed S w afterTAD 0 (5 ∷ []) (5 ∷ []) nothing-says, tt) in
     true≢false (sym (h .deletions .1 .0 refl refl .0 .0 refl .0 .1))
 
 -- a vacuum lists the deletion and keeps it, so that the next one lists it again
-listed-says : VacuumsTo portBound nothing afterTAD unpinned (5 ∷ []) (5 ∷ []) (listedBy afterTAD 1) (0 ∷ []) (0 ∷ [])
+listed-says : VacuumsTo 0 portBound nothing afterTAD unpinned (5 ∷ []) (5 ∷ []) (listedBy afterTAD 1) (0 ∷ []) (0 ∷ [])
 unfolding rows isName isNameByte isDigit isLower goneAt shownAt
 listed-says = record { answer = refl; tables = refl; rowsets = refl; manager = record { fits = fits-TAD; state = refl } }
 
@@ -274,27 +275,36 @@ keeps-listed claim =
     let w = commitTAD .after in
     let v = vacuums w afterTAD 1 (0 ∷ []) (0 ∷ []) in
     let h =
-    claim begun (draws ∷ commitTAD ∷ v ∷ vacuums (v .after) afterTAD 1 (0 ∷ []) (0 ∷ []) ∷ []) (begins S fresh-says) (
+    on-TAD S claim fresh-says draw-says says-TAD (v ∷ vacuums (v .after) afterTAD 1 (0 ∷ []) (0 ∷ []) ∷ []) (
       refl,
-      drew S draw-says,
-      (
-        refl,
-        committed S (draws .after) opsTAD afterTAD 1 24 frameTAD 0 says-TAD,
-        (
-          refl,
-          vacuumed S w afterTAD 1 (0 ∷ []) (0 ∷ []) listed-says,
-          (refl, vacuumed S (v .after) afterTAD 1 (0 ∷ []) (0 ∷ []) listed-says, tt),
-        ),
-      ),
+      vacuumed S w afterTAD 1 (0 ∷ []) (0 ∷ []) listed-says,
+      (refl, vacuumed S (v .after) afterTAD 1 (0 ∷ []) (0 ∷ []) listed-says, tt),
     ) in
     true≢false (h .deletions .1 .0 refl refl .0 .0 refl .1 .0 .1)
+
+-- a vacuum lists the deletion, lets it go and answers 2
+abbrev sweptTAD : VersionManager
+sweptTAD = holding 1 1 1 tables noPairs 24
+
+more-says : VacuumsTo 1 portBound portBound afterTAD unpinned (5 ∷ []) (5 ∷ []) (listedBy sweptTAD 2) (0 ∷ []) (0 ∷ [])
+unfolding rows isName isNameByte isDigit isLower goneAt shownAt
+more-says =
+    record { answer = refl; tables = refl; rowsets = refl; manager = record { fits = few 1 1 1 tables noPairs 24 (omega arith) (omega arith); state = refl } }
+
+counts-one-more : Refuted countsOneMore
+counts-one-more claim =
+    let S = countsOneMore in
+    let w = commitTAD .after in
+    let h =
+    on-TAD S claim fresh-says draw-says says-TAD (vacuums w sweptTAD 2 (0 ∷ []) (0 ∷ []) ∷ []) (refl, vacuumed S w sweptTAD 2 (0 ∷ []) (0 ∷ []) more-says, tt) in
+    apart (h .answers .1 .1 .0 refl .1) refl
 
 -- the deletion's own epoch is pinned
 pin-says : PinSays afterTAD unpinned (Pinned 1) once
 unfolding rows isName isNameByte isDigit isLower goneAt shownAt
 pin-says = record { answer = refl; book = record { fits = omega arith; pins = refl } }
 
-own-says : VacuumsTo loweredBound loweredBound afterTAD once (5 ∷ []) (5 ∷ []) (listedBy afterTAD 0) (5 ∷ []) (5 ∷ [])
+own-says : VacuumsTo 0 loweredBound loweredBound afterTAD once (5 ∷ []) (5 ∷ []) (listedBy afterTAD 0) (5 ∷ []) (5 ∷ [])
 unfolding rows isName isNameByte isDigit isLower goneAt shownAt
 own-says = record { answer = refl; tables = refl; rowsets = refl; manager = record { fits = fits-TAD; state = refl } }
 
@@ -303,18 +313,10 @@ keeps-own-epoch claim =
     let S = keepsOwnEpoch in
     let p = pins (commitTAD .after) 1 once in
     let h =
-    claim begun (draws ∷ commitTAD ∷ p ∷ vacuums (p .after) afterTAD 0 (5 ∷ []) (5 ∷ []) ∷ []) (begins S fresh-says) (
+    on-TAD S claim fresh-says draw-says says-TAD (p ∷ vacuums (p .after) afterTAD 0 (5 ∷ []) (5 ∷ []) ∷ []) (
       refl,
-      drew S draw-says,
-      (
-        refl,
-        committed S (draws .after) opsTAD afterTAD 1 24 frameTAD 0 says-TAD,
-        (
-          refl,
-          pinned S (commitTAD .after) 1 once pin-says,
-          (refl, vacuumed S (p .after) afterTAD 0 (5 ∷ []) (5 ∷ []) own-says, tt),
-        ),
-      ),
+      pinned S (commitTAD .after) 1 once pin-says,
+      (refl, vacuumed S (p .after) afterTAD 0 (5 ∷ []) (5 ∷ []) own-says, tt),
     ) in
     true≢false (sym (h .deletions .1 .0 refl refl .0 .1 refl .1 .0 refl .0 .1))
 
@@ -327,16 +329,7 @@ answers-next : Refuted answersNext
 answers-next claim =
     let S = answersNext in
     let w = commitTAD .after in
-    let h =
-    claim begun (draws ∷ commitTAD ∷ pins w 2 once ∷ []) (begins S fresh-says) (
-      refl,
-      drew S draw-says,
-      (
-        refl,
-        committed S (draws .after) opsTAD afterTAD 1 24 frameTAD 0 says-TAD,
-        (refl, pinned S w 2 once next-says, tt),
-      ),
-    ) in
+    let h = on-TAD S claim fresh-says draw-says says-TAD (pins w 2 once ∷ []) (refl, pinned S w 2 once next-says, tt) in
     apart (h .answers .1 .1 .0 refl) refl
 
 -- a pin is not counted
@@ -348,16 +341,7 @@ counts-no-pin : Refuted countsNoPin
 counts-no-pin claim =
     let S = countsNoPin in
     let w = commitTAD .after in
-    let h =
-    claim begun (draws ∷ commitTAD ∷ pins w 1 unpinned ∷ []) (begins S fresh-says) (
-      refl,
-      drew S draw-says,
-      (
-        refl,
-        committed S (draws .after) opsTAD afterTAD 1 24 frameTAD 0 says-TAD,
-        (refl, pinned S w 1 unpinned uncounted-says, tt),
-      ),
-    ) in
+    let h = on-TAD S claim fresh-says draw-says says-TAD (pins w 1 unpinned ∷ []) (refl, pinned S w 1 unpinned uncounted-says, tt) in
     not-empty (h .agrees .book)
 
 -- The pair that waits is added again.
@@ -384,15 +368,7 @@ judges-nothing claim =
     let S = judgesNothing in
     let w = commitTAD .after in
     let h =
-    claim begun (draws ∷ commitTAD ∷ commits w opsA afterA 2 10 frameA 0 ∷ []) (begins S fresh-says) (
-      refl,
-      drew S draw-says,
-      (
-        refl,
-        committed S (draws .after) opsTAD afterTAD 1 24 frameTAD 0 unjudged-TAD,
-        (refl, committed S w opsA afterA 2 10 frameA 0 unjudged-A, tt),
-      ),
-    ) in
+    on-TAD S claim fresh-says draw-says unjudged-TAD (commits w opsA afterA 2 10 frameA 0 ∷ []) (refl, committed S w opsA afterA 2 10 frameA 0 unjudged-A, tt) in
     not-empty (h .agrees .waiting)
 
 -- The rowset is added at epoch 1, epoch 1 is pinned, and the rowset is deleted at epoch 2.
@@ -436,7 +412,7 @@ unfolding rows stepOf textOf fieldsText digits digitsBy isName isNameByte isDigi
 says-D = (refl, record { fits = few 2 1 1 tables (pair 1 2) 28 (omega arith) (omega arith); state = refl }, refl)
 
 -- a vacuum ignores the pin
-all-says : VacuumsTo unguarded unguarded (afterD (pair 1 2)) once (5 ∷ []) (5 ∷ []) (listedBy (afterD noPairs) 1) (0 ∷ []) (0 ∷ [])
+all-says : VacuumsTo 0 unguarded unguarded (afterD (pair 1 2)) once (5 ∷ []) (5 ∷ []) (listedBy (afterD noPairs) 1) (0 ∷ []) (0 ∷ [])
 unfolding rows isName isNameByte isDigit isLower goneAt shownAt
 all-says =
     record { answer = refl; tables = refl; rowsets = refl; manager = record { fits = few 2 1 1 tables noPairs 28 (omega arith) (omega arith); state = refl } }
@@ -734,6 +710,7 @@ wrong-refuted =
       keepsPin = keeps-pin;
       listsNothing = lists-nothing;
       keepsListed = keeps-listed;
+      countsOneMore = counts-one-more;
       keepsOwnEpoch = keeps-own-epoch;
       ignoresPins = ignores-pins;
       opensEmpty = opens-empty;

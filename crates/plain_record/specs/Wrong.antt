@@ -141,9 +141,9 @@ pub record UnpinsNothing (m : VersionManager) (e : ℕ) (b : PinBook) (a : Unpin
 abbrev pub keepsPin : Steps
 keepsPin = unpinning UnpinsNothing
 
--- a vacuum lists up to one epoch and lets go up to another; its verdict is the port's
-pub record VacuumsTo (to gone : VersionManager → PinBook → ℕ) (m : VersionManager) (b : PinBook) (ts rs : List ℕ) (r : Vacuumed) (ts′ rs′ : List ℕ) : Type 0 where
-  pub answer : vacuumTold (r .answer) ≡ told (vacuumVerdict m b (length ts) (length rs)) (length (vacuumList (to m b) (heldBy m)) ∷ [])
+-- a vacuum lists up to one epoch, answers so many more than it lists, and lets go up to another epoch; its verdict is the port's
+pub record VacuumsTo (more : ℕ) (to gone : VersionManager → PinBook → ℕ) (m : VersionManager) (b : PinBook) (ts rs : List ℕ) (r : Vacuumed) (ts′ rs′ : List ℕ) : Type 0 where
+  pub answer : vacuumTold (r .answer) ≡ told (vacuumVerdict m b (length ts) (length rs)) ((length (vacuumList (to m b) (heldBy m)) + more) ∷ [])
   pub tables : ts′ ≡ after (vacuumVerdict m b (length ts) (length rs)) (over (field 0 (vacuumList (to m b) (heldBy m))) ts) ts
   pub rowsets : rs′ ≡ after (vacuumVerdict m b (length ts) (length rs)) (over (field 1 (vacuumList (to m b) (heldBy m))) rs) rs
   pub manager : HandsBack (vacuumVerdict m b (length ts) (length rs)) m (vacuumed (gone m b) (heldBy m)) (r .manager)
@@ -153,14 +153,18 @@ nothing m b = 0
 
 -- it lists nothing
 abbrev pub listsNothing : Steps
-listsNothing = vacuuming (VacuumsTo nothing nothing)
+listsNothing = vacuuming (VacuumsTo 0 nothing nothing)
 
 -- it lists what the port lists, and never lets go
 abbrev pub portBound : VersionManager → PinBook → ℕ
 portBound m b = boundOf (heldBy m) b
 
 abbrev pub keepsListed : Steps
-keepsListed = vacuuming (VacuumsTo portBound nothing)
+keepsListed = vacuuming (VacuumsTo 0 portBound nothing)
+
+-- it does what the port does, and answers one more
+abbrev pub countsOneMore : Steps
+countsOneMore = vacuuming (VacuumsTo 1 portBound portBound)
 
 -- a pin keeps what was deleted at its own epoch too
 abbrev pub lowered : PinEntry → PinEntry
@@ -170,14 +174,14 @@ abbrev pub loweredBound : VersionManager → PinBook → ℕ
 loweredBound m b = bound (current m) (map lowered (pinsOf b))
 
 abbrev pub keepsOwnEpoch : Steps
-keepsOwnEpoch = vacuuming (VacuumsTo loweredBound loweredBound)
+keepsOwnEpoch = vacuuming (VacuumsTo 0 loweredBound loweredBound)
 
 -- no pin keeps a deletion from it
 abbrev pub unguarded : VersionManager → PinBook → ℕ
 unguarded m b = current m
 
 abbrev pub ignoresPins : Steps
-ignoresPins = vacuuming (VacuumsTo unguarded unguarded)
+ignoresPins = vacuuming (VacuumsTo 0 unguarded unguarded)
 
 -- a reopen finds nothing in any manifest
 abbrev pub opensEmpty : Steps
@@ -232,6 +236,7 @@ pub record WrongRefuted : Type 0 where
   pub keepsPin : Refuted keepsPin
   pub listsNothing : Refuted listsNothing
   pub keepsListed : Refuted keepsListed
+  pub countsOneMore : Refuted countsOneMore
   pub keepsOwnEpoch : Refuted keepsOwnEpoch
   pub ignoresPins : Refuted ignoresPins
   pub opensEmpty : Refuted opensEmpty
