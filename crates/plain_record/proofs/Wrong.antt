@@ -14,7 +14,7 @@ use Rattle.ids.specs.Answers.{Told}
 use Rattle.text.specs.Class.{isDigit, isLower}
 use Rattle.text.specs.Name.{isNameByte, isName}
 use Rattle.text.specs.Decimal.{digitsBy, digits, readOn, readIn, readAt}
-use Rattle.manifest.specs.Operations.{Operation, createTable, addRowset, deleteRowset}
+use Rattle.manifest.specs.Operations.{Operation, createTable, addRowset, deleteRowset, addVector, deleteVector}
 use Rattle.manifest.specs.Lines.{fieldAt, named as namedAt, tableFields, lineBy, lineOf, fieldsText, textOf}
 use Rattle.manifest.specs.Split.{linesOn, restOn, lines}
 use Rattle.snapshot.specs.declared.rowsets.Rowsets.{Rowsets}
@@ -30,14 +30,16 @@ use Rattle.version_manager.specs.declared.VersionManager.{VersionManager}
 use Rattle.version_manager.specs.declared.Opened.{Opened}
 use Rattle.version_manager.specs.declared.RowsetAnswer.the-variants as rowset
 use Rattle.version_manager.specs.declared.DrawnRowset.{DrawnRowset}
+use Rattle.version_manager.specs.declared.VectorAnswer.the-variants as vector
+use Rattle.version_manager.specs.declared.DrawnVector.{DrawnVector}
 use Rattle.version_manager.specs.declared.CommitAnswer.the-variants.{Appended}
 use Rattle.version_manager.specs.declared.Committed.{Committed}
 use Rattle.version_manager.specs.declared.VacuumAnswer.the-variants.{Listed}
 use Rattle.version_manager.specs.declared.Vacuumed.{Vacuumed}
 use Rattle.version_manager.specs.Managers.{FreshSays}
-use Rattle.version_manager.specs.Draw.{DrawRowsetSays}
+use Rattle.version_manager.specs.Draw.{DrawRowsetSays, DrawVectorSays}
 use Rattle.version_manager.specs.Commit.{CommitEnds, CommitSays}
-use Rattle.version_manager.specs.Show.{ShowTablesSays, ShowPairsSays}
+use Rattle.version_manager.specs.Show.{ShowTablesSays, ShowPairsSays, ShowVectorsSays}
 use Rattle.pinning.specs.declared.PinAnswer.the-variants.{Pinned}
 use Rattle.pinning.specs.declared.UnpinAnswer.the-variants.{Unpinned}
 use Rattle.pinning.specs.Says.{PinSays}
@@ -48,11 +50,11 @@ use Rattle.storage.specs.declared.ReopenAnswer.the-variants.{Rewritten, Refused
 use Rattle.storage.specs.Reopen.{ReopenIs, ReopenSays}
 use Rattle.plain_record.specs.Sets as plain
 use Rattle.plain_record.specs.Plain.{Pins}
-use Rattle.plain_record.specs.Calls.{drawRowset, commit, pin, unpin, vacuum, reopen}
+use Rattle.plain_record.specs.Calls.{drawRowset, drawVector, commit, pin, unpin, vacuum, reopen}
 use Rattle.plain_record.specs.Run.{Steps, World, world, Event, onward, afterCommit, afterReopen, pairsIn, Starts, Link, Chain}
 use Rattle.plain_record.specs.Claim.{Claim, Holds}
-use Rattle.plain_record.specs.Shows.{ShowsTables}
-use Rattle.plain_record.specs.Wrong.{unchanged, keepsSets, unraised, leavesEpoch, unjudged, judgesNothing, PinsNext, answersNext, PinsNothing, countsNoPin, UnpinsNothing, keepsPin, VacuumsTo, nothing, listsNothing, portBound, keepsListed, countsOneMore, loweredBound, keepsOwnEpoch, unguarded, ignoresPins, opensEmpty, firstFrame, readsFirst, closed, countsEarly, forgotten, forgetsIds, refusesReopen, showsCurrent, Refuted, WrongRefuted}
+use Rattle.plain_record.specs.Shows.{ShowsTables, ShowsVectors}
+use Rattle.plain_record.specs.Wrong.{unchanged, keepsSets, unraised, leavesEpoch, unjudged, judgesNothing, PinsNext, answersNext, PinsNothing, countsNoPin, UnpinsNothing, keepsPin, VacuumsTo, nothing, listsNothing, portBound, keepsListed, countsOneMore, loweredBound, keepsOwnEpoch, unguarded, ignoresPins, opensEmpty, firstFrame, readsFirst, closed, countsEarly, forgotten, forgetsIds, refusesReopen, showsCurrent, showsCurrentVectors, Refuted, WrongRefuted}
 
 -- What is not equal.
 apart : {m n : ℕ} → m ≡ n → eqb m n ≡ false → ⊥
@@ -82,24 +84,35 @@ noTables = holds [] [] [] [] 0
 abbrev noPairs : Rowsets
 noPairs = holdsPairs [] [] [] [] 0
 
-abbrev noVectors : Vectors
-noVectors = record { tables = places mostHeld []; rowsets = places mostHeld []; vectors = places mostHeld []; added = places mostHeld []; deleted = places mostHeld []; count = 0 }
+abbrev holdsVectors : List ℕ → List ℕ → List ℕ → List ℕ → List ℕ → ℕ → Vectors
+holdsVectors t r v a d n =
+    record { tables = places mostHeld t; rowsets = places mostHeld r; vectors = places mostHeld v; added = places mostHeld a; deleted = places mostHeld d; count = n }
 
-abbrev holding : ℕ → ℕ → ℕ → Tables → Rowsets → ℕ → VersionManager
-holding e t r ts rs n =
+abbrev noVectors : Vectors
+noVectors = holdsVectors [] [] [] [] [] 0
+
+abbrev holdingAll : ℕ → ℕ → ℕ → ℕ → Tables → Rowsets → Vectors → ℕ → VersionManager
+holdingAll e t r v ts rs vs n =
     record {
       inner = record {
         epoch = e;
-        next = record { table = record { 0 = t }; rowset = record { 0 = r }; vector = record { 0 = 0 } };
+        next = record { table = record { 0 = t }; rowset = record { 0 = r }; vector = record { 0 = v } };
         tables = ts;
         rowsets = rs;
-        vectors = noVectors;
+        vectors = vs;
         manifest = n;
       };
     }
 
-few : (e t r : ℕ) (ts : Tables) (rs : Rowsets) (n : ℕ) → ts .count ≤ 1 → rs .count ≤ 1 → Fit (holding e t r ts rs n .inner)
-few e t r ts rs n h k = record { tables = omega arith; rowsets = omega arith; vectors = omega arith }
+-- without vectors
+abbrev holding : ℕ → ℕ → ℕ → Tables → Rowsets → ℕ → VersionManager
+holding e t r ts rs n = holdingAll e t r 0 ts rs noVectors n
+
+few-all : (e t r v : ℕ) (ts : Tables) (rs : Rowsets) (vs : Vectors) (n : ℕ) → ts .count ≤ 1 → rs .count ≤ 2 → vs .count ≤ 1 → Fit (holdingAll e t r v ts rs vs n .inner)
+few-all e t r v ts rs vs n h k l = record { tables = omega arith; rowsets = omega arith; vectors = omega arith }
+
+few : (e t r : ℕ) (ts : Tables) (rs : Rowsets) (n : ℕ) → ts .count ≤ 1 → rs .count ≤ 2 → Fit (holding e t r ts rs n .inner)
+few e t r ts rs n h k = few-all e t r 0 ts rs noVectors n h k (omega arith)
 
 abbrev unpinned : PinBook
 unpinned = record { items = replicate mostPinned (record { epoch = 0; count = 0 }); count = 0 }
@@ -124,6 +137,9 @@ telling l = record { number = 0; place = 0; values = l }
 abbrev drawn : DrawnRowset
 drawn = record { manager = holding 0 0 1 noTables noPairs 0; answer = rowset.Id (record { 0 = 0 }) }
 
+abbrev drawnVector : DrawnVector
+drawnVector = record { manager = holdingAll 0 0 1 1 noTables noPairs noVectors 0; answer = vector.Id (record { 0 = 0 }) }
+
 abbrev appended : VersionManager → ℕ → ℕ → Committed
 appended m e n = record { manager = m; answer = Appended e n }
 
@@ -135,6 +151,10 @@ rewrittenBy m n = record { manager = m; book = unpinned; answer = Rewritten n }
 
 abbrev draws : Event
 draws = record { before = begun; call = drawRowset; told = telling (0 ∷ []); listed = []; after = world (drawn .manager) unpinned [] [] }
+
+abbrev drawsVector : Event
+drawsVector =
+    record { before = draws .after; call = drawVector; told = telling (0 ∷ []); listed = []; after = world (drawnVector .manager) unpinned [] [] }
 
 abbrev commits : World → List Operation → VersionManager → ℕ → ℕ → List ℕ → ℕ → Event
 commits w os m e n out missing =
@@ -179,6 +199,9 @@ module _ (S : Steps) where
   drew : S .drawRowset (first .manager) drawn → Link S draws
   drew h = record { result = drawn; says = h; told = refl; none = refl; after = refl }
 
+  drew-vector : S .drawVector (drawn .manager) drawnVector → Link S drawsVector
+  drew-vector h = record { result = drawnVector; says = h; told = refl; none = refl; after = refl }
+
   committed : (w : World) (os : List Operation) (m : VersionManager) (e n : ℕ) (out : List ℕ) (missing : ℕ) → S .commit (w .manager) (length os) os out (appended m e n) out → Link S (commits w os m e n out missing)
   committed w os m e n out missing h =
       record { count = length os; counted = omega arith; result = appended m e n; left = out; says = h; told = refl; none = refl; after = refl }
@@ -204,7 +227,12 @@ draw-says : DrawRowsetSays (first .manager) drawn
 unfolding rows
 draw-says = record { answer = refl; manager = record { fits = few 0 0 1 noTables noPairs 0 (omega arith) (omega arith); state = refl } }
 
--- What is committed: a table `a` of id 0 and shape 7, and its rowset 0.
+draw-vector-says : DrawVectorSays (drawn .manager) drawnVector
+unfolding rows
+draw-vector-says =
+    record { answer = refl; manager = record { fits = few-all 0 0 1 1 noTables noPairs noVectors 0 (omega arith) (omega arith) (omega arith); state = refl } }
+
+-- What is committed: a table `a` of id 0 and shape 7, its rowset 0, and the rowset's vector 0.
 abbrev name : List ℕ
 name = 97 ∷ []
 
@@ -222,6 +250,9 @@ tables = holds (0 ∷ []) (7 ∷ []) (1 ∷ []) name 1
 
 abbrev pair : ℕ → ℕ → Rowsets
 pair a d = holdsPairs (0 ∷ []) (0 ∷ []) (a ∷ []) (d ∷ []) 1
+
+abbrev vectorOf : ℕ → ℕ → Vectors
+vectorOf a d = holdsVectors (0 ∷ []) (0 ∷ []) (0 ∷ []) (a ∷ []) (d ∷ []) 1
 
 -- The table is created, the rowset added and deleted, all at epoch 1.
 abbrev opsTAD : List Operation
@@ -464,6 +495,90 @@ shows-current claim =
       ),
     ) in
     apart (ap (λ (x : Told). x .number) (h .agrees .pairs 1 refl [] [] (Shown 0) [] [] current-says .0)) refl
+
+-- The vector is added at epoch 1, epoch 1 is pinned, and the vector is deleted at epoch 2.
+abbrev opsTAV : List Operation
+opsTAV = creates ∷ adds ∷ addVector 0 0 0 ∷ []
+
+abbrev frameTAV : List ℕ
+frameTAV = 66 ∷ 10 ∷ 84 ∷ 44 ∷ 48 ∷ 44 ∷ 55 ∷ 44 ∷ 97 ∷ 10 ∷ 65 ∷ 44 ∷ 48 ∷ 44 ∷ 48 ∷ 10 ∷ 86 ∷ 44 ∷ 48 ∷ 44 ∷ 48 ∷ 44 ∷ 48 ∷ 10 ∷ 69 ∷ 10 ∷ []
+
+abbrev afterTAV : VersionManager
+afterTAV = holdingAll 1 1 1 1 tables (pair 1 0) (vectorOf 1 0) 26
+
+abbrev opsW : List Operation
+opsW = deleteVector 0 0 0 ∷ []
+
+abbrev frameW : List ℕ
+frameW = 66 ∷ 10 ∷ 87 ∷ 44 ∷ 48 ∷ 44 ∷ 48 ∷ 44 ∷ 48 ∷ 10 ∷ 69 ∷ 10 ∷ []
+
+abbrev afterW : Vectors → VersionManager
+afterW l = holdingAll 2 1 1 1 tables (pair 1 0) l 38
+
+abbrev commitTAV : Event
+commitTAV = commits (drawsVector .after) opsTAV afterTAV 1 26 frameTAV 0
+
+abbrev pinTAV : Event
+pinTAV = pins (commitTAV .after) 1 once
+
+abbrev commitW : Event
+commitW = commits (pinTAV .after) opsW (afterW (vectorOf 1 2)) 2 12 frameW 0
+
+says-TAV : CommitSays (drawnVector .manager) (length opsTAV) opsTAV frameTAV (appended afterTAV 1 26) frameTAV
+unfolding rows stepOf textOf fieldsText digits digitsBy isName isNameByte isDigit isLower goneAt shownAt
+says-TAV =
+    (refl, record { fits = few-all 1 1 1 1 tables (pair 1 0) (vectorOf 1 0) 26 (omega arith) (omega arith) (omega arith); state = refl }, refl)
+
+pin-says-TAV : PinSays afterTAV unpinned (Pinned 1) once
+unfolding rows isName isNameByte isDigit isLower goneAt shownAt
+pin-says-TAV = record { answer = refl; book = record { fits = omega arith; pins = refl } }
+
+says-W : CommitSays afterTAV (length opsW) opsW frameW (appended (afterW (vectorOf 1 2)) 2 12) frameW
+unfolding rows stepOf textOf fieldsText digits digitsBy isName isNameByte isDigit isLower goneAt shownAt
+says-W =
+    (refl, record { fits = few-all 2 1 1 1 tables (pair 1 0) (vectorOf 1 2) 38 (omega arith) (omega arith) (omega arith); state = refl }, refl)
+
+-- the claim of these calls and further ones, by a manager that draws, commits and pins as the port does
+module _ (S : Steps) (claim : Claim S) (fresh : S .fresh first) (draw : S .drawRowset (first .manager) drawn) (draw-v : S .drawVector (drawn .manager) drawnVector)
+    (add : S .commit (drawnVector .manager) (length opsTAV) opsTAV frameTAV (appended afterTAV 1 26) frameTAV) (guard : S .pin afterTAV unpinned (Pinned 1) once)
+    (delete : S .commit afterTAV (length opsW) opsW frameW (appended (afterW (vectorOf 1 2)) 2 12) frameW) where
+  on-W : (es : List Event) → Chain S (commitW .after) es → Holds S begun (draws ∷ drawsVector ∷ commitTAV ∷ pinTAV ∷ commitW ∷ es)
+  on-W es c =
+      claim begun (draws ∷ drawsVector ∷ commitTAV ∷ pinTAV ∷ commitW ∷ es) (begins S fresh) (
+        refl,
+        drew S draw,
+        (
+          refl,
+          drew-vector S draw-v,
+          (
+            refl,
+            committed S (drawsVector .after) opsTAV afterTAV 1 26 frameTAV 0 add,
+            (
+              refl,
+              pinned S (commitTAV .after) 1 once guard,
+              (refl, committed S (pinTAV .after) opsW (afterW (vectorOf 1 2)) 2 12 frameW 0 delete, c),
+            ),
+          ),
+        ),
+      )
+
+-- a show without vectors, where the record has one
+no-vector : (S : Steps) (w : World) (d : ℕ) (k : List ℕ) → S .showVectors (w .manager) (w .book) d [] [] [] (Shown 0) [] [] [] → ShowsVectors S w d (k ∷ []) → ⊥
+no-vector S w d k says h = apart (ap (λ (x : Told). x .number) (h [] [] [] (Shown 0) [] [] [] says .0)) refl
+
+abbrev recordedVector : List ℕ
+recordedVector = 0 ∷ 0 ∷ 0 ∷ []
+
+-- a show of epoch 1 gives the vectors that epoch 2 has
+current-vectors : ShowVectorsSays (afterW (vectorOf 1 2)) once 2 [] [] [] (Shown 0) [] [] []
+unfolding rows isName isNameByte isDigit isLower goneAt shownAt
+current-vectors = record { answer = refl; tables = refl; rowsets = refl; vectors = refl }
+
+shows-current-vectors : Refuted showsCurrentVectors
+shows-current-vectors claim =
+    let S = showsCurrentVectors in
+    let h = on-W S claim fresh-says draw-says draw-vector-says says-TAV pin-says-TAV says-W [] tt in
+    no-vector S (commitW .after) 1 recordedVector current-vectors (h .agrees .vectors 1 refl)
 
 -- An empty commit, then one that creates the table.
 abbrev opsNone : List Operation
@@ -719,4 +834,5 @@ wrong-refuted =
       forgetsIds = forgets-ids;
       refusesReopen = refuses-reopen;
       showsCurrent = shows-current;
+      showsCurrentVectors = shows-current-vectors;
     }

@@ -29,7 +29,7 @@ use Rattle.version_manager.specs.declared.Vacuumed.{Vacuumed}
 use Rattle.version_manager.specs.Managers.{heldBy, badManager, HandsBack}
 use Rattle.version_manager.specs.Commit.{outcomeOf, CommitEnds}
 use Rattle.version_manager.specs.Vacuum.{vacuumTold, vacuumVerdict}
-use Rattle.version_manager.specs.Show.{ShowPairsSays}
+use Rattle.version_manager.specs.Show.{ShowPairsSays, ShowVectorsSays}
 use Rattle.pinning.specs.declared.PinAnswer.{PinAnswer}
 use Rattle.pinning.specs.declared.UnpinAnswer.{UnpinAnswer}
 use Rattle.pinning.specs.Counts.{withPin}
@@ -40,15 +40,31 @@ use Rattle.storage.specs.Reopen.{openedOf, ReopenIs, ReopenSays}
 use Rattle.plain_record.specs.Run.{Steps, port}
 use Rattle.plain_record.specs.Claim.{Claim}
 
+-- what a call may return and leave
+abbrev pub Commits : Type 1
+Commits = VersionManager → ℕ → List Operation → List ℕ → Committed → List ℕ → Type 0
+
+abbrev pub PinsBy : Type 1
+PinsBy = VersionManager → PinBook → PinAnswer → PinBook → Type 0
+
+abbrev pub Unpins : Type 1
+Unpins = VersionManager → ℕ → PinBook → UnpinAnswer → PinBook → Type 0
+
+abbrev pub Vacuums : Type 1
+Vacuums = VersionManager → PinBook → List ℕ → List ℕ → Vacuumed → List ℕ → List ℕ → Type 0
+
+abbrev pub Reopens : Type 1
+Reopens = List ℕ → List ℕ → Reopened → List ℕ → Type 0
+
+abbrev pub ShowsPairsBy : Type 1
+ShowsPairsBy = VersionManager → PinBook → ℕ → List ℕ → List ℕ → ShowAnswer → List ℕ → List ℕ → Type 0
+
+abbrev pub ShowsVectorsBy : Type 1
+ShowsVectorsBy = VersionManager → PinBook → ℕ → List ℕ → List ℕ → List ℕ → ShowAnswer → List ℕ → List ℕ → List ℕ → Type 0
+
 -- the port with these calls in place of its own
-abbrev pub exchanged : (VersionManager → ℕ → List Operation → List ℕ → Committed → List ℕ → Type 0)
-    → (VersionManager → PinBook → PinAnswer → PinBook → Type 0)
-    → (VersionManager → ℕ → PinBook → UnpinAnswer → PinBook → Type 0)
-    → (VersionManager → PinBook → List ℕ → List ℕ → Vacuumed → List ℕ → List ℕ → Type 0)
-    → (List ℕ → List ℕ → Reopened → List ℕ → Type 0)
-    → (VersionManager → PinBook → ℕ → List ℕ → List ℕ → ShowAnswer → List ℕ → List ℕ → Type 0)
-    → Steps
-exchanged c p u v o s =
+abbrev pub exchanged : Commits → PinsBy → Unpins → Vacuums → Reopens → ShowsPairsBy → ShowsVectorsBy → Steps
+exchanged c p u v o s x =
     record {
       fresh = port .fresh;
       drawRowset = port .drawRowset;
@@ -60,27 +76,27 @@ exchanged c p u v o s =
       reopen = o;
       showTables = port .showTables;
       showPairs = s;
-      showVectors = port .showVectors;
+      showVectors = x;
     }
 
 -- with one of them
-abbrev pub committing : (VersionManager → ℕ → List Operation → List ℕ → Committed → List ℕ → Type 0) → Steps
-committing c = exchanged c (port .pin) (port .unpin) (port .vacuum) (port .reopen) (port .showPairs)
+abbrev pub committing : Commits → Steps
+committing c = exchanged c (port .pin) (port .unpin) (port .vacuum) (port .reopen) (port .showPairs) (port .showVectors)
 
-abbrev pub pinning : (VersionManager → PinBook → PinAnswer → PinBook → Type 0) → Steps
-pinning p = exchanged (port .commit) p (port .unpin) (port .vacuum) (port .reopen) (port .showPairs)
+abbrev pub pinning : PinsBy → Steps
+pinning p = exchanged (port .commit) p (port .unpin) (port .vacuum) (port .reopen) (port .showPairs) (port .showVectors)
 
-abbrev pub unpinning : (VersionManager → ℕ → PinBook → UnpinAnswer → PinBook → Type 0) → Steps
-unpinning u = exchanged (port .commit) (port .pin) u (port .vacuum) (port .reopen) (port .showPairs)
+abbrev pub unpinning : Unpins → Steps
+unpinning u = exchanged (port .commit) (port .pin) u (port .vacuum) (port .reopen) (port .showPairs) (port .showVectors)
 
-abbrev pub vacuuming : (VersionManager → PinBook → List ℕ → List ℕ → Vacuumed → List ℕ → List ℕ → Type 0) → Steps
-vacuuming v = exchanged (port .commit) (port .pin) (port .unpin) v (port .reopen) (port .showPairs)
+abbrev pub vacuuming : Vacuums → Steps
+vacuuming v = exchanged (port .commit) (port .pin) (port .unpin) v (port .reopen) (port .showPairs) (port .showVectors)
 
-abbrev pub reopening : (List ℕ → List ℕ → Reopened → List ℕ → Type 0) → Steps
-reopening o = exchanged (port .commit) (port .pin) (port .unpin) (port .vacuum) o (port .showPairs)
+abbrev pub reopening : Reopens → Steps
+reopening o = exchanged (port .commit) (port .pin) (port .unpin) (port .vacuum) o (port .showPairs) (port .showVectors)
 
-abbrev pub showing : (VersionManager → PinBook → ℕ → List ℕ → List ℕ → ShowAnswer → List ℕ → List ℕ → Type 0) → Steps
-showing s = exchanged (port .commit) (port .pin) (port .unpin) (port .vacuum) (port .reopen) s
+abbrev pub showing : ShowsPairsBy → ShowsVectorsBy → Steps
+showing s x = exchanged (port .commit) (port .pin) (port .unpin) (port .vacuum) (port .reopen) s x
 
 -- a commit raises the epoch and the next ids, and keeps the old sets
 abbrev pub withSets : State → Outcome → Outcome
@@ -222,7 +238,11 @@ refusesReopen = reopening (λ src. ReopenIs (refused OutputTooShort))
 
 -- a show of pairs gives the current epoch's, whichever is asked for
 abbrev pub showsCurrent : Steps
-showsCurrent = showing (λ m b e. ShowPairsSays m b (current m))
+showsCurrent = showing (λ m b e. ShowPairsSays m b (current m)) (port .showVectors)
+
+-- and one of vectors
+abbrev pub showsCurrentVectors : Steps
+showsCurrentVectors = showing (port .showPairs) (λ m b e. ShowVectorsSays m b (current m))
 
 abbrev pub Refuted : Steps → Type 0
 Refuted S = Claim S → ⊥
@@ -245,3 +265,4 @@ pub record WrongRefuted : Type 0 where
   pub forgetsIds : Refuted forgetsIds
   pub refusesReopen : Refuted refusesReopen
   pub showsCurrent : Refuted showsCurrent
+  pub showsCurrentVectors : Refuted showsCurrentVectors
