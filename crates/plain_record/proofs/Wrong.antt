@@ -54,7 +54,7 @@ use Rattle.plain_record.specs.Calls.{drawRowset, drawVector, commit, pin
 use Rattle.plain_record.specs.Run.{Steps, World, world, Event, onward, afterCommit, afterReopen, pairsIn, Starts, Link, Chain}
 use Rattle.plain_record.specs.Claim.{Claim, Holds}
 use Rattle.plain_record.specs.Shows.{ShowsTables, ShowsVectors}
-use Rattle.plain_record.specs.Wrong.{unchanged, keepsSets, unraised, leavesEpoch, unjudged, judgesNothing, PinsNext, answersNext, PinsNothing, countsNoPin, UnpinsNothing, keepsPin, VacuumsTo, nothing, listsNothing, portBound, keepsListed, countsOneMore, loweredBound, keepsOwnEpoch, unguarded, ignoresPins, opensEmpty, firstFrame, readsFirst, closed, countsEarly, forgotten, forgetsIds, refusesReopen, showsCurrent, showsCurrentVectors, Refuted, WrongRefuted}
+use Rattle.plain_record.specs.Wrong.{unchanged, keepsSets, unraised, leavesEpoch, unjudged, judgesNothing, unaware, forgetsWaiting, PinsNext, answersNext, PinsNothing, countsNoPin, UnpinsNothing, keepsPin, VacuumsTo, nothing, listsNothing, portBound, keepsListed, countsOneMore, loweredBound, keepsOwnEpoch, unguarded, ignoresPins, opensEmpty, firstFrame, readsFirst, closed, countsEarly, forgotten, forgetsIds, refusesReopen, showsCurrent, showsCurrentVectors, Refuted, WrongRefuted}
 
 -- What is not equal.
 apart : {m n : ℕ} → m ≡ n → eqb m n ≡ false → ⊥
@@ -401,6 +401,35 @@ judges-nothing claim =
     let h =
     on-TAD S claim fresh-says draw-says unjudged-TAD (commits w opsA afterA 2 10 frameA 0 ∷ []) (refl, committed S w opsA afterA 2 10 frameA 0 unjudged-A, tt) in
     not-empty (h .agrees .waiting)
+
+-- It is added and deleted again, beside itself.
+abbrev opsAD : List Operation
+opsAD = adds ∷ deletes ∷ []
+
+abbrev frameAD : List ℕ
+frameAD = 66 ∷ 10 ∷ 65 ∷ 44 ∷ 48 ∷ 44 ∷ 48 ∷ 10 ∷ 68 ∷ 44 ∷ 48 ∷ 44 ∷ 48 ∷ 10 ∷ 69 ∷ 10 ∷ []
+
+abbrev pairTwice : Rowsets
+pairTwice = holdsPairs (0 ∷ 0 ∷ []) (0 ∷ 0 ∷ []) (1 ∷ 2 ∷ []) (1 ∷ 2 ∷ []) 2
+
+abbrev afterAD : VersionManager
+afterAD = holding 2 1 1 tables pairTwice 40
+
+unaware-TAD : CommitEnds (unaware (drawn .manager) (length opsTAD) opsTAD 24) (drawn .manager) opsTAD frameTAD (appended afterTAD 1 24) frameTAD
+unfolding rows stepOf textOf fieldsText digits digitsBy isName isNameByte isDigit isLower goneAt shownAt
+unaware-TAD = (refl, record { fits = fits-TAD; state = refl }, refl)
+
+unaware-AD : CommitEnds (unaware afterTAD (length opsAD) opsAD 16) afterTAD opsAD frameAD (appended afterAD 2 16) frameAD
+unfolding rows stepOf textOf fieldsText digits digitsBy isName isNameByte isDigit isLower goneAt shownAt
+unaware-AD = (refl, record { fits = few 2 1 1 tables pairTwice 40 (omega arith) (omega arith); state = refl }, refl)
+
+forgets-waiting : Refuted forgetsWaiting
+forgets-waiting claim =
+    let S = forgetsWaiting in
+    let w = commitTAD .after in
+    let h =
+    on-TAD S claim fresh-says draw-says unaware-TAD (commits w opsAD afterAD 2 16 frameAD 0 ∷ []) (refl, committed S w opsAD afterAD 2 16 frameAD 0 unaware-AD, tt) in
+    true≢false (sym (h .agrees .apart))
 
 -- The rowset is added at epoch 1, epoch 1 is pinned, and the rowset is deleted at epoch 2.
 abbrev opsTA : List Operation
@@ -820,6 +849,7 @@ wrong-refuted =
       keepsSets = keeps-sets;
       leavesEpoch = leaves-epoch;
       judgesNothing = judges-nothing;
+      forgetsWaiting = forgets-waiting;
       answersNext = answers-next;
       countsNoPin = counts-no-pin;
       keepsPin = keeps-pin;

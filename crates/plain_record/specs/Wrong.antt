@@ -5,6 +5,7 @@ use mathlib.Core.List.{List, [], _∷_, _++_, map}
 use Prim.Native.Nat.{ℕ, _+_, _-_, _≤_}
 use lib.ListN.{length}
 use Rattle.lists.specs.Order.{same}
+use Rattle.lists.specs.Keyed.{keep}
 use Rattle.lists.specs.Written.{over}
 use Rattle.text.specs.Class.{newline}
 use Rattle.ids.specs.declared.refusal.Refusal.the-variants.{BadManager, OutputTooShort}
@@ -13,13 +14,13 @@ use Rattle.ids.specs.Answers.{told, after}
 use Rattle.manifest.specs.Operations.{Operation, end}
 use Rattle.manifest.specs.Lines.{lineText}
 use Rattle.manifest.specs.Split.{restOn, lines, joined}
-use Rattle.snapshot.specs.Entries.{field}
+use Rattle.snapshot.specs.Entries.{Entry, field, waits}
 use Rattle.version_state.specs.State.{State, withTables, withPairs, withVectors, withNext, withEpoch}
 use Rattle.pins.specs.declared.PinBook.{PinBook}
 use Rattle.pins.specs.Book.{PinEntry, pinsOf, bound}
 use Rattle.operations.specs.Effect.{applied}
 use Rattle.operations.specs.Steps.{Outcome, left, stopped, onward}
-use Rattle.commit.specs.Commit.{firstRules, finishOf}
+use Rattle.commit.specs.Commit.{firstRules, finishOf, commitOf}
 use Rattle.vacuum.specs.LetGo.{vacuumList, vacuumed}
 use Rattle.vacuum.specs.Says.{boundOf, listOf}
 use Rattle.show.specs.declared.ShowAnswer.{ShowAnswer}
@@ -34,7 +35,7 @@ use Rattle.pinning.specs.declared.PinAnswer.{PinAnswer}
 use Rattle.pinning.specs.declared.UnpinAnswer.{UnpinAnswer}
 use Rattle.pinning.specs.Counts.{withPin}
 use Rattle.pinning.specs.Says.{current, BookAfter, pinVerdict, pinTold, unpinVerdict, isDue, flag, unpinTold, readyOf}
-use Rattle.replay.specs.Replay.{Result, refused, andThen, replayOf}
+use Rattle.replay.specs.Replay.{Result, refused, andThen, stands, replayOf}
 use Rattle.storage.specs.declared.Reopened.{Reopened}
 use Rattle.storage.specs.Reopen.{openedOf, ReopenIs, ReopenSays}
 use Rattle.plain_record.specs.Run.{Steps, port}
@@ -131,6 +132,21 @@ unjudged m n os room =
 
 abbrev pub judgesNothing : Steps
 judgesNothing = committing (λ m n os out r out′. CommitEnds (unjudged m n os (length out)) m os out r out′)
+
+-- a commit judges by the pairs that do not wait, and holds what it adds beside those that do
+abbrev pub standing : State → State
+standing s = withPairs s (keep stands (s .pairs))
+
+abbrev pub beside : List Entry → Outcome → Outcome
+beside l (left s) = left (withPairs s (l ++ s .pairs))
+beside l (stopped k) = stopped k
+
+abbrev pub unaware : VersionManager → ℕ → List Operation → ℕ → Outcome
+unaware m n os room =
+    beside (keep waits (heldBy m .pairs)) (onward (judged ((badManager m ⇒ BadManager) ∷ [])) (commitOf (standing (heldBy m)) n os room))
+
+abbrev pub forgetsWaiting : Steps
+forgetsWaiting = committing (λ m n os out r out′. CommitEnds (unaware m n os (length out)) m os out r out′)
 
 -- a pin answers the next epoch
 pub record PinsNext (m : VersionManager) (b : PinBook) (a : PinAnswer) (b′ : PinBook) : Type 0 where
@@ -251,6 +267,7 @@ pub record WrongRefuted : Type 0 where
   pub keepsSets : Refuted keepsSets
   pub leavesEpoch : Refuted leavesEpoch
   pub judgesNothing : Refuted judgesNothing
+  pub forgetsWaiting : Refuted forgetsWaiting
   pub answersNext : Refuted answersNext
   pub countsNoPin : Refuted countsNoPin
   pub keepsPin : Refuted keepsPin
