@@ -53,8 +53,8 @@ use Rattle.plain_record.specs.Plain.{Pins}
 use Rattle.plain_record.specs.Calls.{drawRowset, drawVector, commit, pin, unpin, vacuum, reopen}
 use Rattle.plain_record.specs.Run.{Steps, World, world, Event, onward, afterCommit, afterReopen, pairsIn, Starts, Link, Chain}
 use Rattle.plain_record.specs.Claim.{Claim, Holds}
-use Rattle.plain_record.specs.Shows.{ShowsTables, ShowsVectors}
-use Rattle.plain_record.specs.Wrong.{unchanged, keepsSets, unraised, leavesEpoch, unjudged, judgesNothing, unaware, forgetsWaiting, PinsNext, answersNext, PinsNothing, countsNoPin, UnpinsNothing, keepsPin, VacuumsTo, nothing, listsNothing, portBound, keepsListed, countsOneMore, loweredBound, keepsOwnEpoch, unguarded, ignoresPins, opensEmpty, firstFrame, readsFirst, closed, countsEarly, forgotten, forgetsIds, refusesReopen, showsCurrent, showsCurrentVectors, Refuted, WrongRefuted}
+use Rattle.plain_record.specs.Shows.{ShowsTables, ShowsPairs, ShowsVectors}
+use Rattle.plain_record.specs.Wrong.{unchanged, keepsSets, unraised, leavesEpoch, unjudged, judgesNothing, unaware, forgetsWaiting, PinsNext, answersNext, PinsNothing, countsNoPin, UnpinsNothing, keepsPin, VacuumsTo, nothing, listsNothing, portBound, keepsListed, countsOneMore, loweredBound, keepsOwnEpoch, unguarded, ignoresPins, losesPairs, losesVectors, opensEmpty, firstFrame, readsFirst, closed, countsEarly, forgotten, forgetsIds, refusesReopen, showsCurrent, showsCurrentVectors, Refuted, WrongRefuted}
 
 -- What is not equal.
 apart : {m n : ℕ} → m ≡ n → eqb m n ≡ false → ⊥
@@ -283,7 +283,7 @@ on-TAD S claim fresh draw says es c =
     claim begun (draws ∷ commitTAD ∷ es) (begins S fresh) (refl, drew S draw, (refl, committed S (draws .after) opsTAD afterTAD 1 24 frameTAD 0 says, c))
 
 -- a vacuum lists nothing
-nothing-says : VacuumsTo 0 nothing nothing afterTAD unpinned (5 ∷ []) (5 ∷ []) (listedBy afterTAD 0) (5 ∷ []) (5 ∷ [])
+nothing-says : VacuumsTo 0 nothing nothing nothing afterTAD unpinned (5 ∷ []) (5 ∷ []) (listedBy afterTAD 0) (5 ∷ []) (5 ∷ [])
 unfolding rows isName isNameByte isDigit isLower goneAt shownAt
 nothing-says = record { answer = refl; tables = refl; rowsets = refl; manager = record { fits = fits-TAD; state = refl } }
 
@@ -296,7 +296,7 @@ lists-nothing claim =
     true≢false (sym (h .deletions .1 .0 refl refl .0 .0 refl .0 .1))
 
 -- a vacuum lists the deletion and keeps it, so that the next one lists it again
-listed-says : VacuumsTo 0 portBound nothing afterTAD unpinned (5 ∷ []) (5 ∷ []) (listedBy afterTAD 1) (0 ∷ []) (0 ∷ [])
+listed-says : VacuumsTo 0 portBound nothing nothing afterTAD unpinned (5 ∷ []) (5 ∷ []) (listedBy afterTAD 1) (0 ∷ []) (0 ∷ [])
 unfolding rows isName isNameByte isDigit isLower goneAt shownAt
 listed-says = record { answer = refl; tables = refl; rowsets = refl; manager = record { fits = fits-TAD; state = refl } }
 
@@ -317,7 +317,7 @@ keeps-listed claim =
 abbrev sweptTAD : VersionManager
 sweptTAD = holding 1 1 1 tables noPairs 24
 
-more-says : VacuumsTo 1 portBound portBound afterTAD unpinned (5 ∷ []) (5 ∷ []) (listedBy sweptTAD 2) (0 ∷ []) (0 ∷ [])
+more-says : VacuumsTo 1 portBound portBound portBound afterTAD unpinned (5 ∷ []) (5 ∷ []) (listedBy sweptTAD 2) (0 ∷ []) (0 ∷ [])
 unfolding rows isName isNameByte isDigit isLower goneAt shownAt
 more-says =
     record { answer = refl; tables = refl; rowsets = refl; manager = record { fits = few 1 1 1 tables noPairs 24 (omega arith) (omega arith); state = refl } }
@@ -335,7 +335,7 @@ pin-says : PinSays afterTAD unpinned (Pinned 1) once
 unfolding rows isName isNameByte isDigit isLower goneAt shownAt
 pin-says = record { answer = refl; book = record { fits = omega arith; pins = refl } }
 
-own-says : VacuumsTo 0 loweredBound loweredBound afterTAD once (5 ∷ []) (5 ∷ []) (listedBy afterTAD 0) (5 ∷ []) (5 ∷ [])
+own-says : VacuumsTo 0 loweredBound loweredBound loweredBound afterTAD once (5 ∷ []) (5 ∷ []) (listedBy afterTAD 0) (5 ∷ []) (5 ∷ [])
 unfolding rows isName isNameByte isDigit isLower goneAt shownAt
 own-says = record { answer = refl; tables = refl; rowsets = refl; manager = record { fits = fits-TAD; state = refl } }
 
@@ -471,35 +471,73 @@ says-D : CommitSays afterTA (length opsD) opsD frameD (appended (afterD (pair 1 
 unfolding rows stepOf textOf fieldsText digits digitsBy isName isNameByte isDigit isLower goneAt shownAt
 says-D = (refl, record { fits = few 2 1 1 tables (pair 1 2) 28 (omega arith) (omega arith); state = refl }, refl)
 
+-- the claim of these calls and further ones, by a manager that draws, commits and pins as the port does
+module _ (S : Steps) (claim : Claim S) (fresh : S .fresh first) (draw : S .drawRowset (first .manager) drawn)
+    (add : S .commit (drawn .manager) (length opsTA) opsTA frameTA (appended afterTA 1 18) frameTA) (guard : S .pin afterTA unpinned (Pinned 1) once)
+    (delete : S .commit afterTA (length opsD) opsD frameD (appended (afterD (pair 1 2)) 2 10) frameD) where
+  on-D : (es : List Event) → Chain S (commitD .after) es → Holds S begun (draws ∷ commitTA ∷ pinTA ∷ commitD ∷ es)
+  on-D es c =
+      claim begun (draws ∷ commitTA ∷ pinTA ∷ commitD ∷ es) (begins S fresh) (
+        refl,
+        drew S draw,
+        (
+          refl,
+          committed S (draws .after) opsTA afterTA 1 18 frameTA 0 add,
+          (
+            refl,
+            pinned S (commitTA .after) 1 once guard,
+            (refl, committed S (pinTA .after) opsD (afterD (pair 1 2)) 2 10 frameD 0 delete, c),
+          ),
+        ),
+      )
+
 -- a vacuum ignores the pin
-all-says : VacuumsTo 0 unguarded unguarded (afterD (pair 1 2)) once (5 ∷ []) (5 ∷ []) (listedBy (afterD noPairs) 1) (0 ∷ []) (0 ∷ [])
+fits-D : Fit (afterD noPairs .inner)
+fits-D = few 2 1 1 tables noPairs 28 (omega arith) (omega arith)
+
+all-says : VacuumsTo 0 unguarded unguarded unguarded (afterD (pair 1 2)) once (5 ∷ []) (5 ∷ []) (listedBy (afterD noPairs) 1) (0 ∷ []) (0 ∷ [])
 unfolding rows isName isNameByte isDigit isLower goneAt shownAt
-all-says =
-    record { answer = refl; tables = refl; rowsets = refl; manager = record { fits = few 2 1 1 tables noPairs 28 (omega arith) (omega arith); state = refl } }
+all-says = record { answer = refl; tables = refl; rowsets = refl; manager = record { fits = fits-D; state = refl } }
 
 ignores-pins : Refuted ignoresPins
 ignores-pins claim =
     let S = ignoresPins in
-    let d = commitD in
+    let w = commitD .after in
     let h =
-    claim begun (draws ∷ commitTA ∷ pinTA ∷ d ∷ vacuums (d .after) (afterD noPairs) 1 (0 ∷ []) (0 ∷ []) ∷ []) (begins S fresh-says) (
+    on-D S claim fresh-says draw-says says-TA pin-says-TA says-D (vacuums w (afterD noPairs) 1 (0 ∷ []) (0 ∷ []) ∷ []) (
       refl,
-      drew S draw-says,
-      (
-        refl,
-        committed S (draws .after) opsTA afterTA 1 18 frameTA 0 says-TA,
-        (
-          refl,
-          pinned S (commitTA .after) 1 once pin-says-TA,
-          (
-            refl,
-            committed S (pinTA .after) opsD (afterD (pair 1 2)) 2 10 frameD 0 says-D,
-            (refl, vacuumed S (d .after) (afterD noPairs) 1 (0 ∷ []) (0 ∷ []) all-says, tt),
-          ),
-        ),
-      ),
+      vacuumed S w (afterD noPairs) 1 (0 ∷ []) (0 ∷ []) all-says,
+      tt,
     ) in
     not-empty (sym (h .answers .1 .1 .1 .1 .0 refl .0))
+
+-- a show without pairs, where the record has one
+no-pair : (S : Steps) (w : World) (d : ℕ) (k : List ℕ) → S .showPairs (w .manager) (w .book) d [] [] (Shown 0) [] [] → ShowsPairs S w d (k ∷ []) → ⊥
+no-pair S w d k says h = apart (ap (λ (x : Told). x .number) (h [] [] (Shown 0) [] [] says .0)) refl
+
+abbrev recordedPair : List ℕ
+recordedPair = 0 ∷ 0 ∷ []
+
+-- it lists nothing and lets the pair go
+pairs-lost : VacuumsTo 0 portBound unguarded portBound (afterD (pair 1 2)) once (5 ∷ []) (5 ∷ []) (listedBy (afterD noPairs) 0) (5 ∷ []) (5 ∷ [])
+unfolding rows isName isNameByte isDigit isLower goneAt shownAt
+pairs-lost = record { answer = refl; tables = refl; rowsets = refl; manager = record { fits = fits-D; state = refl } }
+
+lost-shows : ShowPairsSays (afterD noPairs) once 1 [] [] (Shown 0) [] []
+unfolding rows isName isNameByte isDigit isLower goneAt shownAt
+lost-shows = record { answer = refl; tables = refl; rowsets = refl }
+
+loses-pairs : Refuted losesPairs
+loses-pairs claim =
+    let S = losesPairs in
+    let v = vacuums (commitD .after) (afterD noPairs) 0 (5 ∷ []) (5 ∷ []) in
+    let h =
+    on-D S claim fresh-says draw-says says-TA pin-says-TA says-D (v ∷ []) (
+      refl,
+      vacuumed S (commitD .after) (afterD noPairs) 0 (5 ∷ []) (5 ∷ []) pairs-lost,
+      tt,
+    ) in
+    no-pair S (v .after) 1 recordedPair lost-shows (h .agrees .pairs 1 refl)
 
 -- a show of epoch 1 gives what epoch 2 has
 current-says : ShowPairsSays (afterD (pair 1 2)) once 2 [] [] (Shown 0) [] []
@@ -509,21 +547,8 @@ current-says = record { answer = refl; tables = refl; rowsets = refl }
 shows-current : Refuted showsCurrent
 shows-current claim =
     let S = showsCurrent in
-    let h =
-    claim begun (draws ∷ commitTA ∷ pinTA ∷ commitD ∷ []) (begins S fresh-says) (
-      refl,
-      drew S draw-says,
-      (
-        refl,
-        committed S (draws .after) opsTA afterTA 1 18 frameTA 0 says-TA,
-        (
-          refl,
-          pinned S (commitTA .after) 1 once pin-says-TA,
-          (refl, committed S (pinTA .after) opsD (afterD (pair 1 2)) 2 10 frameD 0 says-D, tt),
-        ),
-      ),
-    ) in
-    apart (ap (λ (x : Told). x .number) (h .agrees .pairs 1 refl [] [] (Shown 0) [] [] current-says .0)) refl
+    let h = on-D S claim fresh-says draw-says says-TA pin-says-TA says-D [] tt in
+    no-pair S (commitD .after) 1 recordedPair current-says (h .agrees .pairs 1 refl)
 
 -- The vector is added at epoch 1, epoch 1 is pinned, and the vector is deleted at epoch 2.
 abbrev opsTAV : List Operation
@@ -608,6 +633,33 @@ shows-current-vectors claim =
     let S = showsCurrentVectors in
     let h = on-W S claim fresh-says draw-says draw-vector-says says-TAV pin-says-TAV says-W [] tt in
     no-vector S (commitW .after) 1 recordedVector current-vectors (h .agrees .vectors 1 refl)
+
+-- a vacuum lets the vector go
+vectors-lost : VacuumsTo 0 portBound portBound unguarded (afterW (vectorOf 1 2)) once (5 ∷ []) (5 ∷ []) (listedBy (afterW noVectors) 0) (5 ∷ []) (5 ∷ [])
+unfolding rows isName isNameByte isDigit isLower goneAt shownAt
+vectors-lost =
+    record {
+      answer = refl;
+      tables = refl;
+      rowsets = refl;
+      manager = record { fits = few-all 2 1 1 1 tables (pair 1 0) noVectors 38 (omega arith) (omega arith) (omega arith); state = refl };
+    }
+
+lost-vectors : ShowVectorsSays (afterW noVectors) once 1 [] [] [] (Shown 0) [] [] []
+unfolding rows isName isNameByte isDigit isLower goneAt shownAt
+lost-vectors = record { answer = refl; tables = refl; rowsets = refl; vectors = refl }
+
+loses-vectors : Refuted losesVectors
+loses-vectors claim =
+    let S = losesVectors in
+    let v = vacuums (commitW .after) (afterW noVectors) 0 (5 ∷ []) (5 ∷ []) in
+    let h =
+    on-W S claim fresh-says draw-says draw-vector-says says-TAV pin-says-TAV says-W (v ∷ []) (
+      refl,
+      vacuumed S (commitW .after) (afterW noVectors) 0 (5 ∷ []) (5 ∷ []) vectors-lost,
+      tt,
+    ) in
+    no-vector S (v .after) 1 recordedVector lost-vectors (h .agrees .vectors 1 refl)
 
 -- An empty commit, then one that creates the table.
 abbrev opsNone : List Operation
@@ -858,6 +910,8 @@ wrong-refuted =
       countsOneMore = counts-one-more;
       keepsOwnEpoch = keeps-own-epoch;
       ignoresPins = ignores-pins;
+      losesPairs = loses-pairs;
+      losesVectors = loses-vectors;
       opensEmpty = opens-empty;
       readsFirst = reads-first;
       countsEarly = counts-early;

@@ -21,7 +21,7 @@ use Rattle.pins.specs.Book.{PinEntry, pinsOf, bound}
 use Rattle.operations.specs.Effect.{applied}
 use Rattle.operations.specs.Steps.{Outcome, left, stopped, onward}
 use Rattle.commit.specs.Commit.{firstRules, finishOf, commitOf}
-use Rattle.vacuum.specs.LetGo.{vacuumList, vacuumed}
+use Rattle.vacuum.specs.LetGo.{vacuumList, staysBy}
 use Rattle.vacuum.specs.Says.{boundOf, listOf}
 use Rattle.show.specs.declared.ShowAnswer.{ShowAnswer}
 use Rattle.version_manager.specs.declared.VersionManager.{VersionManager}
@@ -173,30 +173,34 @@ pub record UnpinsNothing (m : VersionManager) (e : ℕ) (b : PinBook) (a : Unpin
 abbrev pub keepsPin : Steps
 keepsPin = unpinning UnpinsNothing
 
--- a vacuum lists up to one epoch, answers so many more than it lists, and lets go up to another epoch; its verdict is the port's
-pub record VacuumsTo (more : ℕ) (to gone : VersionManager → PinBook → ℕ) (m : VersionManager) (b : PinBook) (ts rs : List ℕ) (r : Vacuumed) (ts′ rs′ : List ℕ) : Type 0 where
+-- what is left where pairs are let go up to one epoch and vectors up to another
+abbrev pub letGo : ℕ → ℕ → State → State
+letGo p v s = withVectors (withPairs s (keep (staysBy p) (s .pairs))) (keep (staysBy v) (s .vectors))
+
+-- a vacuum lists up to an epoch, answers so many more than it lists, and lets go up to other epochs; its verdict is the port's
+pub record VacuumsTo (more : ℕ) (to pairsTo vectorsTo : VersionManager → PinBook → ℕ) (m : VersionManager) (b : PinBook) (ts rs : List ℕ) (r : Vacuumed) (ts′ rs′ : List ℕ) : Type 0 where
   pub answer : vacuumTold (r .answer) ≡ told (vacuumVerdict m b (length ts) (length rs)) ((length (vacuumList (to m b) (heldBy m)) + more) ∷ [])
   pub tables : ts′ ≡ after (vacuumVerdict m b (length ts) (length rs)) (over (field 0 (vacuumList (to m b) (heldBy m))) ts) ts
   pub rowsets : rs′ ≡ after (vacuumVerdict m b (length ts) (length rs)) (over (field 1 (vacuumList (to m b) (heldBy m))) rs) rs
-  pub manager : HandsBack (vacuumVerdict m b (length ts) (length rs)) m (vacuumed (gone m b) (heldBy m)) (r .manager)
+  pub manager : HandsBack (vacuumVerdict m b (length ts) (length rs)) m (letGo (pairsTo m b) (vectorsTo m b) (heldBy m)) (r .manager)
 
 abbrev pub nothing : VersionManager → PinBook → ℕ
 nothing m b = 0
 
 -- it lists nothing
 abbrev pub listsNothing : Steps
-listsNothing = vacuuming (VacuumsTo 0 nothing nothing)
+listsNothing = vacuuming (VacuumsTo 0 nothing nothing nothing)
 
 -- it lists what the port lists, and never lets go
 abbrev pub portBound : VersionManager → PinBook → ℕ
 portBound m b = boundOf (heldBy m) b
 
 abbrev pub keepsListed : Steps
-keepsListed = vacuuming (VacuumsTo 0 portBound nothing)
+keepsListed = vacuuming (VacuumsTo 0 portBound nothing nothing)
 
 -- it does what the port does, and answers one more
 abbrev pub countsOneMore : Steps
-countsOneMore = vacuuming (VacuumsTo 1 portBound portBound)
+countsOneMore = vacuuming (VacuumsTo 1 portBound portBound portBound)
 
 -- a pin keeps what was deleted at its own epoch too
 abbrev pub lowered : PinEntry → PinEntry
@@ -206,14 +210,21 @@ abbrev pub loweredBound : VersionManager → PinBook → ℕ
 loweredBound m b = bound (current m) (map lowered (pinsOf b))
 
 abbrev pub keepsOwnEpoch : Steps
-keepsOwnEpoch = vacuuming (VacuumsTo 0 loweredBound loweredBound)
+keepsOwnEpoch = vacuuming (VacuumsTo 0 loweredBound loweredBound loweredBound)
 
 -- no pin keeps a deletion from it
 abbrev pub unguarded : VersionManager → PinBook → ℕ
 unguarded m b = current m
 
 abbrev pub ignoresPins : Steps
-ignoresPins = vacuuming (VacuumsTo 0 unguarded unguarded)
+ignoresPins = vacuuming (VacuumsTo 0 unguarded unguarded unguarded)
+
+-- it lists what the port lists, and lets go of pairs, or of vectors, that a pin still shows
+abbrev pub losesPairs : Steps
+losesPairs = vacuuming (VacuumsTo 0 portBound unguarded portBound)
+
+abbrev pub losesVectors : Steps
+losesVectors = vacuuming (VacuumsTo 0 portBound portBound unguarded)
 
 -- a reopen finds nothing in any manifest
 abbrev pub opensEmpty : Steps
@@ -276,6 +287,8 @@ pub record WrongRefuted : Type 0 where
   pub countsOneMore : Refuted countsOneMore
   pub keepsOwnEpoch : Refuted keepsOwnEpoch
   pub ignoresPins : Refuted ignoresPins
+  pub losesPairs : Refuted losesPairs
+  pub losesVectors : Refuted losesVectors
   pub opensEmpty : Refuted opensEmpty
   pub readsFirst : Refuted readsFirst
   pub countsEarly : Refuted countsEarly
