@@ -5,7 +5,7 @@ use mathlib.Core.List.{List, [], _∷_, _++_}
 use Prim.Native.Nat.{ℕ, _-_, _≤_}
 use native.Mathlib.Omega.{arith}
 use lib.Dec.{eqb}
-use lib.ListN.{length, replicate, length-replicate}
+use lib.ListN.{length, take, replicate, length-replicate}
 use borrow.Author.Tests.{eq-eqb}
 use Rattle.columns.specs.Rows.{rows}
 use Rattle.ids.specs.Limits.{mostTables, mostHeld}
@@ -15,7 +15,7 @@ use Rattle.text.specs.Class.{isDigit, isLower}
 use Rattle.text.specs.Name.{isNameByte, isName}
 use Rattle.text.specs.Decimal.{digitsBy, digits, readOn, readIn, readAt}
 use Rattle.manifest.specs.Operations.{Operation, createTable, addRowset, deleteRowset, addVector, deleteVector}
-use Rattle.manifest.specs.Lines.{fieldAt, named as namedAt, tableFields, lineBy, lineOf, fieldsText, textOf}
+use Rattle.manifest.specs.Lines.{fieldAt, named as namedAt, threeFields, tableFields, lineBy, lineOf, fieldsText, textOf}
 use Rattle.manifest.specs.Split.{linesOn, restOn, lines}
 use Rattle.snapshot.specs.declared.rowsets.Rowsets.{Rowsets}
 use Rattle.snapshot.specs.declared.tables.Tables.{Tables}
@@ -38,7 +38,7 @@ use Rattle.version_manager.specs.declared.VacuumAnswer.the-variants.{Listed}
 use Rattle.version_manager.specs.declared.Vacuumed.{Vacuumed}
 use Rattle.version_manager.specs.Managers.{FreshSays}
 use Rattle.version_manager.specs.Draw.{DrawRowsetSays, DrawVectorSays}
-use Rattle.version_manager.specs.Commit.{CommitEnds, CommitSays}
+use Rattle.version_manager.specs.Commit.{outcomeOf, CommitEnds, CommitSays}
 use Rattle.version_manager.specs.Show.{ShowTablesSays, ShowPairsSays, ShowVectorsSays}
 use Rattle.pinning.specs.declared.PinAnswer.the-variants.{Pinned}
 use Rattle.pinning.specs.declared.UnpinAnswer.the-variants.{Unpinned}
@@ -47,14 +47,14 @@ use Rattle.show.specs.declared.ShowAnswer.the-variants.{Shown, Refused as NotSh
 use Rattle.storage.specs.declared.Reopened.{Reopened}
 use Rattle.rewrite.specs.Rewritten.{longestRewritten}
 use Rattle.storage.specs.declared.ReopenAnswer.the-variants.{Rewritten, Refused as NotOpened}
-use Rattle.storage.specs.Reopen.{ReopenIs, ReopenSays}
+use Rattle.storage.specs.Reopen.{reopenOf, ReopenIs, ReopenSays}
 use Rattle.plain_record.specs.Sets as plain
 use Rattle.plain_record.specs.Plain.{Pins}
 use Rattle.plain_record.specs.Calls.{drawRowset, drawVector, commit, pin, unpin, vacuum, reopen}
 use Rattle.plain_record.specs.Run.{Steps, World, world, Event, onward, afterCommit, afterReopen, pairsIn, Starts, Link, Chain}
 use Rattle.plain_record.specs.Claim.{Claim, Holds}
 use Rattle.plain_record.specs.Shows.{ShowsTables, ShowsPairs, ShowsVectors}
-use Rattle.plain_record.specs.Wrong.{unchanged, keepsSets, unraised, leavesEpoch, unjudged, judgesNothing, unaware, forgetsWaiting, PinsNext, answersNext, PinsNothing, countsNoPin, UnpinsNothing, keepsPin, VacuumsTo, nothing, listsNothing, portBound, keepsListed, countsOneMore, loweredBound, keepsOwnEpoch, unguarded, ignoresPins, losesPairs, losesVectors, opensEmpty, firstFrame, readsFirst, closed, countsEarly, forgotten, forgetsIds, refusesReopen, showsCurrent, showsCurrentVectors, Refuted, WrongRefuted}
+use Rattle.plain_record.specs.Wrong.{unchanged, keepsSets, unraised, leavesEpoch, unjudged, judgesNothing, unaware, forgetsWaiting, CommitEndsEarly, appendsNoEnd, PinsNext, answersNext, PinsNothing, countsNoPin, UnpinsNothing, keepsPin, VacuumsTo, nothing, listsNothing, portBound, keepsListed, countsOneMore, loweredBound, keepsOwnEpoch, unguarded, ignoresPins, losesPairs, losesVectors, opensEmpty, firstFrame, readsFirst, closed, countsEarly, forgotten, forgetsIds, ReopenEndsEarly, rewritesNoEnd, refusesReopen, showsCurrent, showsCurrentVectors, Refuted, WrongRefuted}
 
 -- What is not equal.
 apart : {m n : ℕ} → m ≡ n → eqb m n ≡ false → ⊥
@@ -871,6 +871,69 @@ forgets-ids claim =
     ) in
     true≢false (sym (h .agrees .next))
 
+-- The table is created at epoch 1. The append, and the rewritten manifest, lack their last line.
+abbrev createdT : VersionManager
+createdT = holding 1 1 0 tables noPairs 12
+
+abbrev createsT : ℕ → Event
+createsT n = commits begun opsT createdT 1 n frameT 0
+
+fits-T : Fit (createdT .inner)
+fits-T = few 1 1 0 tables noPairs 12 (omega arith) (omega arith)
+
+early-T : CommitEndsEarly (outcomeOf (first .manager) (length opsT) opsT 12) (first .manager) opsT frameT (appended createdT 1 10) frameT
+unfolding rows stepOf textOf fieldsText digits digitsBy isName isNameByte isDigit isLower goneAt shownAt
+early-T = (refl, record { fits = fits-T; state = refl }, refl)
+
+unended-opens : ReopenSays (take 10 frameT) rewritten (rewrittenBy empty 12) rewritten
+unfolding rows textOf fieldsText digits digitsBy lines linesOn lineOf lineBy tableFields fieldAt namedAt readAt readIn readOn isName isNameByte isDigit isLower
+unended-opens = (refl, record { fits = few 1 0 0 noTables noPairs 12 (omega arith) (omega arith); state = refl }, no-pins, refl)
+
+appends-no-end : Refuted appendsNoEnd
+unfolding rows
+appends-no-end claim =
+    let S = appendsNoEnd in
+    let w = createsT 10 .after in
+    let o = reopens w empty 12 rewritten in
+    let h =
+    claim begun (createsT 10 ∷ o ∷ []) (begins S fresh-says) (
+      refl,
+      committed S begun opsT createdT 1 10 frameT 0 early-T,
+      (refl, reopened S w empty 12 rewritten unended-opens, tt),
+    ) in
+    no-table S (o .after) 1 recorded empty-shows (h .agrees .tables)
+
+says-created : CommitSays (first .manager) (length opsT) opsT frameT (appended createdT 1 12) frameT
+unfolding rows stepOf textOf fieldsText digits digitsBy isName isNameByte isDigit isLower goneAt shownAt
+says-created = (refl, record { fits = fits-T; state = refl }, refl)
+
+early-found : ReopenEndsEarly (reopenOf frameT 20) (rewrittenT 49) (rewrittenBy (found 1) 18) (rewrittenT 49)
+unfolding rows textOf fieldsText digits digitsBy lines linesOn lineOf lineBy tableFields fieldAt namedAt readAt readIn readOn isName isNameByte isDigit isLower goneAt shownAt
+early-found = (refl, record { fits = few 1 1 0 tables noPairs 20 (omega arith) (omega arith); state = refl }, no-pins, refl)
+
+early-empty : ReopenEndsEarly (reopenOf (take 18 (rewrittenT 49)) 12) rewritten (rewrittenBy empty 10) rewritten
+unfolding rows textOf fieldsText digits digitsBy lines linesOn lineOf lineBy threeFields tableFields fieldAt namedAt readAt readIn readOn isName isNameByte isDigit isLower
+early-empty = (refl, record { fits = few 1 0 0 noTables noPairs 12 (omega arith) (omega arith); state = refl }, no-pins, refl)
+
+rewrites-no-end : Refuted rewritesNoEnd
+unfolding rows
+rewrites-no-end claim =
+    let S = rewritesNoEnd in
+    let w = createsT 12 .after in
+    let o = reopens w (found 1) 18 (rewrittenT 49) in
+    let q = reopens (o .after) empty 10 rewritten in
+    let h =
+    claim begun (createsT 12 ∷ o ∷ q ∷ []) (begins S fresh-says) (
+      refl,
+      committed S begun opsT createdT 1 12 frameT 0 says-created,
+      (
+        refl,
+        reopened S w (found 1) 18 (rewrittenT 49) early-found,
+        (refl, reopened S (o .after) empty 10 rewritten early-empty, tt),
+      ),
+    ) in
+    no-table S (q .after) 1 recorded empty-shows (h .agrees .tables)
+
 -- a reopen is refused, though it is lent enough
 module _ (out : List ℕ) (long : longestRewritten ≤ length out) where
   abbrev refusal : Event
@@ -902,6 +965,7 @@ wrong-refuted =
       leavesEpoch = leaves-epoch;
       judgesNothing = judges-nothing;
       forgetsWaiting = forgets-waiting;
+      appendsNoEnd = appends-no-end;
       answersNext = answers-next;
       countsNoPin = counts-no-pin;
       keepsPin = keeps-pin;
@@ -916,6 +980,7 @@ wrong-refuted =
       readsFirst = reads-first;
       countsEarly = counts-early;
       forgetsIds = forgets-ids;
+      rewritesNoEnd = rewrites-no-end;
       refusesReopen = refuses-reopen;
       showsCurrent = shows-current;
       showsCurrentVectors = shows-current-vectors;

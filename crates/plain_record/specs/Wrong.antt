@@ -3,12 +3,13 @@ use mathlib.Core.Path.{_≡_}
 use mathlib.Core.Bool.{cond}
 use mathlib.Core.List.{List, [], _∷_, _++_, map}
 use Prim.Native.Nat.{ℕ, _+_, _-_, _≤_}
-use lib.ListN.{length}
+use lib.ListN.{length, take}
 use Rattle.lists.specs.Order.{same}
 use Rattle.lists.specs.Keyed.{keep}
 use Rattle.lists.specs.Written.{over}
 use Rattle.text.specs.Class.{newline}
 use Rattle.ids.specs.declared.refusal.Refusal.the-variants.{BadManager, OutputTooShort}
+use Rattle.ids.specs.declared.refusal.Verdict.the-variants.{Accepted}
 use Rattle.ids.specs.Verdicts.{_⇒_, judged}
 use Rattle.ids.specs.Answers.{told, after}
 use Rattle.manifest.specs.Operations.{Operation, end}
@@ -17,27 +18,28 @@ use Rattle.manifest.specs.Split.{restOn, lines, joined}
 use Rattle.snapshot.specs.Entries.{Entry, field, waits}
 use Rattle.version_state.specs.State.{State, withTables, withPairs, withVectors, withNext, withEpoch}
 use Rattle.pins.specs.declared.PinBook.{PinBook}
-use Rattle.pins.specs.Book.{PinEntry, pinsOf, bound}
+use Rattle.pins.specs.Book.{PinEntry, pinsOf, bound, Keeps}
 use Rattle.operations.specs.Effect.{applied}
 use Rattle.operations.specs.Steps.{Outcome, left, stopped, onward}
-use Rattle.commit.specs.Commit.{firstRules, finishOf, commitOf}
+use Rattle.commit.specs.Commit.{appendOf, firstRules, finishOf, commitOf}
 use Rattle.vacuum.specs.LetGo.{vacuumList, staysBy}
 use Rattle.vacuum.specs.Says.{boundOf, listOf}
 use Rattle.show.specs.declared.ShowAnswer.{ShowAnswer}
 use Rattle.version_manager.specs.declared.VersionManager.{VersionManager}
 use Rattle.version_manager.specs.declared.Committed.{Committed}
 use Rattle.version_manager.specs.declared.Vacuumed.{Vacuumed}
-use Rattle.version_manager.specs.Managers.{heldBy, badManager, HandsBack}
-use Rattle.version_manager.specs.Commit.{outcomeOf, CommitEnds}
+use Rattle.version_manager.specs.Managers.{heldBy, badManager, Manages, HandsBack}
+use Rattle.version_manager.specs.Commit.{outcomeOf, commitTold, CommitEnds}
 use Rattle.version_manager.specs.Vacuum.{vacuumTold, vacuumVerdict}
 use Rattle.version_manager.specs.Show.{ShowPairsSays, ShowVectorsSays}
 use Rattle.pinning.specs.declared.PinAnswer.{PinAnswer}
 use Rattle.pinning.specs.declared.UnpinAnswer.{UnpinAnswer}
 use Rattle.pinning.specs.Counts.{withPin}
 use Rattle.pinning.specs.Says.{current, BookAfter, pinVerdict, pinTold, unpinVerdict, isDue, flag, unpinTold, readyOf}
-use Rattle.replay.specs.Replay.{Result, refused, andThen, stands, replayOf}
+use Rattle.replay.specs.Replay.{Result, refused, given, andThen, stands, replayOf}
+use Rattle.rewrite.specs.Rewritten.{rewrittenOf}
 use Rattle.storage.specs.declared.Reopened.{Reopened}
-use Rattle.storage.specs.Reopen.{openedOf, ReopenIs, ReopenSays}
+use Rattle.storage.specs.Reopen.{openedOf, reopenOf, reopenTold, ReopenIs, ReopenSays}
 use Rattle.plain_record.specs.Run.{Steps, port}
 use Rattle.plain_record.specs.Claim.{Claim}
 
@@ -147,6 +149,20 @@ unaware m n os room =
 
 abbrev pub forgetsWaiting : Steps
 forgetsWaiting = committing (λ m n os out r out′. CommitEnds (unaware m n os (length out)) m os out r out′)
+
+-- a commit appends no `E`
+abbrev pub unended : List ℕ → List ℕ
+unended l = take (length l - (length (lineText end) + 1)) l
+
+abbrev pub CommitEndsEarly : Outcome → VersionManager → List Operation → List ℕ → Committed → List ℕ → Type 0
+CommitEndsEarly (left s) m os out r out′ =
+    (commitTold (r .answer) ≡ told Accepted (s .epoch ∷ length (unended (appendOf os)) ∷ []))
+    × Manages (r .manager) s
+    × (out′ ≡ over (unended (appendOf os)) out)
+CommitEndsEarly (stopped k) m os out r out′ = CommitEnds (stopped k) m os out r out′
+
+abbrev pub appendsNoEnd : Steps
+appendsNoEnd = committing (λ m n os out r out′. CommitEndsEarly (outcomeOf m n os (length out)) m os out r out′)
 
 -- a pin answers the next epoch
 pub record PinsNext (m : VersionManager) (b : PinBook) (a : PinAnswer) (b′ : PinBook) : Type 0 where
@@ -259,6 +275,18 @@ forgotten src room = andThen (replayOf src) (λ s. openedOf room (withNext s 0 0
 abbrev pub forgetsIds : Steps
 forgetsIds = reopening (λ src out. ReopenIs (forgotten src (length out)) out)
 
+-- a reopen writes no `E`
+abbrev pub ReopenEndsEarly : Result State → List ℕ → Reopened → List ℕ → Type 0
+ReopenEndsEarly (given s) out r out′ =
+    (reopenTold (r .answer) ≡ told Accepted (length (unended (rewrittenOf s)) ∷ []))
+    × Manages (r .manager) s
+    × Keeps (r .book) []
+    × (out′ ≡ over (unended (rewrittenOf s)) out)
+ReopenEndsEarly (refused k) out r out′ = ReopenIs (refused k) out r out′
+
+abbrev pub rewritesNoEnd : Steps
+rewritesNoEnd = reopening (λ src out. ReopenEndsEarly (reopenOf src (length out)) out)
+
 -- a reopen is always refused: no buffer is long enough
 abbrev pub refusesReopen : Steps
 refusesReopen = reopening (λ src. ReopenIs (refused OutputTooShort))
@@ -279,6 +307,7 @@ pub record WrongRefuted : Type 0 where
   pub leavesEpoch : Refuted leavesEpoch
   pub judgesNothing : Refuted judgesNothing
   pub forgetsWaiting : Refuted forgetsWaiting
+  pub appendsNoEnd : Refuted appendsNoEnd
   pub answersNext : Refuted answersNext
   pub countsNoPin : Refuted countsNoPin
   pub keepsPin : Refuted keepsPin
@@ -293,6 +322,7 @@ pub record WrongRefuted : Type 0 where
   pub readsFirst : Refuted readsFirst
   pub countsEarly : Refuted countsEarly
   pub forgetsIds : Refuted forgetsIds
+  pub rewritesNoEnd : Refuted rewritesNoEnd
   pub refusesReopen : Refuted refusesReopen
   pub showsCurrent : Refuted showsCurrent
   pub showsCurrentVectors : Refuted showsCurrentVectors
