@@ -9,7 +9,8 @@ use lib.ListN.{length, take, replicate, length-replicate}
 use borrow.Author.Tests.{eq-eqb}
 use Rattle.columns.specs.Rows.{rows}
 use Rattle.ids.specs.Limits.{mostTables, mostHeld}
-use Rattle.ids.specs.declared.refusal.Refusal.the-variants.{OutputTooShort}
+use Rattle.ids.specs.declared.refusal.Refusal.the-variants.{EpochNotPinned, OutputTooShort}
+use Rattle.ids.specs.declared.refusal.Verdict.the-variants.{Refused}
 use Rattle.ids.specs.Answers.{Told}
 use Rattle.text.specs.Class.{isDigit, isLower}
 use Rattle.text.specs.Name.{isNameByte, isName}
@@ -36,7 +37,7 @@ use Rattle.version_manager.specs.declared.CommitAnswer.the-variants.{Appended}
 use Rattle.version_manager.specs.declared.Committed.{Committed}
 use Rattle.version_manager.specs.declared.VacuumAnswer.the-variants.{Listed}
 use Rattle.version_manager.specs.declared.Vacuumed.{Vacuumed}
-use Rattle.version_manager.specs.Managers.{FreshSays}
+use Rattle.version_manager.specs.Managers.{heldBy, FreshSays}
 use Rattle.version_manager.specs.Draw.{DrawRowsetSays, DrawVectorSays}
 use Rattle.version_manager.specs.Commit.{outcomeOf, CommitEnds, CommitSays}
 use Rattle.version_manager.specs.Show.{ShowTablesSays, ShowPairsSays, ShowVectorsSays}
@@ -44,6 +45,7 @@ use Rattle.pinning.specs.declared.PinAnswer.the-variants.{Pinned}
 use Rattle.pinning.specs.declared.UnpinAnswer.the-variants.{Unpinned}
 use Rattle.pinning.specs.Says.{PinSays}
 use Rattle.show.specs.declared.ShowAnswer.the-variants.{Shown, Refused as NotShown}
+use Rattle.show.specs.Says.{TablesShown}
 use Rattle.storage.specs.declared.Reopened.{Reopened}
 use Rattle.rewrite.specs.Rewritten.{longestRewritten}
 use Rattle.storage.specs.declared.ReopenAnswer.the-variants.{Rewritten, Refused as NotOpened}
@@ -54,7 +56,7 @@ use Rattle.plain_record.specs.Calls.{drawRowset, drawVector, commit, pin
 use Rattle.plain_record.specs.Run.{Steps, World, world, Event, onward, afterCommit, afterReopen, pairsIn, Starts, Link, Chain}
 use Rattle.plain_record.specs.Claim.{Claim, Holds}
 use Rattle.plain_record.specs.Shows.{ShowsTables, ShowsPairs, ShowsVectors}
-use Rattle.plain_record.specs.Wrong.{unchanged, keepsSets, unraised, leavesEpoch, unjudged, judgesNothing, unaware, forgetsWaiting, CommitEndsEarly, appendsNoEnd, PinsNext, answersNext, PinsNothing, countsNoPin, UnpinsNothing, keepsPin, VacuumsTo, nothing, listsNothing, portBound, keepsListed, countsOneMore, loweredBound, keepsOwnEpoch, unguarded, ignoresPins, losesPairs, losesVectors, opensEmpty, firstFrame, readsFirst, closed, countsEarly, forgotten, forgetsIds, ReopenEndsEarly, rewritesNoEnd, refusesReopen, showsCurrent, showsCurrentVectors, Refuted, WrongRefuted}
+use Rattle.plain_record.specs.Wrong.{unchanged, keepsSets, unraised, leavesEpoch, unjudged, judgesNothing, unaware, forgetsWaiting, CommitEndsEarly, appendsNoEnd, PinsNext, answersNext, PinsNothing, countsNoPin, UnpinsNothing, keepsPin, VacuumsTo, nothing, listsNothing, portBound, keepsListed, countsOneMore, loweredBound, keepsOwnEpoch, unguarded, ignoresPins, losesPairs, losesVectors, opensEmpty, firstFrame, readsFirst, closed, countsEarly, forgotten, forgetsIds, ReopenEndsEarly, rewritesNoEnd, refusesReopen, showsCurrent, showsCurrentVectors, refusesShow, Refuted, WrongRefuted}
 
 -- What is not equal.
 apart : {m n : ℕ} → m ≡ n → eqb m n ≡ false → ⊥
@@ -958,6 +960,16 @@ module _ (out : List ℕ) (long : longestRewritten ≤ length out) where
 refuses-reopen : Refuted refusesReopen
 refuses-reopen = opens-never (replicate longestRewritten 0) (rw (length-replicate {0} {A = ℕ} longestRewritten 0) (omega arith))
 
+-- a show of epoch 0 is refused by 24 before any call
+no-epoch : TablesShown (heldBy (first .manager)) 0 (Refused EpochNotPinned) [] [] [] [] (NotShown EpochNotPinned) [] [] [] []
+no-epoch = record { answer = refl; ids = refl; shapes = refl; lengths = refl; names = refl }
+
+refuses-show : Refuted refusesShow
+refuses-show claim =
+    let S = refusesShow in
+    let h = claim begun [] (begins S fresh-says) tt in
+    apart (ap (λ (x : Told). x .number) (h .agrees .tables [] [] [] [] (NotShown EpochNotPinned) [] [] [] [] no-epoch .0)) refl
+
 pub wrong-refuted : WrongRefuted
 wrong-refuted =
     record {
@@ -984,4 +996,5 @@ wrong-refuted =
       refusesReopen = refuses-reopen;
       showsCurrent = shows-current;
       showsCurrentVectors = shows-current-vectors;
+      refusesShow = refuses-show;
     }

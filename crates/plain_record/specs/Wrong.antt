@@ -8,8 +8,8 @@ use Rattle.lists.specs.Order.{same}
 use Rattle.lists.specs.Keyed.{keep}
 use Rattle.lists.specs.Written.{over}
 use Rattle.text.specs.Class.{newline}
-use Rattle.ids.specs.declared.refusal.Refusal.the-variants.{BadManager, OutputTooShort}
-use Rattle.ids.specs.declared.refusal.Verdict.the-variants.{Accepted}
+use Rattle.ids.specs.declared.refusal.Refusal.the-variants.{BadManager, EpochNotPinned, OutputTooShort}
+use Rattle.ids.specs.declared.refusal.Verdict.the-variants.{Accepted, Refused}
 use Rattle.ids.specs.Verdicts.{_⇒_, judged}
 use Rattle.ids.specs.Answers.{told, after}
 use Rattle.manifest.specs.Operations.{Operation, end}
@@ -25,6 +25,7 @@ use Rattle.commit.specs.Commit.{appendOf, firstRules, finishOf, commitOf}
 use Rattle.vacuum.specs.LetGo.{vacuumList, staysBy}
 use Rattle.vacuum.specs.Says.{boundOf, listOf}
 use Rattle.show.specs.declared.ShowAnswer.{ShowAnswer}
+use Rattle.show.specs.Says.{TablesShown}
 use Rattle.version_manager.specs.declared.VersionManager.{VersionManager}
 use Rattle.version_manager.specs.declared.Committed.{Committed}
 use Rattle.version_manager.specs.declared.Vacuumed.{Vacuumed}
@@ -59,6 +60,9 @@ Vacuums = VersionManager → PinBook → List ℕ → List ℕ → Vacuumed → 
 abbrev pub Reopens : Type 1
 Reopens = List ℕ → List ℕ → Reopened → List ℕ → Type 0
 
+abbrev pub ShowsTablesBy : Type 1
+ShowsTablesBy = VersionManager → PinBook → ℕ → List ℕ → List ℕ → List ℕ → List ℕ → ShowAnswer → List ℕ → List ℕ → List ℕ → List ℕ → Type 0
+
 abbrev pub ShowsPairsBy : Type 1
 ShowsPairsBy = VersionManager → PinBook → ℕ → List ℕ → List ℕ → ShowAnswer → List ℕ → List ℕ → Type 0
 
@@ -66,8 +70,8 @@ abbrev pub ShowsVectorsBy : Type 1
 ShowsVectorsBy = VersionManager → PinBook → ℕ → List ℕ → List ℕ → List ℕ → ShowAnswer → List ℕ → List ℕ → List ℕ → Type 0
 
 -- the port with these calls in place of its own
-abbrev pub exchanged : Commits → PinsBy → Unpins → Vacuums → Reopens → ShowsPairsBy → ShowsVectorsBy → Steps
-exchanged c p u v o s x =
+abbrev pub exchanged : Commits → PinsBy → Unpins → Vacuums → Reopens → ShowsTablesBy → ShowsPairsBy → ShowsVectorsBy → Steps
+exchanged c p u v o t s x =
     record {
       fresh = port .fresh;
       drawRowset = port .drawRowset;
@@ -77,29 +81,29 @@ exchanged c p u v o s x =
       unpin = u;
       vacuum = v;
       reopen = o;
-      showTables = port .showTables;
+      showTables = t;
       showPairs = s;
       showVectors = x;
     }
 
 -- with one of them
 abbrev pub committing : Commits → Steps
-committing c = exchanged c (port .pin) (port .unpin) (port .vacuum) (port .reopen) (port .showPairs) (port .showVectors)
+committing c = exchanged c (port .pin) (port .unpin) (port .vacuum) (port .reopen) (port .showTables) (port .showPairs) (port .showVectors)
 
 abbrev pub pinning : PinsBy → Steps
-pinning p = exchanged (port .commit) p (port .unpin) (port .vacuum) (port .reopen) (port .showPairs) (port .showVectors)
+pinning p = exchanged (port .commit) p (port .unpin) (port .vacuum) (port .reopen) (port .showTables) (port .showPairs) (port .showVectors)
 
 abbrev pub unpinning : Unpins → Steps
-unpinning u = exchanged (port .commit) (port .pin) u (port .vacuum) (port .reopen) (port .showPairs) (port .showVectors)
+unpinning u = exchanged (port .commit) (port .pin) u (port .vacuum) (port .reopen) (port .showTables) (port .showPairs) (port .showVectors)
 
 abbrev pub vacuuming : Vacuums → Steps
-vacuuming v = exchanged (port .commit) (port .pin) (port .unpin) v (port .reopen) (port .showPairs) (port .showVectors)
+vacuuming v = exchanged (port .commit) (port .pin) (port .unpin) v (port .reopen) (port .showTables) (port .showPairs) (port .showVectors)
 
 abbrev pub reopening : Reopens → Steps
-reopening o = exchanged (port .commit) (port .pin) (port .unpin) (port .vacuum) o (port .showPairs) (port .showVectors)
+reopening o = exchanged (port .commit) (port .pin) (port .unpin) (port .vacuum) o (port .showTables) (port .showPairs) (port .showVectors)
 
-abbrev pub showing : ShowsPairsBy → ShowsVectorsBy → Steps
-showing s x = exchanged (port .commit) (port .pin) (port .unpin) (port .vacuum) (port .reopen) s x
+abbrev pub showing : ShowsTablesBy → ShowsPairsBy → ShowsVectorsBy → Steps
+showing t s x = exchanged (port .commit) (port .pin) (port .unpin) (port .vacuum) (port .reopen) t s x
 
 -- a commit raises the epoch and the next ids, and keeps the old sets
 abbrev pub withSets : State → Outcome → Outcome
@@ -293,11 +297,15 @@ refusesReopen = reopening (λ src. ReopenIs (refused OutputTooShort))
 
 -- a show of pairs gives the current epoch's, whichever is asked for
 abbrev pub showsCurrent : Steps
-showsCurrent = showing (λ m b e. ShowPairsSays m b (current m)) (port .showVectors)
+showsCurrent = showing (port .showTables) (λ m b e. ShowPairsSays m b (current m)) (port .showVectors)
 
 -- and one of vectors
 abbrev pub showsCurrentVectors : Steps
-showsCurrentVectors = showing (port .showPairs) (λ m b e. ShowVectorsSays m b (current m))
+showsCurrentVectors = showing (port .showTables) (port .showPairs) (λ m b e. ShowVectorsSays m b (current m))
+
+-- a show of tables is always refused: no epoch is the current one
+abbrev pub refusesShow : Steps
+refusesShow = showing (λ m b e. TablesShown (heldBy m) e (Refused EpochNotPinned)) (port .showPairs) (port .showVectors)
 
 abbrev pub Refuted : Steps → Type 0
 Refuted S = Claim S → ⊥
@@ -326,3 +334,4 @@ pub record WrongRefuted : Type 0 where
   pub refusesReopen : Refuted refusesReopen
   pub showsCurrent : Refuted showsCurrent
   pub showsCurrentVectors : Refuted showsCurrentVectors
+  pub refusesShow : Refuted refusesShow
