@@ -5,17 +5,18 @@ use mathlib.Core.List.{List, [], _∷_, _++_}
 use Prim.Native.Nat.{ℕ, _-_, _≤_}
 use native.Mathlib.Omega.{arith}
 use lib.Dec.{eqb}
-use lib.ListN.{length, replicate, length-replicate}
+use lib.ListN.{length, take, replicate, length-replicate}
 use borrow.Author.Tests.{eq-eqb}
 use Rattle.columns.specs.Rows.{rows}
 use Rattle.ids.specs.Limits.{mostTables, mostHeld}
-use Rattle.ids.specs.declared.refusal.Refusal.the-variants.{OutputTooShort}
+use Rattle.ids.specs.declared.refusal.Refusal.the-variants.{EpochNotPinned, OutputTooShort}
+use Rattle.ids.specs.declared.refusal.Verdict.the-variants.{Refused}
 use Rattle.ids.specs.Answers.{Told}
 use Rattle.text.specs.Class.{isDigit, isLower}
 use Rattle.text.specs.Name.{isNameByte, isName}
 use Rattle.text.specs.Decimal.{digitsBy, digits, readOn, readIn, readAt}
-use Rattle.manifest.specs.Operations.{Operation, createTable, addRowset, deleteRowset}
-use Rattle.manifest.specs.Lines.{fieldAt, named as namedAt, tableFields, lineBy, lineOf, fieldsText, textOf}
+use Rattle.manifest.specs.Operations.{Operation, createTable, addRowset, deleteRowset, addVector, deleteVector}
+use Rattle.manifest.specs.Lines.{fieldAt, named as namedAt, threeFields, tableFields, lineBy, lineOf, fieldsText, textOf}
 use Rattle.manifest.specs.Split.{linesOn, restOn, lines}
 use Rattle.snapshot.specs.declared.rowsets.Rowsets.{Rowsets}
 use Rattle.snapshot.specs.declared.tables.Tables.{Tables}
@@ -30,28 +31,32 @@ use Rattle.version_manager.specs.declared.VersionManager.{VersionManager}
 use Rattle.version_manager.specs.declared.Opened.{Opened}
 use Rattle.version_manager.specs.declared.RowsetAnswer.the-variants as rowset
 use Rattle.version_manager.specs.declared.DrawnRowset.{DrawnRowset}
+use Rattle.version_manager.specs.declared.VectorAnswer.the-variants as vector
+use Rattle.version_manager.specs.declared.DrawnVector.{DrawnVector}
 use Rattle.version_manager.specs.declared.CommitAnswer.the-variants.{Appended}
 use Rattle.version_manager.specs.declared.Committed.{Committed}
 use Rattle.version_manager.specs.declared.VacuumAnswer.the-variants.{Listed}
 use Rattle.version_manager.specs.declared.Vacuumed.{Vacuumed}
-use Rattle.version_manager.specs.Managers.{FreshSays}
-use Rattle.version_manager.specs.Draw.{DrawRowsetSays}
-use Rattle.version_manager.specs.Commit.{CommitEnds, CommitSays}
-use Rattle.version_manager.specs.Show.{ShowTablesSays, ShowPairsSays}
+use Rattle.version_manager.specs.Managers.{heldBy, FreshSays}
+use Rattle.version_manager.specs.Draw.{DrawRowsetSays, DrawVectorSays}
+use Rattle.version_manager.specs.Commit.{outcomeOf, CommitEnds, CommitSays}
+use Rattle.version_manager.specs.Show.{ShowTablesSays, ShowPairsSays, ShowVectorsSays}
 use Rattle.pinning.specs.declared.PinAnswer.the-variants.{Pinned}
 use Rattle.pinning.specs.declared.UnpinAnswer.the-variants.{Unpinned}
 use Rattle.pinning.specs.Says.{PinSays}
 use Rattle.show.specs.declared.ShowAnswer.the-variants.{Shown, Refused as NotShown}
+use Rattle.show.specs.Says.{TablesShown}
 use Rattle.storage.specs.declared.Reopened.{Reopened}
 use Rattle.rewrite.specs.Rewritten.{longestRewritten}
 use Rattle.storage.specs.declared.ReopenAnswer.the-variants.{Rewritten, Refused as NotOpened}
-use Rattle.storage.specs.Reopen.{ReopenIs, ReopenSays}
+use Rattle.storage.specs.Reopen.{reopenOf, ReopenIs, ReopenSays}
 use Rattle.plain_record.specs.Sets as plain
 use Rattle.plain_record.specs.Plain.{Pins}
-use Rattle.plain_record.specs.Calls.{drawRowset, commit, pin, unpin, vacuum, reopen}
-use Rattle.plain_record.specs.Run.{Steps, World, world, Event, onward, afterCommit, afterReopen, pairsIn, Starts, Link}
-use Rattle.plain_record.specs.Shows.{ShowsTables}
-use Rattle.plain_record.specs.Wrong.{unchanged, keepsSets, unraised, leavesEpoch, unjudged, judgesNothing, PinsNext, answersNext, PinsNothing, countsNoPin, UnpinsNothing, keepsPin, VacuumsTo, nothing, listsNothing, portBound, keepsListed, loweredBound, keepsOwnEpoch, unguarded, ignoresPins, opensEmpty, firstFrame, readsFirst, closed, countsEarly, forgotten, forgetsIds, refusesReopen, showsCurrent, Refuted, WrongRefuted}
+use Rattle.plain_record.specs.Calls.{drawRowset, drawVector, commit, pin, unpin, vacuum, reopen}
+use Rattle.plain_record.specs.Run.{Steps, World, world, Event, onward, afterCommit, afterReopen, pairsIn, Starts, Link, Chain}
+use Rattle.plain_record.specs.Claim.{Claim, Holds}
+use Rattle.plain_record.specs.Shows.{ShowsTables, ShowsPairs, ShowsVectors}
+use Rattle.plain_record.specs.Wrong.{unchanged, keepsSets, unraised, leavesEpoch, unjudged, judgesNothing, unaware, forgetsWaiting, CommitEndsEarly, appendsNoEnd, PinsNext, answersNext, PinsNothing, countsNoPin, UnpinsNothing, keepsPin, VacuumsTo, nothing, listsNothing, portBound, keepsListed, countsOneMore, loweredBound, keepsOwnEpoch, unguarded, ignoresPins, losesPairs, losesVectors, opensEmpty, firstFrame, readsFirst, closed, countsEarly, forgotten, forgetsIds, ReopenEndsEarly, rewritesNoEnd, refusesReopen, showsCurrent, showsCurrentVectors, refusesShow, Refuted, WrongRefuted}
 
 -- What is not equal.
 apart : {m n : ℕ} → m ≡ n → eqb m n ≡ false → ⊥
@@ -81,24 +86,35 @@ noTables = holds [] [] [] [] 0
 abbrev noPairs : Rowsets
 noPairs = holdsPairs [] [] [] [] 0
 
-abbrev noVectors : Vectors
-noVectors = record { tables = places mostHeld []; rowsets = places mostHeld []; vectors = places mostHeld []; added = places mostHeld []; deleted = places mostHeld []; count = 0 }
+abbrev holdsVectors : List ℕ → List ℕ → List ℕ → List ℕ → List ℕ → ℕ → Vectors
+holdsVectors t r v a d n =
+    record { tables = places mostHeld t; rowsets = places mostHeld r; vectors = places mostHeld v; added = places mostHeld a; deleted = places mostHeld d; count = n }
 
-abbrev holding : ℕ → ℕ → ℕ → Tables → Rowsets → ℕ → VersionManager
-holding e t r ts rs n =
+abbrev noVectors : Vectors
+noVectors = holdsVectors [] [] [] [] [] 0
+
+abbrev holdingAll : ℕ → ℕ → ℕ → ℕ → Tables → Rowsets → Vectors → ℕ → VersionManager
+holdingAll e t r v ts rs vs n =
     record {
       inner = record {
         epoch = e;
-        next = record { table = record { 0 = t }; rowset = record { 0 = r }; vector = record { 0 = 0 } };
+        next = record { table = record { 0 = t }; rowset = record { 0 = r }; vector = record { 0 = v } };
         tables = ts;
         rowsets = rs;
-        vectors = noVectors;
+        vectors = vs;
         manifest = n;
       };
     }
 
-few : (e t r : ℕ) (ts : Tables) (rs : Rowsets) (n : ℕ) → ts .count ≤ 1 → rs .count ≤ 1 → Fit (holding e t r ts rs n .inner)
-few e t r ts rs n h k = record { tables = omega arith; rowsets = omega arith; vectors = omega arith }
+-- without vectors
+abbrev holding : ℕ → ℕ → ℕ → Tables → Rowsets → ℕ → VersionManager
+holding e t r ts rs n = holdingAll e t r 0 ts rs noVectors n
+
+few-all : (e t r v : ℕ) (ts : Tables) (rs : Rowsets) (vs : Vectors) (n : ℕ) → ts .count ≤ 1 → rs .count ≤ 2 → vs .count ≤ 1 → Fit (holdingAll e t r v ts rs vs n .inner)
+few-all e t r v ts rs vs n h k l = record { tables = omega arith; rowsets = omega arith; vectors = omega arith }
+
+few : (e t r : ℕ) (ts : Tables) (rs : Rowsets) (n : ℕ) → ts .count ≤ 1 → rs .count ≤ 2 → Fit (holding e t r ts rs n .inner)
+few e t r ts rs n h k = few-all e t r 0 ts rs noVectors n h k (omega arith)
 
 abbrev unpinned : PinBook
 unpinned = record { items = replicate mostPinned (record { epoch = 0; count = 0 }); count = 0 }
@@ -123,6 +139,9 @@ telling l = record { number = 0; place = 0; values = l }
 abbrev drawn : DrawnRowset
 drawn = record { manager = holding 0 0 1 noTables noPairs 0; answer = rowset.Id (record { 0 = 0 }) }
 
+abbrev drawnVector : DrawnVector
+drawnVector = record { manager = holdingAll 0 0 1 1 noTables noPairs noVectors 0; answer = vector.Id (record { 0 = 0 }) }
+
 abbrev appended : VersionManager → ℕ → ℕ → Committed
 appended m e n = record { manager = m; answer = Appended e n }
 
@@ -134,6 +153,10 @@ rewrittenBy m n = record { manager = m; book = unpinned; answer = Rewritten n }
 
 abbrev draws : Event
 draws = record { before = begun; call = drawRowset; told = telling (0 ∷ []); listed = []; after = world (drawn .manager) unpinned [] [] }
+
+abbrev drawsVector : Event
+drawsVector =
+    record { before = draws .after; call = drawVector; told = telling (0 ∷ []); listed = []; after = world (drawnVector .manager) unpinned [] [] }
 
 abbrev commits : World → List Operation → VersionManager → ℕ → ℕ → List ℕ → ℕ → Event
 commits w os m e n out missing =
@@ -178,6 +201,9 @@ module _ (S : Steps) where
   drew : S .drawRowset (first .manager) drawn → Link S draws
   drew h = record { result = drawn; says = h; told = refl; none = refl; after = refl }
 
+  drew-vector : S .drawVector (drawn .manager) drawnVector → Link S drawsVector
+  drew-vector h = record { result = drawnVector; says = h; told = refl; none = refl; after = refl }
+
   committed : (w : World) (os : List Operation) (m : VersionManager) (e n : ℕ) (out : List ℕ) (missing : ℕ) → S .commit (w .manager) (length os) os out (appended m e n) out → Link S (commits w os m e n out missing)
   committed w os m e n out missing h =
       record { count = length os; counted = omega arith; result = appended m e n; left = out; says = h; told = refl; none = refl; after = refl }
@@ -203,7 +229,12 @@ draw-says : DrawRowsetSays (first .manager) drawn
 unfolding rows
 draw-says = record { answer = refl; manager = record { fits = few 0 0 1 noTables noPairs 0 (omega arith) (omega arith); state = refl } }
 
--- What is committed: a table `a` of id 0 and shape 7, and its rowset 0.
+draw-vector-says : DrawVectorSays (drawn .manager) drawnVector
+unfolding rows
+draw-vector-says =
+    record { answer = refl; manager = record { fits = few-all 0 0 1 1 noTables noPairs noVectors 0 (omega arith) (omega arith) (omega arith); state = refl } }
+
+-- What is committed: a table `a` of id 0 and shape 7, its rowset 0, and the rowset's vector 0.
 abbrev name : List ℕ
 name = 97 ∷ []
 
@@ -221,6 +252,9 @@ tables = holds (0 ∷ []) (7 ∷ []) (1 ∷ []) name 1
 
 abbrev pair : ℕ → ℕ → Rowsets
 pair a d = holdsPairs (0 ∷ []) (0 ∷ []) (a ∷ []) (d ∷ []) 1
+
+abbrev vectorOf : ℕ → ℕ → Vectors
+vectorOf a d = holdsVectors (0 ∷ []) (0 ∷ []) (0 ∷ []) (a ∷ []) (d ∷ []) 1
 
 -- The table is created, the rowset added and deleted, all at epoch 1.
 abbrev opsTAD : List Operation
@@ -242,8 +276,16 @@ says-TAD : CommitSays (drawn .manager) (length opsTAD) opsTAD frameTAD (appended
 unfolding rows stepOf textOf fieldsText digits digitsBy isName isNameByte isDigit isLower goneAt shownAt
 says-TAD = (refl, record { fits = fits-TAD; state = refl }, refl)
 
+abbrev CommitsTAD : Steps → Type 0
+CommitsTAD S = S .commit (drawn .manager) (length opsTAD) opsTAD frameTAD (appended afterTAD 1 24) frameTAD
+
+-- the claim of a draw, this commit and further calls
+on-TAD : (S : Steps) → Claim S → S .fresh first → S .drawRowset (first .manager) drawn → CommitsTAD S → (es : List Event) → Chain S (commitTAD .after) es → Holds S begun (draws ∷ commitTAD ∷ es)
+on-TAD S claim fresh draw says es c =
+    claim begun (draws ∷ commitTAD ∷ es) (begins S fresh) (refl, drew S draw, (refl, committed S (draws .after) opsTAD afterTAD 1 24 frameTAD 0 says, c))
+
 -- a vacuum lists nothing
-nothing-says : VacuumsTo nothing nothing afterTAD unpinned (5 ∷ []) (5 ∷ []) (listedBy afterTAD 0) (5 ∷ []) (5 ∷ [])
+nothing-says : VacuumsTo 0 nothing nothing nothing afterTAD unpinned (5 ∷ []) (5 ∷ []) (listedBy afterTAD 0) (5 ∷ []) (5 ∷ [])
 unfolding rows isName isNameByte isDigit isLower goneAt shownAt
 nothing-says = record { answer = refl; tables = refl; rowsets = refl; manager = record { fits = fits-TAD; state = refl } }
 
@@ -252,19 +294,11 @@ lists-nothing claim =
     let S = listsNothing in
     let w = commitTAD .after in
     let h =
-    claim begun (draws ∷ commitTAD ∷ vacuums w afterTAD 0 (5 ∷ []) (5 ∷ []) ∷ []) (begins S fresh-says) (
-      refl,
-      drew S draw-says,
-      (
-        refl,
-        committed S (draws .after) opsTAD afterTAD 1 24 frameTAD 0 says-TAD,
-        (refl, vacuumed S w afterTAD 0 (5 ∷ []) (5 ∷ []) nothing-says, tt),
-      ),
-    ) in
+    on-TAD S claim fresh-says draw-says says-TAD (vacuums w afterTAD 0 (5 ∷ []) (5 ∷ []) ∷ []) (refl, vacuumed S w afterTAD 0 (5 ∷ []) (5 ∷ []) nothing-says, tt) in
     true≢false (sym (h .deletions .1 .0 refl refl .0 .0 refl .0 .1))
 
 -- a vacuum lists the deletion and keeps it, so that the next one lists it again
-listed-says : VacuumsTo portBound nothing afterTAD unpinned (5 ∷ []) (5 ∷ []) (listedBy afterTAD 1) (0 ∷ []) (0 ∷ [])
+listed-says : VacuumsTo 0 portBound nothing nothing afterTAD unpinned (5 ∷ []) (5 ∷ []) (listedBy afterTAD 1) (0 ∷ []) (0 ∷ [])
 unfolding rows isName isNameByte isDigit isLower goneAt shownAt
 listed-says = record { answer = refl; tables = refl; rowsets = refl; manager = record { fits = fits-TAD; state = refl } }
 
@@ -274,27 +308,36 @@ keeps-listed claim =
     let w = commitTAD .after in
     let v = vacuums w afterTAD 1 (0 ∷ []) (0 ∷ []) in
     let h =
-    claim begun (draws ∷ commitTAD ∷ v ∷ vacuums (v .after) afterTAD 1 (0 ∷ []) (0 ∷ []) ∷ []) (begins S fresh-says) (
+    on-TAD S claim fresh-says draw-says says-TAD (v ∷ vacuums (v .after) afterTAD 1 (0 ∷ []) (0 ∷ []) ∷ []) (
       refl,
-      drew S draw-says,
-      (
-        refl,
-        committed S (draws .after) opsTAD afterTAD 1 24 frameTAD 0 says-TAD,
-        (
-          refl,
-          vacuumed S w afterTAD 1 (0 ∷ []) (0 ∷ []) listed-says,
-          (refl, vacuumed S (v .after) afterTAD 1 (0 ∷ []) (0 ∷ []) listed-says, tt),
-        ),
-      ),
+      vacuumed S w afterTAD 1 (0 ∷ []) (0 ∷ []) listed-says,
+      (refl, vacuumed S (v .after) afterTAD 1 (0 ∷ []) (0 ∷ []) listed-says, tt),
     ) in
     true≢false (h .deletions .1 .0 refl refl .0 .0 refl .1 .0 .1)
+
+-- a vacuum lists the deletion, lets it go and answers 2
+abbrev sweptTAD : VersionManager
+sweptTAD = holding 1 1 1 tables noPairs 24
+
+more-says : VacuumsTo 1 portBound portBound portBound afterTAD unpinned (5 ∷ []) (5 ∷ []) (listedBy sweptTAD 2) (0 ∷ []) (0 ∷ [])
+unfolding rows isName isNameByte isDigit isLower goneAt shownAt
+more-says =
+    record { answer = refl; tables = refl; rowsets = refl; manager = record { fits = few 1 1 1 tables noPairs 24 (omega arith) (omega arith); state = refl } }
+
+counts-one-more : Refuted countsOneMore
+counts-one-more claim =
+    let S = countsOneMore in
+    let w = commitTAD .after in
+    let h =
+    on-TAD S claim fresh-says draw-says says-TAD (vacuums w sweptTAD 2 (0 ∷ []) (0 ∷ []) ∷ []) (refl, vacuumed S w sweptTAD 2 (0 ∷ []) (0 ∷ []) more-says, tt) in
+    apart (h .answers .1 .1 .0 refl .1) refl
 
 -- the deletion's own epoch is pinned
 pin-says : PinSays afterTAD unpinned (Pinned 1) once
 unfolding rows isName isNameByte isDigit isLower goneAt shownAt
 pin-says = record { answer = refl; book = record { fits = omega arith; pins = refl } }
 
-own-says : VacuumsTo loweredBound loweredBound afterTAD once (5 ∷ []) (5 ∷ []) (listedBy afterTAD 0) (5 ∷ []) (5 ∷ [])
+own-says : VacuumsTo 0 loweredBound loweredBound loweredBound afterTAD once (5 ∷ []) (5 ∷ []) (listedBy afterTAD 0) (5 ∷ []) (5 ∷ [])
 unfolding rows isName isNameByte isDigit isLower goneAt shownAt
 own-says = record { answer = refl; tables = refl; rowsets = refl; manager = record { fits = fits-TAD; state = refl } }
 
@@ -303,18 +346,10 @@ keeps-own-epoch claim =
     let S = keepsOwnEpoch in
     let p = pins (commitTAD .after) 1 once in
     let h =
-    claim begun (draws ∷ commitTAD ∷ p ∷ vacuums (p .after) afterTAD 0 (5 ∷ []) (5 ∷ []) ∷ []) (begins S fresh-says) (
+    on-TAD S claim fresh-says draw-says says-TAD (p ∷ vacuums (p .after) afterTAD 0 (5 ∷ []) (5 ∷ []) ∷ []) (
       refl,
-      drew S draw-says,
-      (
-        refl,
-        committed S (draws .after) opsTAD afterTAD 1 24 frameTAD 0 says-TAD,
-        (
-          refl,
-          pinned S (commitTAD .after) 1 once pin-says,
-          (refl, vacuumed S (p .after) afterTAD 0 (5 ∷ []) (5 ∷ []) own-says, tt),
-        ),
-      ),
+      pinned S (commitTAD .after) 1 once pin-says,
+      (refl, vacuumed S (p .after) afterTAD 0 (5 ∷ []) (5 ∷ []) own-says, tt),
     ) in
     true≢false (sym (h .deletions .1 .0 refl refl .0 .1 refl .1 .0 refl .0 .1))
 
@@ -327,16 +362,7 @@ answers-next : Refuted answersNext
 answers-next claim =
     let S = answersNext in
     let w = commitTAD .after in
-    let h =
-    claim begun (draws ∷ commitTAD ∷ pins w 2 once ∷ []) (begins S fresh-says) (
-      refl,
-      drew S draw-says,
-      (
-        refl,
-        committed S (draws .after) opsTAD afterTAD 1 24 frameTAD 0 says-TAD,
-        (refl, pinned S w 2 once next-says, tt),
-      ),
-    ) in
+    let h = on-TAD S claim fresh-says draw-says says-TAD (pins w 2 once ∷ []) (refl, pinned S w 2 once next-says, tt) in
     apart (h .answers .1 .1 .0 refl) refl
 
 -- a pin is not counted
@@ -348,16 +374,7 @@ counts-no-pin : Refuted countsNoPin
 counts-no-pin claim =
     let S = countsNoPin in
     let w = commitTAD .after in
-    let h =
-    claim begun (draws ∷ commitTAD ∷ pins w 1 unpinned ∷ []) (begins S fresh-says) (
-      refl,
-      drew S draw-says,
-      (
-        refl,
-        committed S (draws .after) opsTAD afterTAD 1 24 frameTAD 0 says-TAD,
-        (refl, pinned S w 1 unpinned uncounted-says, tt),
-      ),
-    ) in
+    let h = on-TAD S claim fresh-says draw-says says-TAD (pins w 1 unpinned ∷ []) (refl, pinned S w 1 unpinned uncounted-says, tt) in
     not-empty (h .agrees .book)
 
 -- The pair that waits is added again.
@@ -384,16 +401,37 @@ judges-nothing claim =
     let S = judgesNothing in
     let w = commitTAD .after in
     let h =
-    claim begun (draws ∷ commitTAD ∷ commits w opsA afterA 2 10 frameA 0 ∷ []) (begins S fresh-says) (
-      refl,
-      drew S draw-says,
-      (
-        refl,
-        committed S (draws .after) opsTAD afterTAD 1 24 frameTAD 0 unjudged-TAD,
-        (refl, committed S w opsA afterA 2 10 frameA 0 unjudged-A, tt),
-      ),
-    ) in
+    on-TAD S claim fresh-says draw-says unjudged-TAD (commits w opsA afterA 2 10 frameA 0 ∷ []) (refl, committed S w opsA afterA 2 10 frameA 0 unjudged-A, tt) in
     not-empty (h .agrees .waiting)
+
+-- It is added and deleted again, beside itself.
+abbrev opsAD : List Operation
+opsAD = adds ∷ deletes ∷ []
+
+abbrev frameAD : List ℕ
+frameAD = 66 ∷ 10 ∷ 65 ∷ 44 ∷ 48 ∷ 44 ∷ 48 ∷ 10 ∷ 68 ∷ 44 ∷ 48 ∷ 44 ∷ 48 ∷ 10 ∷ 69 ∷ 10 ∷ []
+
+abbrev pairTwice : Rowsets
+pairTwice = holdsPairs (0 ∷ 0 ∷ []) (0 ∷ 0 ∷ []) (1 ∷ 2 ∷ []) (1 ∷ 2 ∷ []) 2
+
+abbrev afterAD : VersionManager
+afterAD = holding 2 1 1 tables pairTwice 40
+
+unaware-TAD : CommitEnds (unaware (drawn .manager) (length opsTAD) opsTAD 24) (drawn .manager) opsTAD frameTAD (appended afterTAD 1 24) frameTAD
+unfolding rows stepOf textOf fieldsText digits digitsBy isName isNameByte isDigit isLower goneAt shownAt
+unaware-TAD = (refl, record { fits = fits-TAD; state = refl }, refl)
+
+unaware-AD : CommitEnds (unaware afterTAD (length opsAD) opsAD 16) afterTAD opsAD frameAD (appended afterAD 2 16) frameAD
+unfolding rows stepOf textOf fieldsText digits digitsBy isName isNameByte isDigit isLower goneAt shownAt
+unaware-AD = (refl, record { fits = few 2 1 1 tables pairTwice 40 (omega arith) (omega arith); state = refl }, refl)
+
+forgets-waiting : Refuted forgetsWaiting
+forgets-waiting claim =
+    let S = forgetsWaiting in
+    let w = commitTAD .after in
+    let h =
+    on-TAD S claim fresh-says draw-says unaware-TAD (commits w opsAD afterAD 2 16 frameAD 0 ∷ []) (refl, committed S w opsAD afterAD 2 16 frameAD 0 unaware-AD, tt) in
+    true≢false (sym (h .agrees .apart))
 
 -- The rowset is added at epoch 1, epoch 1 is pinned, and the rowset is deleted at epoch 2.
 abbrev opsTA : List Operation
@@ -435,35 +473,73 @@ says-D : CommitSays afterTA (length opsD) opsD frameD (appended (afterD (pair 1 
 unfolding rows stepOf textOf fieldsText digits digitsBy isName isNameByte isDigit isLower goneAt shownAt
 says-D = (refl, record { fits = few 2 1 1 tables (pair 1 2) 28 (omega arith) (omega arith); state = refl }, refl)
 
+-- the claim of these calls and further ones, by a manager that draws, commits and pins as the port does
+module _ (S : Steps) (claim : Claim S) (fresh : S .fresh first) (draw : S .drawRowset (first .manager) drawn)
+    (add : S .commit (drawn .manager) (length opsTA) opsTA frameTA (appended afterTA 1 18) frameTA) (guard : S .pin afterTA unpinned (Pinned 1) once)
+    (delete : S .commit afterTA (length opsD) opsD frameD (appended (afterD (pair 1 2)) 2 10) frameD) where
+  on-D : (es : List Event) → Chain S (commitD .after) es → Holds S begun (draws ∷ commitTA ∷ pinTA ∷ commitD ∷ es)
+  on-D es c =
+      claim begun (draws ∷ commitTA ∷ pinTA ∷ commitD ∷ es) (begins S fresh) (
+        refl,
+        drew S draw,
+        (
+          refl,
+          committed S (draws .after) opsTA afterTA 1 18 frameTA 0 add,
+          (
+            refl,
+            pinned S (commitTA .after) 1 once guard,
+            (refl, committed S (pinTA .after) opsD (afterD (pair 1 2)) 2 10 frameD 0 delete, c),
+          ),
+        ),
+      )
+
 -- a vacuum ignores the pin
-all-says : VacuumsTo unguarded unguarded (afterD (pair 1 2)) once (5 ∷ []) (5 ∷ []) (listedBy (afterD noPairs) 1) (0 ∷ []) (0 ∷ [])
+fits-D : Fit (afterD noPairs .inner)
+fits-D = few 2 1 1 tables noPairs 28 (omega arith) (omega arith)
+
+all-says : VacuumsTo 0 unguarded unguarded unguarded (afterD (pair 1 2)) once (5 ∷ []) (5 ∷ []) (listedBy (afterD noPairs) 1) (0 ∷ []) (0 ∷ [])
 unfolding rows isName isNameByte isDigit isLower goneAt shownAt
-all-says =
-    record { answer = refl; tables = refl; rowsets = refl; manager = record { fits = few 2 1 1 tables noPairs 28 (omega arith) (omega arith); state = refl } }
+all-says = record { answer = refl; tables = refl; rowsets = refl; manager = record { fits = fits-D; state = refl } }
 
 ignores-pins : Refuted ignoresPins
 ignores-pins claim =
     let S = ignoresPins in
-    let d = commitD in
+    let w = commitD .after in
     let h =
-    claim begun (draws ∷ commitTA ∷ pinTA ∷ d ∷ vacuums (d .after) (afterD noPairs) 1 (0 ∷ []) (0 ∷ []) ∷ []) (begins S fresh-says) (
+    on-D S claim fresh-says draw-says says-TA pin-says-TA says-D (vacuums w (afterD noPairs) 1 (0 ∷ []) (0 ∷ []) ∷ []) (
       refl,
-      drew S draw-says,
-      (
-        refl,
-        committed S (draws .after) opsTA afterTA 1 18 frameTA 0 says-TA,
-        (
-          refl,
-          pinned S (commitTA .after) 1 once pin-says-TA,
-          (
-            refl,
-            committed S (pinTA .after) opsD (afterD (pair 1 2)) 2 10 frameD 0 says-D,
-            (refl, vacuumed S (d .after) (afterD noPairs) 1 (0 ∷ []) (0 ∷ []) all-says, tt),
-          ),
-        ),
-      ),
+      vacuumed S w (afterD noPairs) 1 (0 ∷ []) (0 ∷ []) all-says,
+      tt,
     ) in
     not-empty (sym (h .answers .1 .1 .1 .1 .0 refl .0))
+
+-- a show without pairs, where the record has one
+no-pair : (S : Steps) (w : World) (d : ℕ) (k : List ℕ) → S .showPairs (w .manager) (w .book) d [] [] (Shown 0) [] [] → ShowsPairs S w d (k ∷ []) → ⊥
+no-pair S w d k says h = apart (ap (λ (x : Told). x .number) (h [] [] (Shown 0) [] [] says .0)) refl
+
+abbrev recordedPair : List ℕ
+recordedPair = 0 ∷ 0 ∷ []
+
+-- it lists nothing and lets the pair go
+pairs-lost : VacuumsTo 0 portBound unguarded portBound (afterD (pair 1 2)) once (5 ∷ []) (5 ∷ []) (listedBy (afterD noPairs) 0) (5 ∷ []) (5 ∷ [])
+unfolding rows isName isNameByte isDigit isLower goneAt shownAt
+pairs-lost = record { answer = refl; tables = refl; rowsets = refl; manager = record { fits = fits-D; state = refl } }
+
+lost-shows : ShowPairsSays (afterD noPairs) once 1 [] [] (Shown 0) [] []
+unfolding rows isName isNameByte isDigit isLower goneAt shownAt
+lost-shows = record { answer = refl; tables = refl; rowsets = refl }
+
+loses-pairs : Refuted losesPairs
+loses-pairs claim =
+    let S = losesPairs in
+    let v = vacuums (commitD .after) (afterD noPairs) 0 (5 ∷ []) (5 ∷ []) in
+    let h =
+    on-D S claim fresh-says draw-says says-TA pin-says-TA says-D (v ∷ []) (
+      refl,
+      vacuumed S (commitD .after) (afterD noPairs) 0 (5 ∷ []) (5 ∷ []) pairs-lost,
+      tt,
+    ) in
+    no-pair S (v .after) 1 recordedPair lost-shows (h .agrees .pairs 1 refl)
 
 -- a show of epoch 1 gives what epoch 2 has
 current-says : ShowPairsSays (afterD (pair 1 2)) once 2 [] [] (Shown 0) [] []
@@ -473,21 +549,119 @@ current-says = record { answer = refl; tables = refl; rowsets = refl }
 shows-current : Refuted showsCurrent
 shows-current claim =
     let S = showsCurrent in
-    let h =
-    claim begun (draws ∷ commitTA ∷ pinTA ∷ commitD ∷ []) (begins S fresh-says) (
-      refl,
-      drew S draw-says,
-      (
+    let h = on-D S claim fresh-says draw-says says-TA pin-says-TA says-D [] tt in
+    no-pair S (commitD .after) 1 recordedPair current-says (h .agrees .pairs 1 refl)
+
+-- The vector is added at epoch 1, epoch 1 is pinned, and the vector is deleted at epoch 2.
+abbrev opsTAV : List Operation
+opsTAV = creates ∷ adds ∷ addVector 0 0 0 ∷ []
+
+abbrev frameTAV : List ℕ
+frameTAV = 66 ∷ 10 ∷ 84 ∷ 44 ∷ 48 ∷ 44 ∷ 55 ∷ 44 ∷ 97 ∷ 10 ∷ 65 ∷ 44 ∷ 48 ∷ 44 ∷ 48 ∷ 10 ∷ 86 ∷ 44 ∷ 48 ∷ 44 ∷ 48 ∷ 44 ∷ 48 ∷ 10 ∷ 69 ∷ 10 ∷ []
+
+abbrev afterTAV : VersionManager
+afterTAV = holdingAll 1 1 1 1 tables (pair 1 0) (vectorOf 1 0) 26
+
+abbrev opsW : List Operation
+opsW = deleteVector 0 0 0 ∷ []
+
+abbrev frameW : List ℕ
+frameW = 66 ∷ 10 ∷ 87 ∷ 44 ∷ 48 ∷ 44 ∷ 48 ∷ 44 ∷ 48 ∷ 10 ∷ 69 ∷ 10 ∷ []
+
+abbrev afterW : Vectors → VersionManager
+afterW l = holdingAll 2 1 1 1 tables (pair 1 0) l 38
+
+abbrev commitTAV : Event
+commitTAV = commits (drawsVector .after) opsTAV afterTAV 1 26 frameTAV 0
+
+abbrev pinTAV : Event
+pinTAV = pins (commitTAV .after) 1 once
+
+abbrev commitW : Event
+commitW = commits (pinTAV .after) opsW (afterW (vectorOf 1 2)) 2 12 frameW 0
+
+says-TAV : CommitSays (drawnVector .manager) (length opsTAV) opsTAV frameTAV (appended afterTAV 1 26) frameTAV
+unfolding rows stepOf textOf fieldsText digits digitsBy isName isNameByte isDigit isLower goneAt shownAt
+says-TAV =
+    (refl, record { fits = few-all 1 1 1 1 tables (pair 1 0) (vectorOf 1 0) 26 (omega arith) (omega arith) (omega arith); state = refl }, refl)
+
+pin-says-TAV : PinSays afterTAV unpinned (Pinned 1) once
+unfolding rows isName isNameByte isDigit isLower goneAt shownAt
+pin-says-TAV = record { answer = refl; book = record { fits = omega arith; pins = refl } }
+
+says-W : CommitSays afterTAV (length opsW) opsW frameW (appended (afterW (vectorOf 1 2)) 2 12) frameW
+unfolding rows stepOf textOf fieldsText digits digitsBy isName isNameByte isDigit isLower goneAt shownAt
+says-W =
+    (refl, record { fits = few-all 2 1 1 1 tables (pair 1 0) (vectorOf 1 2) 38 (omega arith) (omega arith) (omega arith); state = refl }, refl)
+
+-- the claim of these calls and further ones, by a manager that draws, commits and pins as the port does
+module _ (S : Steps) (claim : Claim S) (fresh : S .fresh first) (draw : S .drawRowset (first .manager) drawn) (draw-v : S .drawVector (drawn .manager) drawnVector)
+    (add : S .commit (drawnVector .manager) (length opsTAV) opsTAV frameTAV (appended afterTAV 1 26) frameTAV) (guard : S .pin afterTAV unpinned (Pinned 1) once)
+    (delete : S .commit afterTAV (length opsW) opsW frameW (appended (afterW (vectorOf 1 2)) 2 12) frameW) where
+  on-W : (es : List Event) → Chain S (commitW .after) es → Holds S begun (draws ∷ drawsVector ∷ commitTAV ∷ pinTAV ∷ commitW ∷ es)
+  on-W es c =
+      claim begun (draws ∷ drawsVector ∷ commitTAV ∷ pinTAV ∷ commitW ∷ es) (begins S fresh) (
         refl,
-        committed S (draws .after) opsTA afterTA 1 18 frameTA 0 says-TA,
+        drew S draw,
         (
           refl,
-          pinned S (commitTA .after) 1 once pin-says-TA,
-          (refl, committed S (pinTA .after) opsD (afterD (pair 1 2)) 2 10 frameD 0 says-D, tt),
+          drew-vector S draw-v,
+          (
+            refl,
+            committed S (drawsVector .after) opsTAV afterTAV 1 26 frameTAV 0 add,
+            (
+              refl,
+              pinned S (commitTAV .after) 1 once guard,
+              (refl, committed S (pinTAV .after) opsW (afterW (vectorOf 1 2)) 2 12 frameW 0 delete, c),
+            ),
+          ),
         ),
-      ),
+      )
+
+-- a show without vectors, where the record has one
+no-vector : (S : Steps) (w : World) (d : ℕ) (k : List ℕ) → S .showVectors (w .manager) (w .book) d [] [] [] (Shown 0) [] [] [] → ShowsVectors S w d (k ∷ []) → ⊥
+no-vector S w d k says h = apart (ap (λ (x : Told). x .number) (h [] [] [] (Shown 0) [] [] [] says .0)) refl
+
+abbrev recordedVector : List ℕ
+recordedVector = 0 ∷ 0 ∷ 0 ∷ []
+
+-- a show of epoch 1 gives the vectors that epoch 2 has
+current-vectors : ShowVectorsSays (afterW (vectorOf 1 2)) once 2 [] [] [] (Shown 0) [] [] []
+unfolding rows isName isNameByte isDigit isLower goneAt shownAt
+current-vectors = record { answer = refl; tables = refl; rowsets = refl; vectors = refl }
+
+shows-current-vectors : Refuted showsCurrentVectors
+shows-current-vectors claim =
+    let S = showsCurrentVectors in
+    let h = on-W S claim fresh-says draw-says draw-vector-says says-TAV pin-says-TAV says-W [] tt in
+    no-vector S (commitW .after) 1 recordedVector current-vectors (h .agrees .vectors 1 refl)
+
+-- a vacuum lets the vector go
+vectors-lost : VacuumsTo 0 portBound portBound unguarded (afterW (vectorOf 1 2)) once (5 ∷ []) (5 ∷ []) (listedBy (afterW noVectors) 0) (5 ∷ []) (5 ∷ [])
+unfolding rows isName isNameByte isDigit isLower goneAt shownAt
+vectors-lost =
+    record {
+      answer = refl;
+      tables = refl;
+      rowsets = refl;
+      manager = record { fits = few-all 2 1 1 1 tables (pair 1 0) noVectors 38 (omega arith) (omega arith) (omega arith); state = refl };
+    }
+
+lost-vectors : ShowVectorsSays (afterW noVectors) once 1 [] [] [] (Shown 0) [] [] []
+unfolding rows isName isNameByte isDigit isLower goneAt shownAt
+lost-vectors = record { answer = refl; tables = refl; rowsets = refl; vectors = refl }
+
+loses-vectors : Refuted losesVectors
+loses-vectors claim =
+    let S = losesVectors in
+    let v = vacuums (commitW .after) (afterW noVectors) 0 (5 ∷ []) (5 ∷ []) in
+    let h =
+    on-W S claim fresh-says draw-says draw-vector-says says-TAV pin-says-TAV says-W (v ∷ []) (
+      refl,
+      vacuumed S (commitW .after) (afterW noVectors) 0 (5 ∷ []) (5 ∷ []) vectors-lost,
+      tt,
     ) in
-    apart (ap (λ (x : Told). x .number) (h .agrees .pairs 1 refl [] [] (Shown 0) [] [] current-says .0)) refl
+    no-vector S (v .after) 1 recordedVector lost-vectors (h .agrees .vectors 1 refl)
 
 -- An empty commit, then one that creates the table.
 abbrev opsNone : List Operation
@@ -699,6 +873,69 @@ forgets-ids claim =
     ) in
     true≢false (sym (h .agrees .next))
 
+-- The table is created at epoch 1. The append, and the rewritten manifest, lack their last line.
+abbrev createdT : VersionManager
+createdT = holding 1 1 0 tables noPairs 12
+
+abbrev createsT : ℕ → Event
+createsT n = commits begun opsT createdT 1 n frameT 0
+
+fits-T : Fit (createdT .inner)
+fits-T = few 1 1 0 tables noPairs 12 (omega arith) (omega arith)
+
+early-T : CommitEndsEarly (outcomeOf (first .manager) (length opsT) opsT 12) (first .manager) opsT frameT (appended createdT 1 10) frameT
+unfolding rows stepOf textOf fieldsText digits digitsBy isName isNameByte isDigit isLower goneAt shownAt
+early-T = (refl, record { fits = fits-T; state = refl }, refl)
+
+unended-opens : ReopenSays (take 10 frameT) rewritten (rewrittenBy empty 12) rewritten
+unfolding rows textOf fieldsText digits digitsBy lines linesOn lineOf lineBy tableFields fieldAt namedAt readAt readIn readOn isName isNameByte isDigit isLower
+unended-opens = (refl, record { fits = few 1 0 0 noTables noPairs 12 (omega arith) (omega arith); state = refl }, no-pins, refl)
+
+appends-no-end : Refuted appendsNoEnd
+unfolding rows
+appends-no-end claim =
+    let S = appendsNoEnd in
+    let w = createsT 10 .after in
+    let o = reopens w empty 12 rewritten in
+    let h =
+    claim begun (createsT 10 ∷ o ∷ []) (begins S fresh-says) (
+      refl,
+      committed S begun opsT createdT 1 10 frameT 0 early-T,
+      (refl, reopened S w empty 12 rewritten unended-opens, tt),
+    ) in
+    no-table S (o .after) 1 recorded empty-shows (h .agrees .tables)
+
+says-created : CommitSays (first .manager) (length opsT) opsT frameT (appended createdT 1 12) frameT
+unfolding rows stepOf textOf fieldsText digits digitsBy isName isNameByte isDigit isLower goneAt shownAt
+says-created = (refl, record { fits = fits-T; state = refl }, refl)
+
+early-found : ReopenEndsEarly (reopenOf frameT 20) (rewrittenT 49) (rewrittenBy (found 1) 18) (rewrittenT 49)
+unfolding rows textOf fieldsText digits digitsBy lines linesOn lineOf lineBy tableFields fieldAt namedAt readAt readIn readOn isName isNameByte isDigit isLower goneAt shownAt
+early-found = (refl, record { fits = few 1 1 0 tables noPairs 20 (omega arith) (omega arith); state = refl }, no-pins, refl)
+
+early-empty : ReopenEndsEarly (reopenOf (take 18 (rewrittenT 49)) 12) rewritten (rewrittenBy empty 10) rewritten
+unfolding rows textOf fieldsText digits digitsBy lines linesOn lineOf lineBy threeFields tableFields fieldAt namedAt readAt readIn readOn isName isNameByte isDigit isLower
+early-empty = (refl, record { fits = few 1 0 0 noTables noPairs 12 (omega arith) (omega arith); state = refl }, no-pins, refl)
+
+rewrites-no-end : Refuted rewritesNoEnd
+unfolding rows
+rewrites-no-end claim =
+    let S = rewritesNoEnd in
+    let w = createsT 12 .after in
+    let o = reopens w (found 1) 18 (rewrittenT 49) in
+    let q = reopens (o .after) empty 10 rewritten in
+    let h =
+    claim begun (createsT 12 ∷ o ∷ q ∷ []) (begins S fresh-says) (
+      refl,
+      committed S begun opsT createdT 1 12 frameT 0 says-created,
+      (
+        refl,
+        reopened S w (found 1) 18 (rewrittenT 49) early-found,
+        (refl, reopened S (o .after) empty 10 rewritten early-empty, tt),
+      ),
+    ) in
+    no-table S (q .after) 1 recorded empty-shows (h .agrees .tables)
+
 -- a reopen is refused, though it is lent enough
 module _ (out : List ℕ) (long : longestRewritten ≤ length out) where
   abbrev refusal : Event
@@ -723,23 +960,41 @@ module _ (out : List ℕ) (long : longestRewritten ≤ length out) where
 refuses-reopen : Refuted refusesReopen
 refuses-reopen = opens-never (replicate longestRewritten 0) (rw (length-replicate {0} {A = ℕ} longestRewritten 0) (omega arith))
 
+-- a show of epoch 0 is refused by 24 before any call
+no-epoch : TablesShown (heldBy (first .manager)) 0 (Refused EpochNotPinned) [] [] [] [] (NotShown EpochNotPinned) [] [] [] []
+no-epoch = record { answer = refl; ids = refl; shapes = refl; lengths = refl; names = refl }
+
+refuses-show : Refuted refusesShow
+refuses-show claim =
+    let S = refusesShow in
+    let h = claim begun [] (begins S fresh-says) tt in
+    apart (ap (λ (x : Told). x .number) (h .agrees .tables [] [] [] [] (NotShown EpochNotPinned) [] [] [] [] no-epoch .0)) refl
+
 pub wrong-refuted : WrongRefuted
 wrong-refuted =
     record {
       keepsSets = keeps-sets;
       leavesEpoch = leaves-epoch;
       judgesNothing = judges-nothing;
+      forgetsWaiting = forgets-waiting;
+      appendsNoEnd = appends-no-end;
       answersNext = answers-next;
       countsNoPin = counts-no-pin;
       keepsPin = keeps-pin;
       listsNothing = lists-nothing;
       keepsListed = keeps-listed;
+      countsOneMore = counts-one-more;
       keepsOwnEpoch = keeps-own-epoch;
       ignoresPins = ignores-pins;
+      losesPairs = loses-pairs;
+      losesVectors = loses-vectors;
       opensEmpty = opens-empty;
       readsFirst = reads-first;
       countsEarly = counts-early;
       forgetsIds = forgets-ids;
+      rewritesNoEnd = rewrites-no-end;
       refusesReopen = refuses-reopen;
       showsCurrent = shows-current;
+      showsCurrentVectors = shows-current-vectors;
+      refusesShow = refuses-show;
     }

@@ -3,52 +3,75 @@ use mathlib.Core.Path.{_≡_}
 use mathlib.Core.Bool.{cond}
 use mathlib.Core.List.{List, [], _∷_, _++_, map}
 use Prim.Native.Nat.{ℕ, _+_, _-_, _≤_}
-use lib.ListN.{length}
+use lib.ListN.{length, take}
 use Rattle.lists.specs.Order.{same}
+use Rattle.lists.specs.Keyed.{keep}
 use Rattle.lists.specs.Written.{over}
 use Rattle.text.specs.Class.{newline}
-use Rattle.ids.specs.declared.refusal.Refusal.the-variants.{BadManager, OutputTooShort}
+use Rattle.ids.specs.declared.refusal.Refusal.the-variants.{BadManager, EpochNotPinned, OutputTooShort}
+use Rattle.ids.specs.declared.refusal.Verdict.the-variants.{Accepted, Refused}
 use Rattle.ids.specs.Verdicts.{_⇒_, judged}
 use Rattle.ids.specs.Answers.{told, after}
 use Rattle.manifest.specs.Operations.{Operation, end}
 use Rattle.manifest.specs.Lines.{lineText}
 use Rattle.manifest.specs.Split.{restOn, lines, joined}
-use Rattle.snapshot.specs.Entries.{field}
+use Rattle.snapshot.specs.Entries.{Entry, field, waits}
 use Rattle.version_state.specs.State.{State, withTables, withPairs, withVectors, withNext, withEpoch}
 use Rattle.pins.specs.declared.PinBook.{PinBook}
-use Rattle.pins.specs.Book.{PinEntry, pinsOf, bound}
+use Rattle.pins.specs.Book.{PinEntry, pinsOf, bound, Keeps}
 use Rattle.operations.specs.Effect.{applied}
 use Rattle.operations.specs.Steps.{Outcome, left, stopped, onward}
-use Rattle.commit.specs.Commit.{firstRules, finishOf}
-use Rattle.vacuum.specs.LetGo.{vacuumList, vacuumed}
+use Rattle.commit.specs.Commit.{appendOf, firstRules, finishOf, commitOf}
+use Rattle.vacuum.specs.LetGo.{vacuumList, staysBy}
 use Rattle.vacuum.specs.Says.{boundOf, listOf}
 use Rattle.show.specs.declared.ShowAnswer.{ShowAnswer}
+use Rattle.show.specs.Says.{TablesShown}
 use Rattle.version_manager.specs.declared.VersionManager.{VersionManager}
 use Rattle.version_manager.specs.declared.Committed.{Committed}
 use Rattle.version_manager.specs.declared.Vacuumed.{Vacuumed}
-use Rattle.version_manager.specs.Managers.{heldBy, badManager, HandsBack}
-use Rattle.version_manager.specs.Commit.{outcomeOf, CommitEnds}
+use Rattle.version_manager.specs.Managers.{heldBy, badManager, Manages, HandsBack}
+use Rattle.version_manager.specs.Commit.{outcomeOf, commitTold, CommitEnds}
 use Rattle.version_manager.specs.Vacuum.{vacuumTold, vacuumVerdict}
-use Rattle.version_manager.specs.Show.{ShowPairsSays}
+use Rattle.version_manager.specs.Show.{ShowPairsSays, ShowVectorsSays}
 use Rattle.pinning.specs.declared.PinAnswer.{PinAnswer}
 use Rattle.pinning.specs.declared.UnpinAnswer.{UnpinAnswer}
 use Rattle.pinning.specs.Counts.{withPin}
 use Rattle.pinning.specs.Says.{current, BookAfter, pinVerdict, pinTold, unpinVerdict, isDue, flag, unpinTold, readyOf}
-use Rattle.replay.specs.Replay.{Result, refused, andThen, replayOf}
+use Rattle.replay.specs.Replay.{Result, refused, given, andThen, stands, replayOf}
+use Rattle.rewrite.specs.Rewritten.{rewrittenOf}
 use Rattle.storage.specs.declared.Reopened.{Reopened}
-use Rattle.storage.specs.Reopen.{openedOf, ReopenIs, ReopenSays}
+use Rattle.storage.specs.Reopen.{openedOf, reopenOf, reopenTold, ReopenIs, ReopenSays}
 use Rattle.plain_record.specs.Run.{Steps, port}
 use Rattle.plain_record.specs.Claim.{Claim}
 
+-- what a call may return and leave
+abbrev pub Commits : Type 1
+Commits = VersionManager → ℕ → List Operation → List ℕ → Committed → List ℕ → Type 0
+
+abbrev pub PinsBy : Type 1
+PinsBy = VersionManager → PinBook → PinAnswer → PinBook → Type 0
+
+abbrev pub Unpins : Type 1
+Unpins = VersionManager → ℕ → PinBook → UnpinAnswer → PinBook → Type 0
+
+abbrev pub Vacuums : Type 1
+Vacuums = VersionManager → PinBook → List ℕ → List ℕ → Vacuumed → List ℕ → List ℕ → Type 0
+
+abbrev pub Reopens : Type 1
+Reopens = List ℕ → List ℕ → Reopened → List ℕ → Type 0
+
+abbrev pub ShowsTablesBy : Type 1
+ShowsTablesBy = VersionManager → PinBook → ℕ → List ℕ → List ℕ → List ℕ → List ℕ → ShowAnswer → List ℕ → List ℕ → List ℕ → List ℕ → Type 0
+
+abbrev pub ShowsPairsBy : Type 1
+ShowsPairsBy = VersionManager → PinBook → ℕ → List ℕ → List ℕ → ShowAnswer → List ℕ → List ℕ → Type 0
+
+abbrev pub ShowsVectorsBy : Type 1
+ShowsVectorsBy = VersionManager → PinBook → ℕ → List ℕ → List ℕ → List ℕ → ShowAnswer → List ℕ → List ℕ → List ℕ → Type 0
+
 -- the port with these calls in place of its own
-abbrev pub exchanged : (VersionManager → ℕ → List Operation → List ℕ → Committed → List ℕ → Type 0)
-    → (VersionManager → PinBook → PinAnswer → PinBook → Type 0)
-    → (VersionManager → ℕ → PinBook → UnpinAnswer → PinBook → Type 0)
-    → (VersionManager → PinBook → List ℕ → List ℕ → Vacuumed → List ℕ → List ℕ → Type 0)
-    → (List ℕ → List ℕ → Reopened → List ℕ → Type 0)
-    → (VersionManager → PinBook → ℕ → List ℕ → List ℕ → ShowAnswer → List ℕ → List ℕ → Type 0)
-    → Steps
-exchanged c p u v o s =
+abbrev pub exchanged : Commits → PinsBy → Unpins → Vacuums → Reopens → ShowsTablesBy → ShowsPairsBy → ShowsVectorsBy → Steps
+exchanged c p u v o t s x =
     record {
       fresh = port .fresh;
       drawRowset = port .drawRowset;
@@ -58,29 +81,29 @@ exchanged c p u v o s =
       unpin = u;
       vacuum = v;
       reopen = o;
-      showTables = port .showTables;
+      showTables = t;
       showPairs = s;
-      showVectors = port .showVectors;
+      showVectors = x;
     }
 
 -- with one of them
-abbrev pub committing : (VersionManager → ℕ → List Operation → List ℕ → Committed → List ℕ → Type 0) → Steps
-committing c = exchanged c (port .pin) (port .unpin) (port .vacuum) (port .reopen) (port .showPairs)
+abbrev pub committing : Commits → Steps
+committing c = exchanged c (port .pin) (port .unpin) (port .vacuum) (port .reopen) (port .showTables) (port .showPairs) (port .showVectors)
 
-abbrev pub pinning : (VersionManager → PinBook → PinAnswer → PinBook → Type 0) → Steps
-pinning p = exchanged (port .commit) p (port .unpin) (port .vacuum) (port .reopen) (port .showPairs)
+abbrev pub pinning : PinsBy → Steps
+pinning p = exchanged (port .commit) p (port .unpin) (port .vacuum) (port .reopen) (port .showTables) (port .showPairs) (port .showVectors)
 
-abbrev pub unpinning : (VersionManager → ℕ → PinBook → UnpinAnswer → PinBook → Type 0) → Steps
-unpinning u = exchanged (port .commit) (port .pin) u (port .vacuum) (port .reopen) (port .showPairs)
+abbrev pub unpinning : Unpins → Steps
+unpinning u = exchanged (port .commit) (port .pin) u (port .vacuum) (port .reopen) (port .showTables) (port .showPairs) (port .showVectors)
 
-abbrev pub vacuuming : (VersionManager → PinBook → List ℕ → List ℕ → Vacuumed → List ℕ → List ℕ → Type 0) → Steps
-vacuuming v = exchanged (port .commit) (port .pin) (port .unpin) v (port .reopen) (port .showPairs)
+abbrev pub vacuuming : Vacuums → Steps
+vacuuming v = exchanged (port .commit) (port .pin) (port .unpin) v (port .reopen) (port .showTables) (port .showPairs) (port .showVectors)
 
-abbrev pub reopening : (List ℕ → List ℕ → Reopened → List ℕ → Type 0) → Steps
-reopening o = exchanged (port .commit) (port .pin) (port .unpin) (port .vacuum) o (port .showPairs)
+abbrev pub reopening : Reopens → Steps
+reopening o = exchanged (port .commit) (port .pin) (port .unpin) (port .vacuum) o (port .showTables) (port .showPairs) (port .showVectors)
 
-abbrev pub showing : (VersionManager → PinBook → ℕ → List ℕ → List ℕ → ShowAnswer → List ℕ → List ℕ → Type 0) → Steps
-showing s = exchanged (port .commit) (port .pin) (port .unpin) (port .vacuum) (port .reopen) s
+abbrev pub showing : ShowsTablesBy → ShowsPairsBy → ShowsVectorsBy → Steps
+showing t s x = exchanged (port .commit) (port .pin) (port .unpin) (port .vacuum) (port .reopen) t s x
 
 -- a commit raises the epoch and the next ids, and keeps the old sets
 abbrev pub withSets : State → Outcome → Outcome
@@ -116,6 +139,35 @@ unjudged m n os room =
 abbrev pub judgesNothing : Steps
 judgesNothing = committing (λ m n os out r out′. CommitEnds (unjudged m n os (length out)) m os out r out′)
 
+-- a commit judges by the pairs that do not wait, and holds what it adds beside those that do
+abbrev pub standing : State → State
+standing s = withPairs s (keep stands (s .pairs))
+
+abbrev pub beside : List Entry → Outcome → Outcome
+beside l (left s) = left (withPairs s (l ++ s .pairs))
+beside l (stopped k) = stopped k
+
+abbrev pub unaware : VersionManager → ℕ → List Operation → ℕ → Outcome
+unaware m n os room =
+    beside (keep waits (heldBy m .pairs)) (onward (judged ((badManager m ⇒ BadManager) ∷ [])) (commitOf (standing (heldBy m)) n os room))
+
+abbrev pub forgetsWaiting : Steps
+forgetsWaiting = committing (λ m n os out r out′. CommitEnds (unaware m n os (length out)) m os out r out′)
+
+-- a commit appends no `E`
+abbrev pub unended : List ℕ → List ℕ
+unended l = take (length l - (length (lineText end) + 1)) l
+
+abbrev pub CommitEndsEarly : Outcome → VersionManager → List Operation → List ℕ → Committed → List ℕ → Type 0
+CommitEndsEarly (left s) m os out r out′ =
+    (commitTold (r .answer) ≡ told Accepted (s .epoch ∷ length (unended (appendOf os)) ∷ []))
+    × Manages (r .manager) s
+    × (out′ ≡ over (unended (appendOf os)) out)
+CommitEndsEarly (stopped k) m os out r out′ = CommitEnds (stopped k) m os out r out′
+
+abbrev pub appendsNoEnd : Steps
+appendsNoEnd = committing (λ m n os out r out′. CommitEndsEarly (outcomeOf m n os (length out)) m os out r out′)
+
 -- a pin answers the next epoch
 pub record PinsNext (m : VersionManager) (b : PinBook) (a : PinAnswer) (b′ : PinBook) : Type 0 where
   pub answer : pinTold a ≡ told (pinVerdict m b) ((current m + 1) ∷ [])
@@ -141,26 +193,34 @@ pub record UnpinsNothing (m : VersionManager) (e : ℕ) (b : PinBook) (a : Unpin
 abbrev pub keepsPin : Steps
 keepsPin = unpinning UnpinsNothing
 
--- a vacuum lists up to one epoch and lets go up to another; its verdict is the port's
-pub record VacuumsTo (to gone : VersionManager → PinBook → ℕ) (m : VersionManager) (b : PinBook) (ts rs : List ℕ) (r : Vacuumed) (ts′ rs′ : List ℕ) : Type 0 where
-  pub answer : vacuumTold (r .answer) ≡ told (vacuumVerdict m b (length ts) (length rs)) (length (vacuumList (to m b) (heldBy m)) ∷ [])
+-- what is left where pairs are let go up to one epoch and vectors up to another
+abbrev pub letGo : ℕ → ℕ → State → State
+letGo p v s = withVectors (withPairs s (keep (staysBy p) (s .pairs))) (keep (staysBy v) (s .vectors))
+
+-- a vacuum lists up to an epoch, answers so many more than it lists, and lets go up to other epochs; its verdict is the port's
+pub record VacuumsTo (more : ℕ) (to pairsTo vectorsTo : VersionManager → PinBook → ℕ) (m : VersionManager) (b : PinBook) (ts rs : List ℕ) (r : Vacuumed) (ts′ rs′ : List ℕ) : Type 0 where
+  pub answer : vacuumTold (r .answer) ≡ told (vacuumVerdict m b (length ts) (length rs)) ((length (vacuumList (to m b) (heldBy m)) + more) ∷ [])
   pub tables : ts′ ≡ after (vacuumVerdict m b (length ts) (length rs)) (over (field 0 (vacuumList (to m b) (heldBy m))) ts) ts
   pub rowsets : rs′ ≡ after (vacuumVerdict m b (length ts) (length rs)) (over (field 1 (vacuumList (to m b) (heldBy m))) rs) rs
-  pub manager : HandsBack (vacuumVerdict m b (length ts) (length rs)) m (vacuumed (gone m b) (heldBy m)) (r .manager)
+  pub manager : HandsBack (vacuumVerdict m b (length ts) (length rs)) m (letGo (pairsTo m b) (vectorsTo m b) (heldBy m)) (r .manager)
 
 abbrev pub nothing : VersionManager → PinBook → ℕ
 nothing m b = 0
 
 -- it lists nothing
 abbrev pub listsNothing : Steps
-listsNothing = vacuuming (VacuumsTo nothing nothing)
+listsNothing = vacuuming (VacuumsTo 0 nothing nothing nothing)
 
 -- it lists what the port lists, and never lets go
 abbrev pub portBound : VersionManager → PinBook → ℕ
 portBound m b = boundOf (heldBy m) b
 
 abbrev pub keepsListed : Steps
-keepsListed = vacuuming (VacuumsTo portBound nothing)
+keepsListed = vacuuming (VacuumsTo 0 portBound nothing nothing)
+
+-- it does what the port does, and answers one more
+abbrev pub countsOneMore : Steps
+countsOneMore = vacuuming (VacuumsTo 1 portBound portBound portBound)
 
 -- a pin keeps what was deleted at its own epoch too
 abbrev pub lowered : PinEntry → PinEntry
@@ -170,14 +230,21 @@ abbrev pub loweredBound : VersionManager → PinBook → ℕ
 loweredBound m b = bound (current m) (map lowered (pinsOf b))
 
 abbrev pub keepsOwnEpoch : Steps
-keepsOwnEpoch = vacuuming (VacuumsTo loweredBound loweredBound)
+keepsOwnEpoch = vacuuming (VacuumsTo 0 loweredBound loweredBound loweredBound)
 
 -- no pin keeps a deletion from it
 abbrev pub unguarded : VersionManager → PinBook → ℕ
 unguarded m b = current m
 
 abbrev pub ignoresPins : Steps
-ignoresPins = vacuuming (VacuumsTo unguarded unguarded)
+ignoresPins = vacuuming (VacuumsTo 0 unguarded unguarded unguarded)
+
+-- it lists what the port lists, and lets go of pairs, or of vectors, that a pin still shows
+abbrev pub losesPairs : Steps
+losesPairs = vacuuming (VacuumsTo 0 portBound unguarded portBound)
+
+abbrev pub losesVectors : Steps
+losesVectors = vacuuming (VacuumsTo 0 portBound portBound unguarded)
 
 -- a reopen finds nothing in any manifest
 abbrev pub opensEmpty : Steps
@@ -212,13 +279,33 @@ forgotten src room = andThen (replayOf src) (λ s. openedOf room (withNext s 0 0
 abbrev pub forgetsIds : Steps
 forgetsIds = reopening (λ src out. ReopenIs (forgotten src (length out)) out)
 
+-- a reopen writes no `E`
+abbrev pub ReopenEndsEarly : Result State → List ℕ → Reopened → List ℕ → Type 0
+ReopenEndsEarly (given s) out r out′ =
+    (reopenTold (r .answer) ≡ told Accepted (length (unended (rewrittenOf s)) ∷ []))
+    × Manages (r .manager) s
+    × Keeps (r .book) []
+    × (out′ ≡ over (unended (rewrittenOf s)) out)
+ReopenEndsEarly (refused k) out r out′ = ReopenIs (refused k) out r out′
+
+abbrev pub rewritesNoEnd : Steps
+rewritesNoEnd = reopening (λ src out. ReopenEndsEarly (reopenOf src (length out)) out)
+
 -- a reopen is always refused: no buffer is long enough
 abbrev pub refusesReopen : Steps
 refusesReopen = reopening (λ src. ReopenIs (refused OutputTooShort))
 
 -- a show of pairs gives the current epoch's, whichever is asked for
 abbrev pub showsCurrent : Steps
-showsCurrent = showing (λ m b e. ShowPairsSays m b (current m))
+showsCurrent = showing (port .showTables) (λ m b e. ShowPairsSays m b (current m)) (port .showVectors)
+
+-- and one of vectors
+abbrev pub showsCurrentVectors : Steps
+showsCurrentVectors = showing (port .showTables) (port .showPairs) (λ m b e. ShowVectorsSays m b (current m))
+
+-- a show of tables is always refused: no epoch is the current one
+abbrev pub refusesShow : Steps
+refusesShow = showing (λ m b e. TablesShown (heldBy m) e (Refused EpochNotPinned)) (port .showPairs) (port .showVectors)
 
 abbrev pub Refuted : Steps → Type 0
 Refuted S = Claim S → ⊥
@@ -227,16 +314,24 @@ pub record WrongRefuted : Type 0 where
   pub keepsSets : Refuted keepsSets
   pub leavesEpoch : Refuted leavesEpoch
   pub judgesNothing : Refuted judgesNothing
+  pub forgetsWaiting : Refuted forgetsWaiting
+  pub appendsNoEnd : Refuted appendsNoEnd
   pub answersNext : Refuted answersNext
   pub countsNoPin : Refuted countsNoPin
   pub keepsPin : Refuted keepsPin
   pub listsNothing : Refuted listsNothing
   pub keepsListed : Refuted keepsListed
+  pub countsOneMore : Refuted countsOneMore
   pub keepsOwnEpoch : Refuted keepsOwnEpoch
   pub ignoresPins : Refuted ignoresPins
+  pub losesPairs : Refuted losesPairs
+  pub losesVectors : Refuted losesVectors
   pub opensEmpty : Refuted opensEmpty
   pub readsFirst : Refuted readsFirst
   pub countsEarly : Refuted countsEarly
   pub forgetsIds : Refuted forgetsIds
+  pub rewritesNoEnd : Refuted rewritesNoEnd
   pub refusesReopen : Refuted refusesReopen
   pub showsCurrent : Refuted showsCurrent
+  pub showsCurrentVectors : Refuted showsCurrentVectors
+  pub refusesShow : Refuted refusesShow
