@@ -25,9 +25,9 @@ use Rattle.version_manager.specs.declared.Committed.{Committed}
 use Rattle.version_manager.specs.Managers.{heldBy, badManager, Manages}
 use Rattle.version_manager.specs.Commit.{outcomeOf, commitTold, CommitEnds}
 use Rattle.pinning.proofs.Laws.{pin-laws}
-use Rattle.plain_record.specs.Sets.{Sets, sets, applyAll}
+use Rattle.plain_record.specs.Sets.{Sets, applyAll}
 use Rattle.plain_record.specs.Calls.{commit}
-use Rattle.plain_record.specs.Plain.{byEpochAndPair, deletions, await, setsAt, counted, idsOf, Record, recorded, accepts, turn}
+use Rattle.plain_record.specs.Plain.{byEpochAndPair, deletions, await, setsAt, counted, idsOf, Record, accepts, turn}
 use Rattle.plain_record.specs.Run.{port, World, world, isAccepted, afterCommit, DidCommit}
 use Rattle.plain_record.specs.Claim.{waitingIn, waitingOf, belowNext}
 use Rattle.plain_record.proofs.Invariant.{plainSets, Inv}

@@ -1,12 +1,9 @@
 -- Draws keep the invariant: a next id rises by one, and all else is as before. Assumes nothing.
-use mathlib.Core.Path.{_≡_, refl, sym, subst, _∙_}
-use mathlib.Core.Bool.{true, cond}
+use mathlib.Core.Path.{refl, sym, subst, _∙_}
+use mathlib.Core.Bool.{cond}
 use mathlib.Core.List.{List, [], _∷_}
-use Prim.Native.Nat.{ℕ, _+_, _≤_}
+use Prim.Native.Nat.{ℕ, _+_}
 use native.Mathlib.Omega.{arith}
-use borrow.Author.Tests.{lt-ltb, ltb-true}
-use Rattle.lists.specs.Keyed.{allOf}
-use Rattle.lists.proofs.Keyed.{all-map, allOf-all, all-allOf}
 use Rattle.ids.specs.declared.refusal.Verdict.{Verdict}
 use Rattle.ids.specs.Answers.{Told}
 use Rattle.version_state.specs.State.{State}
@@ -15,11 +12,10 @@ use Rattle.version_manager.specs.Managers.{heldBy, HandsBack}
 use Rattle.version_manager.specs.Draw.{rowsetVerdict, vectorVerdict, rowsetDrawn, vectorDrawn}
 use Rattle.version_manager.proofs.Laws.{draw-laws}
 use Rattle.plain_record.specs.Calls.{drawRowset, drawVector}
-use Rattle.plain_record.specs.Plain.{Id, tableId, rowsetId, vectorId, Plain, Record, turn}
+use Rattle.plain_record.specs.Plain.{Plain, Record, turn}
 use Rattle.plain_record.specs.Run.{World, world, isAccepted, port, DrewRowset, DrewVector}
-use Rattle.plain_record.specs.Claim.{belowNext}
 use Rattle.plain_record.proofs.Invariant.{Filed, Inv}
-use Rattle.plain_record.proofs.CommitIds.{Rise, next-rise}
+use Rattle.plain_record.proofs.CommitIds.{next-rise}
 use Rattle.plain_record.proofs.Stands.{Stands, stands-of, accepted-stands, refused-stands, by-verdict}
 
 filed-rowset : (f : List ℕ) (s : State) (p : Plain) → Filed f s p → Filed f (rowsetDrawn s) p

@@ -1,47 +1,41 @@
 -- A reopen keeps what holds between calls, and is never refused where enough is lent. Assumes nothing.
-use mathlib.Core.Path.{_≡_, refl, sym, ap, subst, _∙_}
+use mathlib.Core.Path.{_≡_, refl, sym, ap, _∙_}
 use mathlib.Core.Bool.{Bool, true, false, cond}
-use mathlib.Core.List.{List, [], _∷_, _++_, map}
+use mathlib.Core.List.{List, [], _∷_, map}
 use Prim.Native.Nat.{ℕ, zero, suc, _+_, _≤_}
 use native.Mathlib.Omega.{arith}
-use borrow.Author.Tests.{le-ltb, ltb-false}
-use lib.Dec.{ltb, eqb}
-use lib.ListN.{length, take, drop}
+use borrow.Author.Tests.{le-ltb}
+use lib.Dec.{ltb}
+use lib.ListN.{length, take}
 use lib.Seq.{take-all}
-use Rattle.lists.specs.Keyed.{allOf, keep, arranged}
+use Rattle.lists.specs.Keyed.{arranged}
 use Rattle.lists.specs.Written.{over}
-use Rattle.lists.proofs.Tests.{by-cases, clash}
+use Rattle.lists.proofs.Tests.{by-cases}
 use Rattle.lists.proofs.Keyed.{All}
 use Rattle.ids.specs.Answers.{Told, told}
-use Rattle.ids.specs.declared.refusal.Verdict.the-variants.{Accepted, Refused}
-use Rattle.ids.specs.declared.refusal.Refusal.the-variants.{OutputTooShort}
-use Rattle.snapshot.specs.Entries.{Entry, byIds, byDeletion, waits}
-use Rattle.version_state.specs.State.{State, start, stateOf, withEpoch, Hands, pairsAt, vectorsAt}
-use Rattle.ids.specs.Limits.{longestManifest}
+use Rattle.ids.specs.declared.refusal.Verdict.the-variants.{Accepted}
+use Rattle.snapshot.specs.Entries.{Entry, byDeletion}
+use Rattle.version_state.specs.State.{State, stateOf, withEpoch, Hands, pairsAt, vectorsAt}
 use Rattle.pins.specs.declared.PinBook.{PinBook}
-use Rattle.pins.specs.Book.{PinEntry, pinsOf, badBook, bound, Keeps}
+use Rattle.pins.specs.Book.{pinsOf, badBook, bound, Keeps}
 use Rattle.version_manager.specs.declared.VersionManager.{VersionManager}
 use Rattle.rewrite.specs.Rewritten.{rewrittenOf, longestRewritten}
-use Rattle.replay.specs.Replay.{Result, refused, given, andThen, reopened, stands, replayOf}
-use Rattle.storage.specs.declared.Reopened.{Reopened}
-use Rattle.storage.specs.Reopen.{openedOf, reopenOf, reopenTold, ReopenIs}
+use Rattle.replay.specs.Replay.{given, stands, replayOf}
 use Rattle.recovery.specs.Sets.{setsOf}
 use Rattle.recovery.specs.Holds as manifest
-use Rattle.recovery.proofs.SoundState.{Added}
 use Rattle.recovery.proofs.SoundReading.{Whole, whole-replayed}
 use Rattle.recovery.proofs.Sound.{replay-sound, replay-room}
 use Rattle.recovery.proofs.Again.{replay-again}
 use Rattle.recovery.proofs.Appending.{holds-replayed}
-use Rattle.plain_record.specs.Sets.{Sets, none}
+use Rattle.plain_record.specs.Sets.{Sets}
 use Rattle.plain_record.specs.Calls.{reopen}
-use Rattle.plain_record.specs.Plain.{Plain, epochOf, setsAt, kept, Record, recorded, turn}
-use Rattle.plain_record.specs.Run.{port, World, world, isAccepted, value, afterReopen, DidReopen}
-use Rattle.plain_record.specs.Claim.{pinsIn, waitingIn, waitingOf, belowNext}
-use Rattle.plain_record.proofs.Invariant.{plainTable, plainSets, Filed, Torn, Inv}
-use Rattle.plain_record.proofs.CommitIds.{Rise, next-rise}
+use Rattle.plain_record.specs.Plain.{Plain, setsAt, kept, Record, recorded, turn}
+use Rattle.plain_record.specs.Run.{port, World, world, isAccepted, DidReopen}
+use Rattle.plain_record.specs.Claim.{waitingIn}
+use Rattle.plain_record.proofs.Invariant.{plainTable, Torn, Inv}
+use Rattle.plain_record.proofs.CommitIds.{next-rise}
 use Rattle.plain_record.proofs.CommitFile.{append-taken}
 use Rattle.plain_record.proofs.Stands.{inv-stays}
-use Rattle.plain_record.proofs.Refused.{refused-number}
 use Rattle.plain_record.proofs.Standing.{Standing, all-shown, none-waits, all-both}
 
 -- an empty book passes 28

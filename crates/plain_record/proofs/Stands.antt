@@ -4,14 +4,11 @@ use mathlib.Core.Bool.{Bool, true, false}
 use mathlib.Core.List.{List, map}
 use Prim.Native.Nat.{ℕ, _+_, _≤_}
 use native.Mathlib.Omega.{arith}
-use lib.Dec.{eqb}
 use lib.ListN.{List·getD-eq-default}
 use Rattle.lists.specs.Keyed.{allOf}
 use Rattle.ids.specs.declared.refusal.Refusal.{Refusal}
-use Rattle.ids.specs.declared.refusal.Refusal.the-variants.{ManifestTooLong, Malformed, TableConflict, OverLimit, RowsetWithoutTable, TooManyOperations, BadRecord, WrongCount, OutputTooShort, PinAtEpochZero, TableNotLive, PairNotShown, VectorNotShown, IdNotDrawn, NameTaken, StillHeld, LeftBehind, PinsFull, PinnedEpochsFull, EpochsFull, TablesFull, HeldFull, ManifestFull, EpochNotPinned, LockHeld, IdsUsedUp, LockNotHeld, BadPinBook, BadManager}
 use Rattle.ids.specs.declared.refusal.Verdict.{Verdict}
 use Rattle.ids.specs.declared.refusal.Verdict.the-variants.{Accepted, Refused}
-use Rattle.ids.specs.Refusals.{numberOf}
 use Rattle.ids.specs.Answers.{Told, told}
 use Rattle.version_state.specs.State.{State, pairsAt, vectorsAt}
 use Rattle.version_state.proofs.Facts.{sound-of}

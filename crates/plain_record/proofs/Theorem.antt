@@ -1,10 +1,10 @@
 -- Demand 3: every turn of a run keeps the invariant, and it holds at the start. Assumes nothing.
-use mathlib.Core.Path.{_≡_, refl, sym, ap, subst, _∙_}
-use mathlib.Core.List.{List, [], _∷_, map}
+use mathlib.Core.Path.{refl, sym, ap, subst, _∙_}
+use mathlib.Core.List.{List, [], map}
 use Prim.Native.Nat.{ℕ}
 use native.Mathlib.Omega.{arith}
 use Rattle.ids.specs.Answers.{Told}
-use Rattle.version_state.specs.State.{State, start, stateOf, withEpoch, pairsAt, vectorsAt}
+use Rattle.version_state.specs.State.{State, start, withEpoch, pairsAt, vectorsAt}
 use Rattle.version_manager.specs.declared.Opened.{Opened}
 use Rattle.version_manager.specs.Managers.{FreshSays}
 use Rattle.version_manager.proofs.Laws.{draw-laws}

@@ -37,7 +37,7 @@ use Rattle.plain_record.specs.Claim.{pinsIn, waitingIn, waitingOf, pairs
 use Rattle.plain_record.proofs.Invariant.{Inv}
 use Rattle.plain_record.proofs.Refused.{refused-number}
 use Rattle.plain_record.proofs.Stands.{Stands, accepted-stands, refused-stands, by-verdict}
-use Rattle.plain_record.proofs.CommitIds.{Rise, next-rise}
+use Rattle.plain_record.proofs.CommitIds.{next-rise}
 
 -- the entries that pass a test stay in order
 pub keep-arranged : {A : Type 0} (key : A → List ℕ) (q : A → Bool) (l : List A) → keep q (arranged key l) ≡ arranged key (keep q l)

@@ -51,7 +51,6 @@ use Rattle.rewrite.specs.Rewritten.{longestRewritten}
 use Rattle.storage.specs.declared.ReopenAnswer.the-variants.{Rewritten, Refused as NotOpened}
 use Rattle.storage.specs.Reopen.{reopenOf, ReopenIs, ReopenSays}
 use Rattle.plain_record.specs.Sets as plain
-use Rattle.plain_record.specs.Plain.{Pins}
 use Rattle.plain_record.specs.Calls.{drawRowset, drawVector, commit, pin, unpin, vacuum, reopen}
 use Rattle.plain_record.specs.Run.{Steps, World, world, Event, onward, afterCommit, afterReopen, pairsIn, Starts, Link, Chain}
 use Rattle.plain_record.specs.Claim.{Claim, Holds}

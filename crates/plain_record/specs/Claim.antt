@@ -7,7 +7,7 @@ use lib.Dec.{eqb, ltb}
 use lib.ListN.{length}
 use Rattle.lists.specs.Order.{same}
 use Rattle.lists.specs.Keyed.{keep, allOf, anyOf, arranged}
-use Rattle.snapshot.specs.Entries.{Entry, byDeletion, waits}
+use Rattle.snapshot.specs.Entries.{byDeletion, waits}
 use Rattle.version_state.specs.State.{State}
 use Rattle.pins.specs.Book.{PinEntry, pinsOf, mayShow}
 use Rattle.version_manager.specs.Managers.{heldBy}

@@ -1,6 +1,6 @@
 -- Worked examples of what both the port and the record rest on, against literals. Assumes nothing.
 use mathlib.Core.Path.{_≡_}
-use mathlib.Core.Bool.{Bool, true, false}
+use mathlib.Core.Bool.{true, false}
 use mathlib.Core.List.{List, [], _∷_}
 use Prim.Native.Nat.{ℕ}
 use Rattle.lists.specs.Order.{less}
@@ -9,7 +9,7 @@ use Rattle.manifest.specs.Operations.{addRowset, deleteRowset, createTable, ope
 use Rattle.manifest.specs.Lines.{lineOf}
 use Rattle.manifest.specs.Split.{lines}
 use Rattle.plain_record.specs.Sets.{none, itself, table, sets}
-use Rattle.plain_record.specs.Calls.{Call, commit, pin, vacuum, reopen}
+use Rattle.plain_record.specs.Calls.{Call, commit, pin, reopen}
 use Rattle.plain_record.specs.Plain.{pins, waitingAs, byEpochAndPair, plain, tableId, rowsetId, listed, Record, atStart, turn}
 
 -- the record after accepted calls

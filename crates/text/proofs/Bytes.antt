@@ -99,9 +99,3 @@ name-bytes-newline [] h = refl
 name-bytes-newline (b ∷ s) h =
     let t = both (isNameByte b) (allOf isNameByte s) h in
     rw (name-byte-newline b (t .0)) (name-bytes-newline s (t .1))
-
-pub name-bytes-comma : (s : List ℕ) → allOf isNameByte s ≡ true → anyOf isComma s ≡ false
-name-bytes-comma [] h = refl
-name-bytes-comma (b ∷ s) h =
-    let t = both (isNameByte b) (allOf isNameByte s) h in
-    rw (name-byte-comma b (t .0)) (name-bytes-comma s (t .1))

@@ -1,4 +1,4 @@
--- What a manager holds, as contracts speak of it. A state is made by `start` and the `with` helpers alone. Assumes nothing.
+-- What a manager holds, as contracts speak of it. What a call does to a state is said by `start` and the `with` helpers alone. Assumes nothing.
 use mathlib.Core.Path.{_≡_}
 use mathlib.Core.Bool.{Bool, _&&_}
 use mathlib.Core.List.{List, []}
