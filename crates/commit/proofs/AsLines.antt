@@ -15,6 +15,7 @@ use Rattle.lists.proofs.Views.{map-drop, seen}
 use Rattle.ids.specs.Limits.{mostOperations, longestLine}
 use Rattle.ids.specs.declared.refusal.Refusal.the-variants.{Malformed}
 use Rattle.ids.specs.Verdicts.{judged}
+use Rattle.ids.specs.Results.{Result, refused, given, andThen, onward}
 use Rattle.ids.proofs.Verdicts.{none-judged}
 use Rattle.manifest.specs.declared.operation.Change.{Change}
 use Rattle.manifest.specs.Operations.{Operation, nextIds, operation, wellFormed, wellLine, operationOf}
@@ -24,7 +25,7 @@ use Rattle.manifest.proofs.Lines.{read-back}
 use Rattle.manifest.proofs.Split.{rest-none, rest-on-append, rest-ended}
 use Rattle.version_state.specs.State.{State}
 use Rattle.operations.specs.Judge.{opRules}
-use Rattle.operations.specs.Steps.{Outcome, left, stopped, onward, andThen, stepOf, stepsOf}
+use Rattle.operations.specs.Steps.{stepOf, stepsOf}
 use Rattle.frames.specs.Frames.{textsOf}
 use Rattle.commit.specs.Commit.{firstRules, finishOf, commitOf}
 use Rattle.commit.specs.Lent.{operationSaid, asLine, operationsIn}
@@ -91,11 +92,11 @@ pub lines-read : (os : List Operation) → operationsIn (textsOf (map asLine os)
 lines-read os = read-lines (map asLine os) (all-well os)
 
 -- A commit of the lines is that of the operations.
-malformed : (i e : ℕ) (o : Operation) (s : State) → wellFormed o ≡ false → stepOf i e o s ≡ stopped (Malformed i)
+malformed : (i e : ℕ) (o : Operation) (s : State) → wellFormed o ≡ false → stepOf i e o s ≡ refused (Malformed i)
 unfolding stepOf
 malformed i e o s w = rw w refl
 
-refused-none : (i e : ℕ) (s : State) → stepOf i e (nextIds 0 0 0) s ≡ stopped (Malformed i)
+refused-none : (i e : ℕ) (s : State) → stepOf i e (nextIds 0 0 0) s ≡ refused (Malformed i)
 unfolding stepOf
 refused-none i e s = refl
 
@@ -108,30 +109,30 @@ step-same i e o s =
 steps-same : (i e : ℕ) (os : List Operation) (s : State) → stepsOf i e (map asLine os) s ≡ stepsOf i e os s
 steps-same i e [] s = refl
 steps-same i e (o ∷ os) s =
-    ap (λ (x : Outcome). andThen x (λ t. stepsOf (i + 1) e (map asLine os) t)) (step-same i e o s) ∙ go (stepOf i e o s) (λ t. steps-same (i + 1) e os t)
+    ap (λ (x : Result State). andThen x (λ t. stepsOf (i + 1) e (map asLine os) t)) (step-same i e o s) ∙ go (stepOf i e o s) (λ t. steps-same (i + 1) e os t)
   where
-    go : (x : Outcome) → ((t : State) → stepsOf (i + 1) e (map asLine os) t ≡ stepsOf (i + 1) e os t)
+    go : (x : Result State) → ((t : State) → stepsOf (i + 1) e (map asLine os) t ≡ stepsOf (i + 1) e os t)
         → andThen x (λ t. stepsOf (i + 1) e (map asLine os) t) ≡ andThen x (λ t. stepsOf (i + 1) e os t)
-    go (left t) h = h t
-    go (stopped k) h = refl
+    go (given t) h = h t
+    go (refused k) h = refl
 
 -- operations that are accepted stand as they are
 all-same : (os : List Operation) → All (λ o. wellFormed o ≡ true) os → map asLine os ≡ os
 all-same [] a = refl
 all-same (o ∷ os) a = ap₂ _∷_ (sym (as-line-same o (a .0))) (all-same os (a .1))
 
-accepted-same : (i e : ℕ) (os : List Operation) (s t : State) → stepsOf i e os s ≡ left t → map asLine os ≡ os
+accepted-same : (i e : ℕ) (os : List Operation) (s t : State) → stepsOf i e os s ≡ given t → map asLine os ≡ os
 accepted-same i e os s t h = all-same os (accepted-all (λ o. wellFormed o ≡ true) (λ i e o s j. not-false _ (none-judged (opRules i e o s) j .0)) i e os s t h)
 
 module _ (s : State) (n : ℕ) (os : List Operation) (room : ℕ) where
   pub commit-same : commitOf s n (map asLine os) room ≡ commitOf s n os room
   commit-same =
-      ap (λ (x : Outcome). onward (judged (firstRules s n)) (andThen x (finishOf (s .epoch + 1) (map asLine os) room))) (steps-same 0 (s .epoch + 1) os s)
+      ap (λ (x : Result State). onward (judged (firstRules s n)) (andThen x (finishOf (s .epoch + 1) (map asLine os) room))) (steps-same 0 (s .epoch + 1) os s)
       ∙ ap (onward (judged (firstRules s n))) (go (stepsOf 0 (s .epoch + 1) os s) refl)
     where
-      go : (x : Outcome) → stepsOf 0 (s .epoch + 1) os s ≡ x → andThen x (finishOf (s .epoch + 1) (map asLine os) room) ≡ andThen x (finishOf (s .epoch + 1) os room)
-      go (left t) h = ap (λ (l : List Operation). finishOf (s .epoch + 1) l room t) (accepted-same 0 (s .epoch + 1) os s t h)
-      go (stopped k) h = refl
+      go : (x : Result State) → stepsOf 0 (s .epoch + 1) os s ≡ x → andThen x (finishOf (s .epoch + 1) (map asLine os) room) ≡ andThen x (finishOf (s .epoch + 1) os room)
+      go (given t) h = ap (λ (l : List Operation). finishOf (s .epoch + 1) l room t) (accepted-same 0 (s .epoch + 1) os s t h)
+      go (refused k) h = refl
 
-  pub commit-lines-same : (u : State) → commitOf s n os room ≡ left u → map asLine os ≡ os
+  pub commit-lines-same : (u : State) → commitOf s n os room ≡ given u → map asLine os ≡ os
   commit-lines-same u h = let a = accepts s n os room u h in accepted-same 0 (s .epoch + 1) os s (a .done) (a .steps)

@@ -12,6 +12,7 @@ use Rattle.ids.specs.declared.refusal.Refusal.the-variants.{TooManyOperations, 
 use Rattle.ids.specs.declared.refusal.Verdict.{Verdict}
 use Rattle.ids.specs.declared.refusal.Verdict.the-variants.{Accepted, Refused}
 use Rattle.ids.specs.Verdicts.{judged, isAccepted}
+use Rattle.ids.specs.Results.{Result, refused, given, andThen, onward}
 use Rattle.ids.proofs.Verdicts.{none-judged}
 use Rattle.manifest.specs.Operations.{Operation}
 use Rattle.columns.specs.Rows.{rows, across, plain}
@@ -24,7 +25,7 @@ use Rattle.version_state.proofs.Facts.{sound-of}
 use Rattle.version_state.proofs.Walks.{rising-prefix}
 use Rattle.operations.specs.declared.Held.{Held}
 use Rattle.operations.specs.declared.Stepped.{Stepped}
-use Rattle.operations.specs.Steps.{Outcome, left, stopped, onward, andThen, stepOf, stepsOf}
+use Rattle.operations.specs.Steps.{stepOf, stepsOf}
 use Rattle.operations.specs.Columns.{Sized, Columns, columns, stateIn, Stands, Ready, StepIs}
 use Rattle.operations.proofs.Keeps.{rising-vectors}
 use Rattle.frames.specs.Frames.{frameOf}
@@ -78,22 +79,22 @@ module _ (s : State) (e : ℕ) (os : List Operation) where
 
 -- the first tests
 module _ (s : State) (n : ℕ) (os : List Operation) (room : ℕ) where
-  pub too-many : mostOperations < n → commitOf s n os room ≡ stopped (TooManyOperations 0)
+  pub too-many : mostOperations < n → commitOf s n os room ≡ refused (TooManyOperations 0)
   too-many h = rw (lt-ltb mostOperations n h)
 
   module _ (a : n ≤ mostOperations) where
-    pub too-late : lastEpoch ≤ s .epoch → commitOf s n os room ≡ stopped EpochsFull
+    pub too-late : lastEpoch ≤ s .epoch → commitOf s n os room ≡ refused EpochsFull
     too-late h = rw (le-ltb mostOperations n a, le-leb lastEpoch (s .epoch) h)
 
     module _ (b : s .epoch < lastEpoch) where
-      pub begun : (x : Outcome) → stepsOf 0 (s .epoch + 1) os s ≡ x → commitOf s n os room ≡ andThen x (finishOf (s .epoch + 1) os room)
+      pub begun : (x : Result State) → stepsOf 0 (s .epoch + 1) os s ≡ x → commitOf s n os room ≡ andThen x (finishOf (s .epoch + 1) os room)
       begun x h = rw (le-ltb mostOperations n a, lt-leb lastEpoch (s .epoch) b, h)
 
       pub steps-off : (v : Verdict) → Halts (stepsOf 0 (s .epoch + 1) os s) v → Halts (commitOf s n os room) v
-      steps-off v h = record { why = h .why; told = h .told; here = begun (stopped (h .why)) (h .here) }
+      steps-off v h = record { why = h .why; told = h .told; here = begun (refused (h .why)) (h .here) }
 
-      pub ended-off : (t : State) (v : Verdict) → stepsOf 0 (s .epoch + 1) os s ≡ left t → Halts (finishOf (s .epoch + 1) os room t) v → Halts (commitOf s n os room) v
-      ended-off t v q h = record { why = h .why; told = h .told; here = begun (left t) q ∙ h .here }
+      pub ended-off : (t : State) (v : Verdict) → stepsOf 0 (s .epoch + 1) os s ≡ given t → Halts (finishOf (s .epoch + 1) os room t) v → Halts (commitOf s n os room) v
+      ended-off t v q h = record { why = h .why; told = h .told; here = begun (given t) q ∙ h .here }
 
 -- the last tests, for an append of n bytes
 module _ (e : ℕ) (os : List Operation) (room : ℕ) (s : State) (n : ℕ) (w : n ≡ length (frameOf os)) (v : Verdict) (j : v ≡ judged (lastRules e s n room)) where
@@ -102,7 +103,7 @@ module _ (e : ℕ) (os : List Operation) (room : ℕ) (s : State) (n : ℕ) (w :
     where
       go : (x : Verdict) → v ≡ x → Halts (finishOf e os room s) v
       go Accepted q = absurd (true≢false (sym (ap isAccepted q) ∙ a))
-      go (Refused k) q = record { why = k; told = q; here = ap (λ (y : Verdict). onward y (left (withEpoch s e (s .manifest + length (frameOf os))))) (ap (λ (l : ℕ). judged (lastRules e s l room)) (sym w) ∙ sym j ∙ q) }
+      go (Refused k) q = record { why = k; told = q; here = ap (λ (y : Verdict). onward y (given (withEpoch s e (s .manifest + length (frameOf os))))) (ap (λ (l : ℕ). judged (lastRules e s l room)) (sym w) ∙ sym j ∙ q) }
 
   module _ (a : isAccepted v ≡ true) where
     passed : v ≡ Accepted
@@ -112,8 +113,8 @@ module _ (e : ℕ) (os : List Operation) (room : ℕ) (s : State) (n : ℕ) (w :
         go Accepted q = q
         go (Refused k) q = absurd (true≢false (sym a ∙ ap isAccepted q))
 
-    pub end-on : (v ≡ Accepted) × (finishOf e os room s ≡ left (withEpoch s e (s .manifest + n)))
-    end-on = (passed, ap (λ (l : ℕ). onward (judged (lastRules e s l room)) (left (withEpoch s e (s .manifest + l)))) (sym w) ∙ ap (λ (y : Verdict). onward y (left (withEpoch s e (s .manifest + n)))) (sym j ∙ passed))
+    pub end-on : (v ≡ Accepted) × (finishOf e os room s ≡ given (withEpoch s e (s .manifest + n)))
+    end-on = (passed, ap (λ (l : ℕ). onward (judged (lastRules e s l room)) (given (withEpoch s e (s .manifest + l)))) (sym w) ∙ ap (λ (y : Verdict). onward y (given (withEpoch s e (s .manifest + n)))) (sym j ∙ passed))
 
     pub end-room : (s .manifest + n ≤ longestManifest) × (n ≤ room)
     end-room =
@@ -128,14 +129,14 @@ module _ {h : Held} {c : Columns} (y : Ready h c) where
   pub sorted-vectors : sorted plain (rows (across (c .tables ∷ c .rowsets ∷ [])) (h .vectors)) ≡ true
   sorted-vectors = rising-prefix (c .tables ∷ c .rowsets ∷ c .vectors ∷ []) (h .vectors) 2 (rising-vectors y .rises)
 
-pub commit-off : (x : Outcome) (os : List Operation) (out : List ℕ) (r : Done) (c : Columns) (out′ : List ℕ) → Halts x (r .verdict) → out′ ≡ out → CommitIs x os out r c out′
+pub commit-off : (x : Result State) (os : List Operation) (out : List ℕ) (r : Done) (c : Columns) (out′ : List ℕ) → Halts x (r .verdict) → out′ ≡ out → CommitIs x os out r c out′
 commit-off x os out r c out′ h q = rw (h .here) (h .told, q)
 
-pub commit-on : (x : Outcome) (os : List Operation) (out : List ℕ) (r : Done) (c : Columns) (out′ : List ℕ) (s : State) → x ≡ left s → r .verdict ≡ Accepted → r .length ≡ length (frameOf os) → Stands (r .held) c s → out′ ≡ over (frameOf os) out
+pub commit-on : (x : Result State) (os : List Operation) (out : List ℕ) (r : Done) (c : Columns) (out′ : List ℕ) (s : State) → x ≡ given s → r .verdict ≡ Accepted → r .length ≡ length (frameOf os) → Stands (r .held) c s → out′ ≡ over (frameOf os) out
     → CommitIs x os out r c out′
 commit-on x os out r c out′ s q v n h w = rw q (v, n, h, w)
 
 -- a step that ends a loop over operations
-pub halts-step : (x : Outcome) (r : Stepped) (c : Columns) → Halts x (r .verdict) → StepIs x r c
+pub halts-step : (x : Result State) (r : Stepped) (c : Columns) → Halts x (r .verdict) → StepIs x r c
 unfolding StepIs
 halts-step x r c h = rw (h .here) (h .told)

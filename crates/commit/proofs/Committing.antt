@@ -8,10 +8,11 @@ use Rattle.ids.specs.Limits.{mostOperations, lastEpoch, longestManifest}
 use Rattle.ids.specs.declared.refusal.Verdict.{Verdict}
 use Rattle.ids.specs.declared.refusal.Verdict.the-variants.{Accepted}
 use Rattle.ids.specs.Verdicts.{judged, isAccepted}
+use Rattle.ids.specs.Results.{given}
 use Rattle.version_state.specs.State.{withEpoch}
 use Rattle.operations.specs.declared.Held.{Held}
 use Rattle.operations.specs.declared.Stepped.{Stepped}
-use Rattle.operations.specs.Steps.{left, stepsOf}
+use Rattle.operations.specs.Steps.{stepsOf}
 use Rattle.operations.specs.Columns.{Columns, stateIn, Ready, StepIs}
 use Rattle.frames.specs.Frames.{frameOf}
 use Rattle.commit.specs.Commit.{lastRules, commitOf}
@@ -25,7 +26,7 @@ module _ (s : List ℕ) (room : ℕ) (h : Held) (c : Columns) (few : length (ope
   stepped-off a = steps-off (stateIn h c) (length (operationsIn s)) (operationsIn s) room few early (r .verdict) (halted (stepsOf 0 (h .epoch + 1) (operationsIn s) (stateIn h c)) r d t a)
 
   module _ (a : isAccepted (r .verdict) ≡ true) where
-    done : (stepsOf 0 (h .epoch + 1) (operationsIn s) (stateIn h c) ≡ left (stateIn (r .held) d)) × Ready (r .held) d
+    done : (stepsOf 0 (h .epoch + 1) (operationsIn s) (stateIn h c) ≡ given (stateIn (r .held) d)) × Ready (r .held) d
     done = went (stepsOf 0 (h .epoch + 1) (operationsIn s) (stateIn h c)) r d t a
 
     pub stepped-ready : Ready (r .held) d
@@ -53,7 +54,7 @@ module _ (s : List ℕ) (room : ℕ) (h : Held) (c : Columns) (few : length (ope
         pub fits : (r .held .manifest + (length s + 4) ≤ longestManifest) × (length s + 4 ≤ room)
         fits = end-room (h .epoch + 1) (operationsIn s) room (stateIn (r .held) d) (length s + 4) stepped-size v j b
 
-        pub commits : (v ≡ Accepted) × (commitOf (stateIn h c) (length (operationsIn s)) (operationsIn s) room ≡ left (withEpoch (stateIn (r .held) d) (h .epoch + 1) (r .held .manifest + (length s + 4))))
+        pub commits : (v ≡ Accepted) × (commitOf (stateIn h c) (length (operationsIn s)) (operationsIn s) room ≡ given (withEpoch (stateIn (r .held) d) (h .epoch + 1) (r .held .manifest + (length s + 4))))
         commits =
             let o = end-on (h .epoch + 1) (operationsIn s) room (stateIn (r .held) d) (length s + 4) stepped-size v j b in
-            (o .0, begun (stateIn h c) (length (operationsIn s)) (operationsIn s) room few early (left (stateIn (r .held) d)) (done .0) ∙ o .1)
+            (o .0, begun (stateIn h c) (length (operationsIn s)) (operationsIn s) room few early (given (stateIn (r .held) d)) (done .0) ∙ o .1)

@@ -12,6 +12,7 @@ use Rattle.lists.proofs.Keyed.{All}
 use Rattle.ids.specs.Limits.{mostOperations, longestLine, longestManifest}
 use Rattle.ids.specs.declared.refusal.Verdict.the-variants.{Accepted}
 use Rattle.ids.specs.Verdicts.{judged}
+use Rattle.ids.specs.Results.{Result, refused, given, andThen}
 use Rattle.ids.proofs.Verdicts.{none-judged}
 use Rattle.text.specs.Class.{newline}
 use Rattle.manifest.specs.declared.reader.LineAt.the-variants as found
@@ -24,11 +25,11 @@ use Rattle.manifest.proofs.Texts.{text-room}
 use Rattle.manifest.proofs.Split.{joined-lines, rest-on-append, rest-ended, line-placed, lines-at, lines-none}
 use Rattle.version_state.specs.State.{State}
 use Rattle.operations.specs.Judge.{opRules}
-use Rattle.operations.specs.Steps.{Outcome, left, stopped, andThen, stepOf, stepsOf}
+use Rattle.operations.specs.Steps.{stepOf, stepsOf}
 use Rattle.frames.specs.Frames.{textsOf, frameOf}
 use Rattle.frames.proofs.Texts.{joined-append, frame-long, texts-cons}
 use Rattle.commit.specs.Lent.{operationSaid, unended, operationsIn}
-use Rattle.commit.proofs.Stepwise.{halt, step-left}
+use Rattle.commit.proofs.Stepwise.{halt, step-given}
 
 -- The operations from a place on.
 module _ (s : List ℕ) (at start stop next : ℕ) (h : lineAt s at ≡ found.Line start stop next) where
@@ -103,13 +104,13 @@ accepted-operation i e (nextIds t r v) s a = clash refl (none-judged (opRules i 
 
 -- what holds of each operation that is accepted holds of all
 pub accepted-all : (P : Operation → Type 0) → ((i e : ℕ) (o : Operation) (s : State) → judged (opRules i e o s) ≡ Accepted → P o)
-    → (i e : ℕ) (os : List Operation) (s t : State) → stepsOf i e os s ≡ left t → All P os
+    → (i e : ℕ) (os : List Operation) (s t : State) → stepsOf i e os s ≡ given t → All P os
 accepted-all P f i e [] s t h = tt
 accepted-all P f i e (o ∷ os) s t h = go (stepOf i e o s) refl h (λ u. accepted-all P f (i + 1) e os u t)
   where
-    go : (x : Outcome) → stepOf i e o s ≡ x → andThen x (λ u. stepsOf (i + 1) e os u) ≡ left t → ((u : State) → stepsOf (i + 1) e os u ≡ left t → All P os) → All P (o ∷ os)
-    go (left u) a h ih = (f i e o s (step-left i e o s u a .0), ih u h)
-    go (stopped r) a h ih = absurd (halt h)
+    go : (x : Result State) → stepOf i e o s ≡ x → andThen x (λ u. stepsOf (i + 1) e os u) ≡ given t → ((u : State) → stepsOf (i + 1) e os u ≡ given t → All P os) → All P (o ∷ os)
+    go (given u) a h ih = (f i e o s (step-given i e o s u a .0), ih u h)
+    go (refused r) a h ih = absurd (halt h)
 
 -- So all that is lent is whole lines of operations.
 module _ (P : Operation → Type 0) where
@@ -139,7 +140,7 @@ texts (l ∷ ls) a = ap₂ _∷_ (sym (text-parse l (operationSaid (lineOf l)) (
 abbrev pub lentFrame : List ℕ → List ℕ
 lentFrame s = 66 ∷ 10 ∷ (s ++ (69 ∷ 10 ∷ []))
 
-pub frame-lent : (s : List ℕ) (e : ℕ) (u t : State) → stepsOf 0 e (operationsIn s) u ≡ left t → frameOf (operationsIn s) ≡ lentFrame s
+pub frame-lent : (s : List ℕ) (e : ℕ) (u t : State) → stepsOf 0 e (operationsIn s) u ≡ given t → frameOf (operationsIn s) ≡ lentFrame s
 unfolding operationsIn lines
 frame-lent s e u t h =
     let said = map (λ l. operationSaid (lineOf l)) (lines s) in
@@ -157,7 +158,7 @@ pub texts-short : (os : List Operation) → All (λ o. wellFormed o ≡ true) os
 texts-short [] a = omega arith
 texts-short (o ∷ os) a = omega (arith, texts-cons o os, text-room o (a .0), texts-short os (a .1))
 
-pub frame-short : (e : ℕ) (os : List Operation) (u t : State) → length os ≤ mostOperations → stepsOf 0 e os u ≡ left t → length (frameOf os) ≤ longestManifest
+pub frame-short : (e : ℕ) (os : List Operation) (u t : State) → length os ≤ mostOperations → stepsOf 0 e os u ≡ given t → length (frameOf os) ≤ longestManifest
 frame-short e os u t few h =
     let a = accepted-all (λ o. wellFormed o ≡ true) (λ i e o s j. not-false _ (none-judged (opRules i e o s) j .0)) 0 e os u t h in
     omega (arith, frame-long os, texts-short os a)

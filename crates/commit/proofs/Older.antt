@@ -12,6 +12,7 @@ use Rattle.lists.proofs.Order.{same-true}
 use Rattle.lists.proofs.Keyed.{All, Ascending, ascend-to, after-absent, put-new, keep-placed-out}
 use Rattle.ids.specs.declared.refusal.Verdict.the-variants.{Accepted}
 use Rattle.ids.specs.Verdicts.{judged}
+use Rattle.ids.specs.Results.{given}
 use Rattle.ids.proofs.Verdicts.{none-judged}
 use Rattle.manifest.specs.Operations.{Operation, createTable, dropTable, addRowset, deleteRowset, addVector, deleteVector, nextIds}
 use Rattle.snapshot.specs.Entries.{Entry, addedAt, deletedAt, byIds, goneAt, shownAt, shownBy, shown}
@@ -21,7 +22,6 @@ use Rattle.version_state.specs.Sound.{badInner}
 use Rattle.version_state.proofs.Facts.{Ordered, sound-of}
 use Rattle.operations.specs.Effect.{applied}
 use Rattle.operations.specs.Judge.{opRules, isShown}
-use Rattle.operations.specs.Steps.{left}
 use Rattle.commit.specs.Commit.{commitOf}
 use Rattle.operations.proofs.Keeps.{ordered-applied}
 use Rattle.operations.proofs.Entries.{not-held}
@@ -123,7 +123,7 @@ same-applied e s₀ i (deleteVector t r v) s k a =
     }
 same-applied e s₀ i (nextIds t r v) s k a = record { ordered = ordered-applied e (nextIds t r v) s (k .ordered); pairs = k .pairs; vectors = k .vectors }
 
-module _ (m : VersionManagerInner) (n : ℕ) (os : List Operation) (room : ℕ) (s : State) (b : badInner m ≡ false) (h : commitOf (stateOf m) n os room ≡ left s) (d : ℕ) (k : d ≤ m .epoch) where
+module _ (m : VersionManagerInner) (n : ℕ) (os : List Operation) (room : ℕ) (s : State) (b : badInner m ≡ false) (h : commitOf (stateOf m) n os room ≡ given s) (d : ℕ) (k : d ≤ m .epoch) where
   kept : Same (m .epoch + 1) (stateOf m) (accepts (stateOf m) n os room s h .done)
   kept =
       let a = accepts (stateOf m) n os room s h in

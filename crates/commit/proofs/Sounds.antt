@@ -23,13 +23,14 @@ use Rattle.snapshot.specs.Entries.{Entry, addedAt, deletedAt, byIds, belowNext,
 use Rattle.snapshot.specs.Tables.{created, byTable}
 use Rattle.version_state.specs.declared.VersionManagerInner.{VersionManagerInner}
 use Rattle.ids.specs.Limits.{mostOperations, lastEpoch, longestManifest}
+use Rattle.ids.specs.Results.{Result, refused, given, andThen, onward}
 use Rattle.version_state.specs.State.{State, stateOf, withEpoch, Hands}
 use Rattle.version_state.specs.Sound.{leftBehind, badInner}
 use Rattle.version_state.proofs.Within.{Within, within-of, of-within, within-up}
 use Rattle.version_state.proofs.Facts.{Ordered, Sound, sound-of, of-sound}
 use Rattle.operations.specs.Effect.{applied}
 use Rattle.operations.specs.Judge.{opRules, isLive, isShown}
-use Rattle.operations.specs.Steps.{Outcome, left, stopped, onward, andThen, stepsOf}
+use Rattle.operations.specs.Steps.{stepsOf}
 use Rattle.frames.specs.Frames.{frameOf}
 use Rattle.commit.specs.Commit.{firstRules, lastRules, finishOf, commitOf}
 use Rattle.operations.proofs.Keeps.{Below, below-applied, ordered-applied}
@@ -143,28 +144,28 @@ pub record Accepts (s : State) (n : ℕ) (os : List Operation) (room : ℕ) (u :
   pub last : s .epoch < lastEpoch
   -- what the operations left
   pub done : State
-  pub steps : stepsOf 0 (s .epoch + 1) os s ≡ left done
+  pub steps : stepsOf 0 (s .epoch + 1) os s ≡ given done
   pub whole : leftBehind (s .epoch + 1) done ≡ false
   pub fits : done .manifest + length (frameOf os) ≤ longestManifest
   pub lent : length (frameOf os) ≤ room
   pub state : withEpoch done (s .epoch + 1) (done .manifest + length (frameOf os)) ≡ u
 
-pub onward-left : (v : Verdict) (x : Outcome) (s : State) → onward v x ≡ left s → (v ≡ Accepted) × (x ≡ left s)
-onward-left Accepted x s h = (refl, h)
-onward-left (Refused k) x s h = absurd (halt h)
+pub onward-given : (v : Verdict) (x : Result State) (s : State) → onward v x ≡ given s → (v ≡ Accepted) × (x ≡ given s)
+onward-given Accepted x s h = (refl, h)
+onward-given (Refused k) x s h = absurd (halt h)
 
-then-left : (x : Outcome) (f : State → Outcome) (s : State) → andThen x f ≡ left s → (t : State) × (x ≡ left t) × (f t ≡ left s)
-then-left (left t) f s h = (t, refl, h)
-then-left (stopped k) f s h = absurd (halt h)
+then-given : (x : Result State) (f : State → Result State) (s : State) → andThen x f ≡ given s → (t : State) × (x ≡ given t) × (f t ≡ given s)
+then-given (given t) f s h = (t, refl, h)
+then-given (refused k) f s h = absurd (halt h)
 
-pub accepts : (s : State) (n : ℕ) (os : List Operation) (room : ℕ) (u : State) → commitOf s n os room ≡ left u → Accepts s n os room u
+pub accepts : (s : State) (n : ℕ) (os : List Operation) (room : ℕ) (u : State) → commitOf s n os room ≡ given u → Accepts s n os room u
 accepts s n os room u h =
     let e = s .epoch + 1 in
-    let x = onward-left (judged (firstRules s n)) (andThen (stepsOf 0 e os s) (finishOf e os room)) u h in
+    let x = onward-given (judged (firstRules s n)) (andThen (stepsOf 0 e os s) (finishOf e os room)) u h in
     let f = none-judged (firstRules s n) (x .0) in
-    let y = then-left (stepsOf 0 e os s) (finishOf e os room) u (x .1) in
+    let y = then-given (stepsOf 0 e os s) (finishOf e os room) u (x .1) in
     let t = y .0 in
-    let z = onward-left (judged (lastRules e t (length (frameOf os)) room)) (left (withEpoch t e (t .manifest + length (frameOf os)))) u (y .2) in
+    let z = onward-given (judged (lastRules e t (length (frameOf os)) room)) (given (withEpoch t e (t .manifest + length (frameOf os)))) u (y .2) in
     let g = none-judged (lastRules e t (length (frameOf os)) room) (z .0) in
     let q : withEpoch t e (t .manifest + length (frameOf os)) ≡ u = cc (z .1) in
     record {
@@ -178,7 +179,7 @@ accepts s n os room u h =
       state = q;
     }
 
-pub commit-sound : (m n : VersionManagerInner) (k : ℕ) (os : List Operation) (room : ℕ) (s : State) → badInner m ≡ false → commitOf (stateOf m) k os room ≡ left s → Hands n s → badInner n ≡ false
+pub commit-sound : (m n : VersionManagerInner) (k : ℕ) (os : List Operation) (room : ℕ) (s : State) → badInner m ≡ false → commitOf (stateOf m) k os room ≡ given s → Hands n s → badInner n ≡ false
 commit-sound m n k os room s b h z =
     let a = accepts (stateOf m) k os room s h in
     let t = a .done in

@@ -10,9 +10,10 @@ use Rattle.ids.specs.declared.refusal.Verdict.the-variants.{Accepted, Refused}
 use Rattle.ids.specs.Verdicts.{Rule, _⇒_, judged}
 use Rattle.manifest.specs.Operations.{Operation}
 use Rattle.ids.specs.Limits.{lastEpoch, longestManifest, mostOperations}
+use Rattle.ids.specs.Results.{Result, refused, given, andThen, onward}
 use Rattle.version_state.specs.State.{State, withEpoch}
 use Rattle.version_state.specs.Sound.{leftBehind}
-use Rattle.operations.specs.Steps.{Outcome, left, stopped, onward, andThen, stepsOf}
+use Rattle.operations.specs.Steps.{stepsOf}
 use Rattle.operations.specs.Columns.{Columns, Stands}
 use Rattle.frames.specs.Frames.{frameOf}
 use Rattle.commit.specs.declared.Done.{Done}
@@ -34,16 +35,16 @@ lastRules e s n room =
     ∷ []
 
 -- what is left is at the epoch e, its manifest longer by the append
-abbrev pub finishOf : ℕ → List Operation → ℕ → State → Outcome
+abbrev pub finishOf : ℕ → List Operation → ℕ → State → Result State
 finishOf e os room s =
-    onward (judged (lastRules e s (length (appendOf os)) room)) (left (withEpoch s e (s .manifest + length (appendOf os))))
+    onward (judged (lastRules e s (length (appendOf os)) room)) (given (withEpoch s e (s .manifest + length (appendOf os))))
 
 -- the operations os, which number n, apply in order at the next epoch
-abbrev pub commitOf : State → ℕ → List Operation → ℕ → Outcome
+abbrev pub commitOf : State → ℕ → List Operation → ℕ → Result State
 commitOf s n os room = onward (judged (firstRules s n)) (andThen (stepsOf 0 (s .epoch + 1) os s) (finishOf (s .epoch + 1) os room))
 
 -- Internal: a commit of os over columns, into the lent buffer. What is left stands in the columns, and the frame to append in the
 -- buffer; or a refusal, and nothing written.
-abbrev pub CommitIs : Outcome → List Operation → List ℕ → Done → Columns → List ℕ → Type 0
-CommitIs (left s) os out r c out′ = (r .verdict ≡ Accepted) × (r .length ≡ length (appendOf os)) × Stands (r .held) c s × (out′ ≡ over (appendOf os) out)
-CommitIs (stopped k) os out r c out′ = (r .verdict ≡ Refused k) × (out′ ≡ out)
+abbrev pub CommitIs : Result State → List Operation → List ℕ → Done → Columns → List ℕ → Type 0
+CommitIs (given s) os out r c out′ = (r .verdict ≡ Accepted) × (r .length ≡ length (appendOf os)) × Stands (r .held) c s × (out′ ≡ over (appendOf os) out)
+CommitIs (refused k) os out r c out′ = (r .verdict ≡ Refused k) × (out′ ≡ out)

@@ -4,4 +4,5 @@ pub mod Limits
 pub mod Names
 pub mod Refusals
 pub mod Verdicts
+pub mod Results
 pub mod Answers

@@ -3,11 +3,11 @@ use mathlib.Core.Path.{_≡_}
 use mathlib.Core.Bool.{false}
 use mathlib.Core.List.{List, [], _∷_, _++_}
 use Prim.Native.Nat.{ℕ}
+use Rattle.ids.specs.Results.{given}
 use Rattle.manifest.specs.Split.{joined}
 use Rattle.snapshot.specs.Tables.{TableEntry}
 use Rattle.version_state.specs.State.{State}
 use Rattle.rewrite.specs.Rewritten.{rewrittenOf, longestRewritten}
-use Rattle.replay.specs.Replay.{given}
 use Rattle.storage.specs.Reopen.{reopenOf}
 
 -- `B`, `E`

@@ -3,10 +3,10 @@ use mathlib.Core.Path.{_≡_}
 use mathlib.Core.Bool.{false}
 use mathlib.Core.List.{List, [], _∷_}
 use Rattle.ids.specs.declared.refusal.Verdict.the-variants.{Accepted}
+use Rattle.ids.specs.Results.{given}
 use Rattle.manifest.specs.Operations.{createTable, addRowset, deleteRowset}
 use Rattle.snapshot.specs.Entries.{Entry}
 use Rattle.version_state.specs.State.{State, start}
-use Rattle.operations.specs.Steps.{left}
 use Rattle.commit.specs.Commit.{commitOf}
 use Rattle.pins.specs.declared.PinBook.{PinBook}
 use Rattle.pins.specs.Book.{PinEntry, Keeps}
@@ -56,9 +56,9 @@ Vacuum s l es t = (m : VersionManager) (b : PinBook) → Manages m s → Keeps b
 
 pub record VacuumCases : Type 0 where
   -- "Pair at epoch 1 pinned, deleted at 2": a rowset id is drawn, and a pin stands between two commits
-  pub adds : commitOf (rowsetDrawn start) 2 (createTable 0 7 slots ∷ addRowset 0 0 ∷ []) 22 ≡ left one
+  pub adds : commitOf (rowsetDrawn start) 2 (createTable 0 7 slots ∷ addRowset 0 0 ∷ []) 22 ≡ given one
   pub pins : withPin 1 [] ≡ on1
-  pub deletes : commitOf one 1 (deleteRowset 0 0 ∷ []) 10 ≡ left two
+  pub deletes : commitOf one 1 (deleteRowset 0 0 ∷ []) 10 ≡ given two
   -- "vacuum lists none; after unpin it, then none."
   pub pinned : Vacuum two on1 [] two
   pub unpins : withoutPin 1 on1 ≡ []

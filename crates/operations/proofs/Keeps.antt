@@ -13,6 +13,7 @@ use Rattle.ids.specs.Limits.{mostTables, mostHeld}
 use Rattle.ids.specs.declared.refusal.Verdict.{Verdict}
 use Rattle.ids.specs.declared.refusal.Verdict.the-variants.{Accepted, Refused}
 use Rattle.ids.specs.Verdicts.{judged}
+use Rattle.ids.specs.Results.{given, onward}
 use Rattle.ids.proofs.Verdicts.{none-judged}
 use Rattle.manifest.specs.Operations.{Operation, createTable, dropTable, addRowset, deleteRowset, addVector, deleteVector, nextIds, wellFormed}
 use Rattle.columns.proofs.Rows.{rows-length}
@@ -25,7 +26,7 @@ use Rattle.operations.specs.declared.Held.{Held}
 use Rattle.operations.specs.declared.Stepped.{Stepped}
 use Rattle.operations.specs.Effect.{applied}
 use Rattle.operations.specs.Judge.{stateRules, opRules}
-use Rattle.operations.specs.Steps.{left, onward, stepOf}
+use Rattle.operations.specs.Steps.{stepOf}
 use Rattle.operations.specs.Columns.{Leaves, Turned, Sized, Rising, Columns, stateIn, Ready, StepIs}
 
 entries-put : (x : Entry) (l : List Entry) → ascending byIds l ≡ true → ascending byIds (put byIds x l) ≡ true
@@ -135,8 +136,8 @@ module _ {h : Held} {c : Columns} (y : Ready h c) where
   unfolding stepOf StepIs Turned Leaves
   turned-step i e o r d f t w z = rw f (go (judged (stateRules i e o (stateIn h c))) refl t)
     where
-      go : (v : Verdict) → judged (stateRules i e o (stateIn h c)) ≡ v → Leaves (onward v (left (applied e o (stateIn h c)))) (r .verdict) (stateIn (r .held) d)
-          → StepIs (onward v (left (applied e o (stateIn h c)))) r d
+      go : (v : Verdict) → judged (stateRules i e o (stateIn h c)) ≡ v → Leaves (onward v (given (applied e o (stateIn h c)))) (r .verdict) (stateIn (r .held) d)
+          → StepIs (onward v (given (applied e o (stateIn h c)))) r d
       go Accepted a k =
           let s = stateIn h c in
           let j : judged (opRules i e o s) ≡ Accepted = rw f a in

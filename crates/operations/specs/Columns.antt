@@ -10,6 +10,7 @@ use Rattle.ids.specs.Limits.{mostTables, mostHeld}
 use Rattle.ids.specs.declared.refusal.Verdict.{Verdict}
 use Rattle.ids.specs.declared.refusal.Verdict.the-variants.{Accepted, Refused}
 use Rattle.ids.specs.Verdicts.{judged}
+use Rattle.ids.specs.Results.{Result, refused, given, onward}
 use Rattle.columns.specs.Rows.{rows, across, plain}
 use Rattle.manifest.specs.Operations.{Operation}
 use Rattle.snapshot.specs.Entries.{Entry, byIds, entries}
@@ -19,7 +20,6 @@ use Rattle.operations.specs.declared.Held.{Held}
 use Rattle.operations.specs.declared.Stepped.{Stepped}
 use Rattle.operations.specs.Effect.{applied}
 use Rattle.operations.specs.Judge.{stateRules}
-use Rattle.operations.specs.Steps.{Outcome, left, stopped, onward}
 
 -- the state that stands in columns, each list by its count, beside the numbers h.
 abbrev pub stateHeld : Held → (ℕ → List TableEntry) → (ℕ → List Entry) → (ℕ → List Entry) → State
@@ -36,13 +36,13 @@ stateHeld h ts ps vs =
     }
 
 -- the outcome is the verdict v; what is left, where it is accepted, is t
-unfoldable pub Leaves : Outcome → Verdict → State → Type 0
-Leaves (left s) v t = (v ≡ Accepted) × (t ≡ s)
-Leaves (stopped k) v t = v ≡ Refused k
+unfoldable pub Leaves : Result State → Verdict → State → Type 0
+Leaves (given s) v t = (v ≡ Accepted) × (t ≡ s)
+Leaves (refused k) v t = v ≡ Refused k
 
 -- a well-formed operation was judged on s, and applied where it is accepted
 unfoldable pub Turned : ℕ → ℕ → Operation → State → Stepped → State → Type 0
-Turned i e o s r t = Leaves (onward (judged (stateRules i e o s)) (left (applied e o s))) (r .verdict) t
+Turned i e o s r t = Leaves (onward (judged (stateRules i e o s)) (given (applied e o s))) (r .verdict) t
 
 -- columns of mostHeld places
 abbrev pub Sized : List (List ℕ) → Type 0
@@ -102,6 +102,6 @@ pub record Ready (h : Held) (c : Columns) : Type 0 where
   pub below : allOf (λ t. ltb (t .table) (stateIn h c .nextTable)) (stateIn h c .tables) ≡ true
 
 -- a step is accepted and the columns hold what is left, ready for the next, or it is refused
-unfoldable pub StepIs : Outcome → Stepped → Columns → Type 0
-StepIs (left s) r c = (r .verdict ≡ Accepted) × (stateIn (r .held) c ≡ s) × Ready (r .held) c
-StepIs (stopped k) r c = r .verdict ≡ Refused k
+unfoldable pub StepIs : Result State → Stepped → Columns → Type 0
+StepIs (given s) r c = (r .verdict ≡ Accepted) × (stateIn (r .held) c ≡ s) × Ready (r .held) c
+StepIs (refused k) r c = r .verdict ≡ Refused k

@@ -11,12 +11,12 @@ use Rattle.lists.specs.Written.{over}
 use Rattle.ids.specs.declared.refusal.Refusal.{Refusal}
 use Rattle.ids.specs.declared.refusal.Verdict.the-variants.{Accepted, Refused}
 use Rattle.ids.specs.Answers.{Told, told}
+use Rattle.ids.specs.Results.{Result, refused, given}
 use Rattle.manifest.specs.Operations.{Operation}
 use Rattle.frames.specs.Frames.{frameOf}
 use Rattle.version_state.specs.State.{State, pairsAt, vectorsAt}
 use Rattle.pins.specs.Book.{pinsOf, bound}
 use Rattle.pins.proofs.Bound.{bound-le}
-use Rattle.operations.specs.Steps.{Outcome, left, stopped}
 use Rattle.commit.specs.Commit.{commitOf}
 use Rattle.commit.proofs.Sounds.{commit-sound}
 use Rattle.commit.proofs.Older.{older-pairs, older-vectors}
@@ -48,7 +48,7 @@ now-at w r i d h =
     rw (i .tables, p, v)
 
 -- Accepted: m is the manager before, n the one after.
-module _ (w : World) (r : Record) (i : Inv w r) (z : ℕ) (os : List Operation) (few : length os ≤ z) (room : ℕ) (n : VersionManager) (s : State) (h : commitOf (heldBy (w .manager)) z os room ≡ left s) (k : Manages n s) where
+module _ (w : World) (r : Record) (i : Inv w r) (z : ℕ) (os : List Operation) (few : length os ≤ z) (room : ℕ) (n : VersionManager) (s : State) (h : commitOf (heldBy (w .manager)) z os room ≡ given s) (k : Manages n s) where
   epoch-after : n .inner .epoch ≡ w .manager .inner .epoch + 1
   epoch-after = ap (λ (t : State). t .epoch) (k .state) ∙ commit-epoch (w .manager .inner) z os room s (i .sound) h
 
@@ -119,7 +119,7 @@ module _ (w : World) (t : Told) (l : List (List ℕ)) (v : World) (os : List Ope
   refused-inv n lent k q =
       rw (refused-number k) (inv-stays w (world n (w .book) (w .file) (w .torn)) r (r .place + 1) q refl refl refl i)
 
-  accepted-inv : (z : ℕ) (n : VersionManager) (lent : List ℕ) (s : State) → length os ≤ z → commitOf (heldBy (w .manager)) z os (length out) ≡ left s → Manages n s → lent ≡ over (frameOf os) out
+  accepted-inv : (z : ℕ) (n : VersionManager) (lent : List ℕ) (s : State) → length os ≤ z → commitOf (heldBy (w .manager)) z os (length out) ≡ given s → Manages n s → lent ≡ over (frameOf os) out
       → Inv (afterCommit n (told Accepted (s .epoch ∷ length (frameOf os) ∷ [])) lent missing w) (turn (commit os out missing) (isAccepted (told Accepted (s .epoch ∷ length (frameOf os) ∷ []))) r)
   accepted-inv z n lent s few h k q =
       let f = frameOf os in
@@ -131,13 +131,13 @@ module _ (w : World) (t : Told) (l : List (List ℕ)) (v : World) (os : List Ope
   outcome-is : (z : ℕ) → outcomeOf (w .manager) z os (length out) ≡ commitOf (heldBy (w .manager)) z os (length out)
   outcome-is z = rw (i .sound)
 
-  outcome-inv : (z : ℕ) (c : Committed) (lent : List ℕ) (x : Outcome) → length os ≤ z → commitOf (heldBy (w .manager)) z os (length out) ≡ x → CommitEnds x (w .manager) os out c lent
+  outcome-inv : (z : ℕ) (c : Committed) (lent : List ℕ) (x : Result State) → length os ≤ z → commitOf (heldBy (w .manager)) z os (length out) ≡ x → CommitEnds x (w .manager) os out c lent
       → Inv (afterCommit (c .manager) (commitTold (c .answer)) lent missing w) (turn (commit os out missing) (isAccepted (commitTold (c .answer))) r)
-  outcome-inv z c lent (left s) few h k = rw (k .0) (accepted-inv z (c .manager) lent s few h (k .1) (k .2))
-  outcome-inv z c lent (stopped j) few h k = rw (k .0) (refused-inv (c .manager) lent j (k .1))
+  outcome-inv z c lent (given s) few h k = rw (k .0) (accepted-inv z (c .manager) lent s few h (k .1) (k .2))
+  outcome-inv z c lent (refused j) few h k = rw (k .0) (refused-inv (c .manager) lent j (k .1))
 
   pub commit-keeps : DidCommit port w t l v os out missing → Inv v (turn (commit os out missing) (isAccepted t) r)
   commit-keeps d =
-      let says = subst (λ (x : Outcome). CommitEnds x (w .manager) os out (d .result) (d .left)) (outcome-is (d .count)) (d .says) in
+      let says = subst (λ (x : Result State). CommitEnds x (w .manager) os out (d .result) (d .left)) (outcome-is (d .count)) (d .says) in
       let x = outcome-inv (d .count) (d .result) (d .left) (commitOf (heldBy (w .manager)) (d .count) os (length out)) (d .counted) refl says in
       rw (d .after, d .told) x

@@ -9,6 +9,7 @@ use lib.ListN.{length, take, drop, length-append, length-take}
 use lib.Seq.{take-append-le, take-all}
 use borrow.Author.Tests.{eqb-true, eqb-false}
 use Rattle.ids.specs.Limits.{longestManifest}
+use Rattle.ids.specs.Results.{given}
 use Rattle.lists.specs.Written.{over}
 use Rattle.lists.proofs.Tests.{by-cases}
 use Rattle.manifest.specs.Operations.{Operation}
@@ -17,7 +18,6 @@ use Rattle.frames.proofs.Texts.{frame-long}
 use Rattle.version_state.specs.declared.VersionManagerInner.{VersionManagerInner}
 use Rattle.version_state.specs.State.{State, stateOf, Hands}
 use Rattle.version_state.specs.Sound.{badInner}
-use Rattle.operations.specs.Steps.{left}
 use Rattle.commit.specs.Commit.{commitOf}
 use Rattle.recovery.specs.Sets as shows
 use Rattle.recovery.specs.Holds as manifest
@@ -33,7 +33,7 @@ use Rattle.plain_record.proofs.CommitState.{commit-manifest, commit-fit
 pub append-taken : (f out : List ℕ) (n : ℕ) → n ≤ length f → take n (over f out) ≡ take n f
 append-taken f out n h = take-append-le n f (drop (length f) out) h
 
-module _ (f : List ℕ) (p : Plain) (m n : VersionManagerInner) (z : ℕ) (os : List Operation) (room : ℕ) (s : State) (b : badInner m ≡ false) (few : length os ≤ z) (h : commitOf (stateOf m) z os room ≡ left s) (k : Hands n s) (c : ℕ) (i : Filed f (stateOf m) p) where
+module _ (f : List ℕ) (p : Plain) (m n : VersionManagerInner) (z : ℕ) (os : List Operation) (room : ℕ) (s : State) (b : badInner m ≡ false) (few : length os ≤ z) (h : commitOf (stateOf m) z os room ≡ given s) (k : Hands n s) (c : ℕ) (i : Filed f (stateOf m) p) where
   appended : manifest.Holds (f ++ frameOf os) (manifest.followed os (i .state)) × (shows.setsOf (manifest.followed os (i .state)) ≡ shows.setsOf s)
   appended = whole-appended f (i .state) m z os room s (i .holds) (i .same) b few h
 

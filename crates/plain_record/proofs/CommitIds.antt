@@ -9,11 +9,12 @@ use Rattle.lists.specs.Keyed.{allOf}
 use Rattle.lists.proofs.Keyed.{All, all-map, all-append, allOf-all, all-allOf}
 use Rattle.ids.specs.declared.refusal.Verdict.the-variants.{Accepted}
 use Rattle.ids.specs.Verdicts.{judged}
+use Rattle.ids.specs.Results.{given}
 use Rattle.manifest.specs.Operations.{Operation, createTable, dropTable, addRowset, deleteRowset, addVector, deleteVector, nextIds}
 use Rattle.version_state.specs.State.{State}
 use Rattle.operations.specs.Effect.{applied}
 use Rattle.operations.specs.Judge.{opRules}
-use Rattle.operations.specs.Steps.{left, stepsOf}
+use Rattle.operations.specs.Steps.{stepsOf}
 use Rattle.replay.specs.Replay.{reopened, settled}
 use Rattle.recovery.specs.Holds.{appliedAll, followed}
 use Rattle.plain_record.specs.Plain.{Id, tableId, rowsetId, vectorId, idsOf}
@@ -90,7 +91,7 @@ adds-done z s k =
     let q : k .ids ≡ z = sym (append-nil (k .ids)) ∙ k .all in
     rw (← q) (all-allOf (belowNext s) (k .ids) (k .over))
 
-pub steps-next : (e : ℕ) (os : List Operation) (s t : State) (l : List Id) → allOf (belowNext s) l ≡ true → stepsOf 0 e os s ≡ left t → allOf (belowNext t) (l ++ idsOf os) ≡ true
+pub steps-next : (e : ℕ) (os : List Operation) (s t : State) (l : List Id) → allOf (belowNext s) l ≡ true → stepsOf 0 e os s ≡ given t → allOf (belowNext t) (l ++ idsOf os) ≡ true
 steps-next e os s t l h g =
     let z = l ++ idsOf os in
     let k = steps-on (λ i ps u. Adds z ps u) e (λ i o ps u. adds-on z e i o ps u) 0 os s t (record { ids = l; over = allOf-all (belowNext s) l h; all = refl }) g in

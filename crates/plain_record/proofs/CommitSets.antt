@@ -4,15 +4,16 @@ use mathlib.Core.List.{List, [], _∷_, map}
 use Prim.Native.Nat.{ℕ, _+_, _≤_}
 use Rattle.ids.specs.declared.refusal.Verdict.the-variants.{Accepted}
 use Rattle.ids.specs.Verdicts.{judged}
+use Rattle.ids.specs.Results.{Result, refused, given, andThen}
 use Rattle.manifest.specs.Operations.{Operation, createTable, dropTable, addRowset, deleteRowset, addVector, deleteVector, nextIds}
 use Rattle.snapshot.specs.Tables.{TableEntry, created, byTable}
 use Rattle.version_state.specs.State.{State, pairsAt, vectorsAt}
 use Rattle.version_state.proofs.Facts.{Ordered}
 use Rattle.operations.specs.Effect.{applied}
 use Rattle.operations.specs.Judge.{opRules}
-use Rattle.operations.specs.Steps.{Outcome, left, stopped, andThen, stepOf, stepsOf}
+use Rattle.operations.specs.Steps.{stepOf, stepsOf}
 use Rattle.operations.proofs.Keeps.{ordered-applied}
-use Rattle.commit.proofs.Stepwise.{halt, step-left}
+use Rattle.commit.proofs.Stepwise.{halt, step-given}
 use Rattle.replay.proofs.Maps.{map-put, map-without}
 use Rattle.recovery.specs.Sets as shows
 use Rattle.recovery.proofs.Effects as effects
@@ -22,18 +23,18 @@ use Rattle.plain_record.proofs.Invariant.{plainTable}
 -- what holds of the operations still to come and of the state they find, step by step to the last
 pub steps-on : (P : ℕ → List Operation → State → Type 0) (e : ℕ)
     → ((i : ℕ) (o : Operation) (os : List Operation) (s : State) → P i (o ∷ os) s → judged (opRules i e o s) ≡ Accepted → P (i + 1) os (applied e o s))
-    → (i : ℕ) (os : List Operation) (s t : State) → P i os s → stepsOf i e os s ≡ left t → (j : ℕ) × P j [] t
+    → (i : ℕ) (os : List Operation) (s t : State) → P i os s → stepsOf i e os s ≡ given t → (j : ℕ) × P j [] t
 steps-on P e k i [] s t p h =
     let q : s ≡ t = cc in
     (i, rw (← q) p)
 steps-on P e k i (o ∷ os) s t p h = go (stepOf i e o s) refl h (λ u q. steps-on P e k (i + 1) os u t q)
   where
-    go : (x : Outcome) → stepOf i e o s ≡ x → andThen x (λ u. stepsOf (i + 1) e os u) ≡ left t
-        → ((u : State) → P (i + 1) os u → stepsOf (i + 1) e os u ≡ left t → (j : ℕ) × P j [] t) → (j : ℕ) × P j [] t
-    go (left u) a h ih =
-        let w = step-left i e o s u a in
+    go : (x : Result State) → stepOf i e o s ≡ x → andThen x (λ u. stepsOf (i + 1) e os u) ≡ given t
+        → ((u : State) → P (i + 1) os u → stepsOf (i + 1) e os u ≡ given t → (j : ℕ) × P j [] t) → (j : ℕ) × P j [] t
+    go (given u) a h ih =
+        let w = step-given i e o s u a in
         ih u (subst (P (i + 1) os) (w .1) (k i o os s p (w .0))) h
-    go (stopped r) a h ih = absurd (halt h)
+    go (refused r) a h ih = absurd (halt h)
 
 -- the sets that a state shows at an epoch, as the record's
 abbrev pub plainOf : shows.Sets → Sets
@@ -77,7 +78,7 @@ applies-on e z h i o os s k a =
     record { ordered = ordered-applied e o s (k .ordered); result = ap (applyAll os) (apply-at e o s h (k .ordered)) ∙ k .result }
 
 -- what the commit's epoch shows after the operations
-pub steps-sets : (e : ℕ) (os : List Operation) (s t : State) → 1 ≤ e → Ordered s → stepsOf 0 e os s ≡ left t → plainAt e t ≡ applyAll os (plainAt e s)
+pub steps-sets : (e : ℕ) (os : List Operation) (s t : State) → 1 ≤ e → Ordered s → stepsOf 0 e os s ≡ given t → plainAt e t ≡ applyAll os (plainAt e s)
 steps-sets e os s t h r g =
     let z = applyAll os (plainAt e s) in
     let k = steps-on (λ i ps u. Applies e z ps u) e (applies-on e z h) 0 os s t (record { ordered = r; result = refl }) g in

@@ -6,6 +6,7 @@ use Prim.Native.Nat.{ℕ, _+_, _≤_}
 use native.Mathlib.Omega.{arith}
 use lib.ListN.{length}
 use Rattle.ids.specs.Limits.{mostOperations, longestManifest}
+use Rattle.ids.specs.Results.{given}
 use Rattle.lists.specs.Keyed.{allOf}
 use Rattle.lists.proofs.Keyed.{all-map, allOf-all}
 use Rattle.manifest.specs.Operations.{Operation, wellFormed}
@@ -15,7 +16,6 @@ use Rattle.version_state.specs.State.{State, stateOf, withEpoch}
 use Rattle.version_state.specs.Sound.{badInner}
 use Rattle.version_state.proofs.Within.{within-of}
 use Rattle.version_state.proofs.Facts.{Sound, sound-of}
-use Rattle.operations.specs.Steps.{left}
 use Rattle.commit.specs.Commit.{commitOf}
 use Rattle.commit.proofs.Stepwise.{steps-manifest}
 use Rattle.commit.proofs.Sounds.{Accepts, accepts}
@@ -33,7 +33,7 @@ use Rattle.plain_record.proofs.CommitWaits.{Late, steps-waits}
 late-sound : (m : VersionManagerInner) → Sound m → Late (m .epoch + 1) (stateOf m .pairs)
 late-sound m s = all-map (stateOf m .pairs) (λ x h. omega (arith, within-of (m .epoch) _ x h .deleted)) (allOf-all _ (stateOf m .pairs) (s .pairs))
 
-module _ (m : VersionManagerInner) (n : ℕ) (os : List Operation) (room : ℕ) (s : State) (b : badInner m ≡ false) (h : commitOf (stateOf m) n os room ≡ left s) where
+module _ (m : VersionManagerInner) (n : ℕ) (os : List Operation) (room : ℕ) (s : State) (b : badInner m ≡ false) (h : commitOf (stateOf m) n os room ≡ given s) where
   a : Accepts (stateOf m) n os room s
   a = accepts (stateOf m) n os room s h
 

@@ -13,6 +13,7 @@ use Rattle.lists.proofs.Order.{same-true}
 use Rattle.lists.proofs.Keyed.{All, all-map, all-put, all-mapped, Ascending, ascend-to, after-absent, put-new, keep-placed-out, changed-absent, placed-swap}
 use Rattle.ids.specs.declared.refusal.Verdict.the-variants.{Accepted}
 use Rattle.ids.specs.Verdicts.{judged}
+use Rattle.ids.specs.Results.{given}
 use Rattle.ids.proofs.Verdicts.{none-judged}
 use Rattle.manifest.specs.Operations.{Operation, createTable, dropTable, addRowset, deleteRowset, addVector, deleteVector, nextIds}
 use Rattle.snapshot.specs.Entries.{Entry, addedAt, deletedAt, goneAt, shownAt, shownBy, byIds, byDeletion, waits}
@@ -20,7 +21,7 @@ use Rattle.version_state.specs.State.{State}
 use Rattle.version_state.proofs.Facts.{Ordered}
 use Rattle.operations.specs.Effect.{applied}
 use Rattle.operations.specs.Judge.{isShown, opRules}
-use Rattle.operations.specs.Steps.{left, stepsOf}
+use Rattle.operations.specs.Steps.{stepsOf}
 use Rattle.operations.proofs.Keeps.{ordered-applied}
 use Rattle.plain_record.specs.Sets.{itself}
 use Rattle.plain_record.specs.Plain.{Waiting, byEpochAndPair, deletions, await}
@@ -161,7 +162,7 @@ awaits-on c e z p i o os s k a =
 
 -- what waits after the operations of a commit at place c
 pub steps-waits : (c e : ℕ) (os : List Operation) (s t : State) (ws : List Waiting) → 1 ≤ e → Ordered s → Late e (s .pairs) → waitingIn s ≡ map byEpochAndPair ws
-    → stepsOf 0 e os s ≡ left t → waitingIn t ≡ map byEpochAndPair (await (deletions c e 0 os) ws)
+    → stepsOf 0 e os s ≡ given t → waitingIn t ≡ map byEpochAndPair (await (deletions c e 0 os) ws)
 steps-waits c e os s t ws p r l h g =
     let z = placedAll (map byEpochAndPair (deletions c e 0 os)) (waitList (s .pairs)) in
     let k = steps-on (Awaits c e z) e (awaits-on c e z p) 0 os s t (record { ordered = r; late = l; all = refl }) g in

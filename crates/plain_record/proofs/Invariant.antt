@@ -5,11 +5,12 @@ use mathlib.Core.List.{List, map}
 use Prim.Native.Nat.{ℕ, _≤_}
 use lib.ListN.{length}
 use Rattle.lists.specs.Keyed.{allOf}
+use Rattle.ids.specs.Results.{given}
 use Rattle.snapshot.specs.Tables.{TableEntry}
 use Rattle.version_state.specs.State.{State, pairsAt, vectorsAt}
 use Rattle.pins.specs.Book.{pinsOf, badBook, bound}
 use Rattle.version_manager.specs.Managers.{heldBy, badManager}
-use Rattle.replay.specs.Replay.{given, replayOf}
+use Rattle.replay.specs.Replay.{replayOf}
 use Rattle.recovery.specs.Sets.{setsOf}
 use Rattle.recovery.specs.Holds as manifest
 use Rattle.plain_record.specs.Sets.{Table, table, Sets, sets}

@@ -14,13 +14,14 @@ use Rattle.lists.proofs.Tests.{by-cases}
 use Rattle.lists.proofs.Keyed.{All}
 use Rattle.ids.specs.Answers.{Told, told}
 use Rattle.ids.specs.declared.refusal.Verdict.the-variants.{Accepted}
+use Rattle.ids.specs.Results.{given}
 use Rattle.snapshot.specs.Entries.{Entry, byDeletion}
 use Rattle.version_state.specs.State.{State, stateOf, withEpoch, Hands, pairsAt, vectorsAt}
 use Rattle.pins.specs.declared.PinBook.{PinBook}
 use Rattle.pins.specs.Book.{pinsOf, badBook, bound, Keeps}
 use Rattle.version_manager.specs.declared.VersionManager.{VersionManager}
 use Rattle.rewrite.specs.Rewritten.{rewrittenOf, longestRewritten}
-use Rattle.replay.specs.Replay.{given, stands, replayOf}
+use Rattle.replay.specs.Replay.{stands, replayOf}
 use Rattle.recovery.specs.Sets.{setsOf}
 use Rattle.recovery.specs.Holds as manifest
 use Rattle.recovery.proofs.SoundReading.{Whole, whole-replayed}

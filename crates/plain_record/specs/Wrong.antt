@@ -12,6 +12,7 @@ use Rattle.ids.specs.declared.refusal.Refusal.the-variants.{BadManager, EpochNo
 use Rattle.ids.specs.declared.refusal.Verdict.the-variants.{Accepted, Refused}
 use Rattle.ids.specs.Verdicts.{_⇒_, judged}
 use Rattle.ids.specs.Answers.{told, after}
+use Rattle.ids.specs.Results.{Result, refused, given, andThen, onward}
 use Rattle.manifest.specs.Operations.{Operation, end}
 use Rattle.manifest.specs.Lines.{lineText}
 use Rattle.manifest.specs.Split.{restOn, lines, joined}
@@ -20,7 +21,6 @@ use Rattle.version_state.specs.State.{State, withTables, withPairs, withVectors
 use Rattle.pins.specs.declared.PinBook.{PinBook}
 use Rattle.pins.specs.Book.{PinEntry, pinsOf, bound, Keeps}
 use Rattle.operations.specs.Effect.{applied}
-use Rattle.operations.specs.Steps.{Outcome, left, stopped, onward}
 use Rattle.commit.specs.Commit.{appendOf, firstRules, finishOf, commitOf}
 use Rattle.vacuum.specs.LetGo.{vacuumList, staysBy}
 use Rattle.vacuum.specs.Says.{boundOf, listOf}
@@ -37,7 +37,7 @@ use Rattle.pinning.specs.declared.PinAnswer.{PinAnswer}
 use Rattle.pinning.specs.declared.UnpinAnswer.{UnpinAnswer}
 use Rattle.pinning.specs.Counts.{withPin}
 use Rattle.pinning.specs.Says.{current, BookAfter, pinVerdict, pinTold, unpinVerdict, isDue, flag, unpinTold, readyOf}
-use Rattle.replay.specs.Replay.{Result, refused, given, andThen, stands, replayOf}
+use Rattle.replay.specs.Replay.{stands, replayOf}
 use Rattle.rewrite.specs.Rewritten.{rewrittenOf}
 use Rattle.storage.specs.declared.Reopened.{Reopened}
 use Rattle.storage.specs.Reopen.{openedOf, reopenOf, reopenTold, ReopenIs, ReopenSays}
@@ -106,22 +106,22 @@ abbrev pub showing : ShowsTablesBy → ShowsPairsBy → ShowsVectorsBy → Steps
 showing t s x = exchanged (port .commit) (port .pin) (port .unpin) (port .vacuum) (port .reopen) t s x
 
 -- a commit raises the epoch and the next ids, and keeps the old sets
-abbrev pub withSets : State → Outcome → Outcome
-withSets old (left s) = left (withVectors (withPairs (withTables s (old .tables)) (old .pairs)) (old .vectors))
-withSets old (stopped k) = stopped k
+abbrev pub withSets : State → Result State → Result State
+withSets old (given s) = given (withVectors (withPairs (withTables s (old .tables)) (old .pairs)) (old .vectors))
+withSets old (refused k) = refused k
 
-abbrev pub unchanged : VersionManager → ℕ → List Operation → ℕ → Outcome
+abbrev pub unchanged : VersionManager → ℕ → List Operation → ℕ → Result State
 unchanged m n os room = withSets (heldBy m) (outcomeOf m n os room)
 
 abbrev pub keepsSets : Steps
 keepsSets = committing (λ m n os out r out′. CommitEnds (unchanged m n os (length out)) m os out r out′)
 
 -- a commit leaves the epoch as it is
-abbrev pub atEpoch : ℕ → Outcome → Outcome
-atEpoch e (left s) = left (withEpoch s e (s .manifest))
-atEpoch e (stopped k) = stopped k
+abbrev pub atEpoch : ℕ → Result State → Result State
+atEpoch e (given s) = given (withEpoch s e (s .manifest))
+atEpoch e (refused k) = refused k
 
-abbrev pub unraised : VersionManager → ℕ → List Operation → ℕ → Outcome
+abbrev pub unraised : VersionManager → ℕ → List Operation → ℕ → Result State
 unraised m n os room = atEpoch (current m) (outcomeOf m n os room)
 
 abbrev pub leavesEpoch : Steps
@@ -132,7 +132,7 @@ abbrev pub appliedAt : ℕ → List Operation → State → State
 appliedAt e [] s = s
 appliedAt e (o ∷ os) s = appliedAt e os (applied e o s)
 
-abbrev pub unjudged : VersionManager → ℕ → List Operation → ℕ → Outcome
+abbrev pub unjudged : VersionManager → ℕ → List Operation → ℕ → Result State
 unjudged m n os room =
     onward (judged ((badManager m ⇒ BadManager) ∷ firstRules (heldBy m) n)) (finishOf (heldBy m .epoch + 1) os room (appliedAt (heldBy m .epoch + 1) os (heldBy m)))
 
@@ -143,11 +143,11 @@ judgesNothing = committing (λ m n os out r out′. CommitEnds (unjudged m n os 
 abbrev pub standing : State → State
 standing s = withPairs s (keep stands (s .pairs))
 
-abbrev pub beside : List Entry → Outcome → Outcome
-beside l (left s) = left (withPairs s (l ++ s .pairs))
-beside l (stopped k) = stopped k
+abbrev pub beside : List Entry → Result State → Result State
+beside l (given s) = given (withPairs s (l ++ s .pairs))
+beside l (refused k) = refused k
 
-abbrev pub unaware : VersionManager → ℕ → List Operation → ℕ → Outcome
+abbrev pub unaware : VersionManager → ℕ → List Operation → ℕ → Result State
 unaware m n os room =
     beside (keep waits (heldBy m .pairs)) (onward (judged ((badManager m ⇒ BadManager) ∷ [])) (commitOf (standing (heldBy m)) n os room))
 
@@ -158,12 +158,12 @@ forgetsWaiting = committing (λ m n os out r out′. CommitEnds (unaware m n os 
 abbrev pub unended : List ℕ → List ℕ
 unended l = take (length l - (length (lineText end) + 1)) l
 
-abbrev pub CommitEndsEarly : Outcome → VersionManager → List Operation → List ℕ → Committed → List ℕ → Type 0
-CommitEndsEarly (left s) m os out r out′ =
+abbrev pub CommitEndsEarly : Result State → VersionManager → List Operation → List ℕ → Committed → List ℕ → Type 0
+CommitEndsEarly (given s) m os out r out′ =
     (commitTold (r .answer) ≡ told Accepted (s .epoch ∷ length (unended (appendOf os)) ∷ []))
     × Manages (r .manager) s
     × (out′ ≡ over (unended (appendOf os)) out)
-CommitEndsEarly (stopped k) m os out r out′ = CommitEnds (stopped k) m os out r out′
+CommitEndsEarly (refused k) m os out r out′ = CommitEnds (refused k) m os out r out′
 
 abbrev pub appendsNoEnd : Steps
 appendsNoEnd = committing (λ m n os out r out′. CommitEndsEarly (outcomeOf m n os (length out)) m os out r out′)

@@ -12,11 +12,12 @@ use Rattle.manifest.specs.Operations.{Operation, Line, wellFormed}
 use Rattle.manifest.specs.Split.{lines}
 use Rattle.manifest.proofs.Split.{rest-none}
 use Rattle.ids.specs.Limits.{mostOperations, mostTables, mostHeld}
+use Rattle.ids.specs.Results.{given}
 use Rattle.frames.specs.Frames.{frameOf}
 use Rattle.snapshot.specs.Entries.{Entry}
 use Rattle.version_state.specs.State.{State, start, withPairs, withVectors, withEpoch}
 use Rattle.rewrite.specs.Rewritten.{createOf, addOf, addVectorOf, rewriteOf, rewrittenOf}
-use Rattle.replay.specs.Replay.{given, none, carried, reopened, atStart, stands, settled, overLimit, linesRead, replayOf}
+use Rattle.replay.specs.Replay.{none, carried, reopened, atStart, stands, settled, overLimit, linesRead, replayOf}
 use Rattle.recovery.specs.Holds.{Holds, appliedAll}
 use Rattle.recovery.proofs.Framed.{frame-lines, rest-frame}
 use Rattle.recovery.proofs.Reading.{saidRead, said-read, whole-append}

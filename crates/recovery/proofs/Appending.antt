@@ -12,15 +12,15 @@ use Rattle.manifest.specs.Lines.{lineOf}
 use Rattle.manifest.specs.Split.{restOn, lines, linesOn}
 use Rattle.manifest.proofs.Split.{lines-append}
 use Rattle.ids.specs.Limits.{mostOperations, longestManifest}
+use Rattle.ids.specs.Results.{Result, given, andThen}
 use Rattle.frames.specs.Frames.{frameOf}
 use Rattle.version_state.specs.declared.VersionManagerInner.{VersionManagerInner}
 use Rattle.version_state.specs.State.{State, start, withEpoch, stateOf}
 use Rattle.version_state.specs.Sound.{badInner}
 use Rattle.version_state.proofs.Facts.{sound-of}
-use Rattle.operations.specs.Steps.{left}
 use Rattle.commit.specs.Commit.{commitOf}
 use Rattle.commit.proofs.Sounds.{Accepts, accepts}
-use Rattle.replay.specs.Replay.{Result, given, andThen, none, Carried, carried, reopened, atStart, linesRead, finished, linesReplayed, replayOf}
+use Rattle.replay.specs.Replay.{none, Carried, carried, reopened, atStart, linesRead, finished, linesReplayed, replayOf}
 use Rattle.recovery.specs.Sets.{setsOf}
 use Rattle.recovery.specs.Holds.{Holds, appliedAll, followed, Appended, first, rewritten, committed, other}
 use Rattle.recovery.proofs.Reading.{saidRead, said-read, read-append, whole-append, torn-append}
@@ -68,7 +68,7 @@ torn-replayed src s os k h w few q short =
     ∙ holds-finished src s h
 
 -- an accepted commit of a manager with the same sets
-module _ (src : List ℕ) (s : State) (m : VersionManagerInner) (n : ℕ) (os : List Operation) (room : ℕ) (u : State) (h : Holds src s) (k : setsOf (stateOf m) ≡ setsOf s) (g : badInner m ≡ false) (few : length os ≤ n) (c : commitOf (stateOf m) n os room ≡ left u) where
+module _ (src : List ℕ) (s : State) (m : VersionManagerInner) (n : ℕ) (os : List Operation) (room : ℕ) (u : State) (h : Holds src s) (k : setsOf (stateOf m) ≡ setsOf s) (g : badInner m ≡ false) (few : length os ≤ n) (c : commitOf (stateOf m) n os room ≡ given u) where
   a : Accepts (stateOf m) n os room u
   a = accepts (stateOf m) n os room u c
 

@@ -15,6 +15,7 @@ use Rattle.columns.specs.Rows.{rows}
 use Rattle.columns.proofs.Rows.{rows-length}
 use Rattle.ids.specs.declared.refusal.Verdict.the-variants.{Accepted}
 use Rattle.ids.specs.Verdicts.{judged}
+use Rattle.ids.specs.Results.{Result, refused, given, andThen}
 use Rattle.ids.proofs.Verdicts.{none-judged}
 use Rattle.manifest.specs.Operations.{Operation, createTable, dropTable, addRowset, deleteRowset, addVector, deleteVector, nextIds, wellFormed}
 use Rattle.snapshot.specs.Entries.{Entry, addedAt, deletedAt, goneAt, shownAt, shownBy, shown, byIds}
@@ -25,9 +26,9 @@ use Rattle.version_state.proofs.Within.{Within, within-of}
 use Rattle.version_state.proofs.Facts.{Ordered, Sound}
 use Rattle.operations.specs.Effect.{applied}
 use Rattle.operations.specs.Judge.{isLive, opRules}
-use Rattle.operations.specs.Steps.{Outcome, left, stopped, andThen, stepOf, stepsOf}
+use Rattle.operations.specs.Steps.{stepOf, stepsOf}
 use Rattle.operations.proofs.Keeps.{Below, below-applied, ordered-applied}
-use Rattle.commit.proofs.Stepwise.{halt, step-left}
+use Rattle.commit.proofs.Stepwise.{halt, step-given}
 use Rattle.replay.specs.Replay.{reopened, conflicts}
 use Rattle.recovery.specs.Sets.{Sets, sets, unlocked, setsOf}
 use Rattle.recovery.specs.Holds.{appliedAll}
@@ -127,19 +128,19 @@ pub record Went (e : ℕ) (os : List Operation) (w v : State) : Type 0 where
 went-on : (e : ℕ) (o : Operation) (os : List Operation) (w v : State) → wellFormed o ≡ true → conflicts o v ≡ false → Went e os w (applied reopened o v) → Went e (o ∷ os) w v
 went-on e o os w v f c g = record { well = join f (g .well); free = rw c (g .free); beside = g .beside }
 
-pub beside-steps : (e i : ℕ) (os : List Operation) (t w v : State) → 1 ≤ e → Beside e t v → stepsOf i e os t ≡ left w → Went e os w v
+pub beside-steps : (e i : ℕ) (os : List Operation) (t w v : State) → 1 ≤ e → Beside e t v → stepsOf i e os t ≡ given w → Went e os w v
 beside-steps e i [] t w v p b h =
     let q : t ≡ w = cc in
     record { well = refl; free = refl; beside = subst (λ (u : State). Beside e u v) q b }
 beside-steps e i (o ∷ os) t w v p b h = go (stepOf i e o t) refl h (λ u c. beside-steps e (i + 1) os u w (applied reopened o v) p c)
   where
-    go : (x : Outcome) → stepOf i e o t ≡ x → andThen x (λ u. stepsOf (i + 1) e os u) ≡ left w
-        → ((u : State) → Beside e u (applied reopened o v) → stepsOf (i + 1) e os u ≡ left w → Went e os w (applied reopened o v)) → Went e (o ∷ os) w v
-    go (left u) a h ih =
-        let d = step-left i e o t u a in
+    go : (x : Result State) → stepOf i e o t ≡ x → andThen x (λ u. stepsOf (i + 1) e os u) ≡ given w
+        → ((u : State) → Beside e u (applied reopened o v) → stepsOf (i + 1) e os u ≡ given w → Went e os w (applied reopened o v)) → Went e (o ∷ os) w v
+    go (given u) a h ih =
+        let d = step-given i e o t u a in
         let c : Beside e u (applied reopened o v) = subst (λ (y : State). Beside e y (applied reopened o v)) (d .1) (beside-applied i e o t v p (d .0) b) in
         went-on e o os w v (well-formed i e o t (d .0)) (no-conflict i e o t v b (d .0)) (ih u c h)
-    go (stopped r) a h ih = absurd (halt h)
+    go (refused r) a h ih = absurd (halt h)
 
 -- Before the first of them: an epoch that nothing reaches shows what the one before it shows.
 next-shown : (e : ℕ) (ns : List ℕ) (x : Entry) → Within e ns x → shownBy (e + 1) x ≡ shownBy e x

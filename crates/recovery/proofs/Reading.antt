@@ -8,13 +8,14 @@ use native.Mathlib.Nat.{add-zero, not-suc-le-zero, le-of-suc-le-suc}
 use borrow.Author.Tests.{lt-leb}
 use lib.ListN.{length, take, length-append, length-take}
 use Rattle.ids.specs.Limits.{mostOperations}
+use Rattle.ids.specs.Results.{Result, refused, given, andThen}
 use Rattle.lists.proofs.Tests.{by-cases, clash}
 use Rattle.manifest.specs.Operations.{Operation, Line, begin, end, operation}
 use Rattle.manifest.specs.Lines.{lineOf}
 use Rattle.version_state.specs.State.{State}
 use Rattle.operations.specs.Effect.{applied}
 use Rattle.recovery.specs.Holds.{appliedAll}
-use Rattle.replay.specs.Replay.{Result, refused, given, andThen, Frame, none, opened, Carried, carried, reopened, conflicts, framed, settled, overLimit, lineRead, linesRead, finished}
+use Rattle.replay.specs.Replay.{Frame, none, opened, Carried, carried, reopened, conflicts, framed, settled, overLimit, lineRead, linesRead, finished}
 
 -- what lines say, one after another
 abbrev pub saidRead : List Line → Carried → Result Carried

@@ -9,6 +9,7 @@ use borrow.Author.Tests.{le-leb}
 use Rattle.lists.specs.Keyed.{keep, isAt, changed}
 use Rattle.lists.proofs.Tests.{by-cases}
 use Rattle.lists.proofs.Keyed.{All, all-map, all-put, all-keep, all-mapped, keep-keep, keep-same, ascend-to, ascend-from, ascending-keep}
+use Rattle.ids.specs.Results.{Result, refused, given, andThen}
 use Rattle.manifest.specs.Operations.{Operation, createTable, dropTable, addRowset, deleteRowset, addVector, deleteVector, nextIds, Line, begin, end, operation, bad}
 use Rattle.manifest.specs.Lines.{lineOf}
 use Rattle.manifest.specs.Split.{lines}
@@ -17,7 +18,7 @@ use Rattle.version_state.specs.State.{State, pairsAt, vectorsAt}
 use Rattle.version_state.proofs.Facts.{Ordered}
 use Rattle.operations.specs.Effect.{applied}
 use Rattle.operations.proofs.Keeps.{ordered-applied}
-use Rattle.replay.specs.Replay.{Result, refused, given, andThen, Frame, none, opened, Carried, carried, reopened, atStart, conflicts, framed, stands, settled, overLimit, limited, ended, noted, lineRead, linesRead}
+use Rattle.replay.specs.Replay.{Frame, none, opened, Carried, carried, reopened, atStart, conflicts, framed, stands, settled, overLimit, limited, ended, noted, lineRead, linesRead}
 use Rattle.recovery.specs.Sets.{sets, unlocked, setsOf}
 use Rattle.recovery.specs.Holds.{Holds}
 use Rattle.recovery.proofs.Effects.{setsAt}

@@ -19,13 +19,14 @@ use Rattle.snapshot.specs.Entries.{Entry, byIds, goneAt, shownAt, shownBy, belo
 use Rattle.snapshot.specs.Tables.{byTable}
 use Rattle.version_state.specs.declared.VersionManagerInner.{VersionManagerInner}
 use Rattle.ids.specs.Limits.{longestManifest}
+use Rattle.ids.specs.Results.{given}
 use Rattle.version_state.specs.State.{State, withEpoch, Hands}
 use Rattle.version_state.specs.Sound.{leftBehind, badInner}
 use Rattle.version_state.proofs.Within.{Within, of-within}
 use Rattle.version_state.proofs.Facts.{Ordered, of-sound}
 use Rattle.rewrite.specs.Rewritten.{createOf, addOf, addVectorOf, rewriteOf, rewrittenOf, longestRewritten}
 use Rattle.rewrite.proofs.Room.{rewritten-fits}
-use Rattle.replay.specs.Replay.{given, reopened, stands, replayOf}
+use Rattle.replay.specs.Replay.{reopened, stands, replayOf}
 use Rattle.recovery.proofs.SoundState.{Added, two, three}
 use Rattle.recovery.proofs.SoundReading.{Whole, whole-replayed}
 

@@ -17,10 +17,11 @@ use Rattle.manifest.specs.Lines.{lineOf}
 use Rattle.manifest.specs.Split.{lines}
 use Rattle.manifest.proofs.Lines.{text-parse}
 use Rattle.ids.specs.Limits.{mostOperations, mostTables, mostHeld, longestManifest}
+use Rattle.ids.specs.Results.{Result, refused, given, andThen}
 use Rattle.snapshot.specs.Entries.{Entry, byIds}
 use Rattle.version_state.specs.State.{State, start, withPairs, withVectors, withEpoch}
 use Rattle.operations.specs.Effect.{applied}
-use Rattle.replay.specs.Replay.{Result, refused, given, andThen, Frame, none, opened, Carried, carried, reopened, atStart, conflicts, framed, stands, settled, overLimit, limited, ended, noted, lineRead, linesRead, tableless, withoutOrphans, finished, linesReplayed, replayOf}
+use Rattle.replay.specs.Replay.{Frame, none, opened, Carried, carried, reopened, atStart, conflicts, framed, stands, settled, overLimit, limited, ended, noted, lineRead, linesRead, tableless, withoutOrphans, finished, linesReplayed, replayOf}
 use Rattle.recovery.proofs.SoundState.{Added, two, three, Kept, kept-applied}
 
 -- what an `E` leaves: nothing is marked, and the lists are within the limits

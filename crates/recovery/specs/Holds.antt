@@ -4,16 +4,16 @@ use mathlib.Core.Bool.{false}
 use mathlib.Core.List.{List, [], _∷_, _++_}
 use Prim.Native.Nat.{ℕ, _≤_}
 use lib.ListN.{length}
+use Rattle.ids.specs.Results.{given}
 use Rattle.manifest.specs.Operations.{Operation}
 use Rattle.manifest.specs.Split.{restOn, lines}
 use Rattle.version_state.specs.declared.VersionManagerInner.{VersionManagerInner}
 use Rattle.version_state.specs.State.{State, start, stateOf, Hands}
 use Rattle.version_state.specs.Sound.{badInner}
 use Rattle.operations.specs.Effect.{applied}
-use Rattle.operations.specs.Steps.{left}
 use Rattle.commit.specs.Commit.{appendOf, commitOf}
 use Rattle.rewrite.specs.Rewritten.{rewrittenOf}
-use Rattle.replay.specs.Replay.{given, Frame, carried, reopened, atStart, settled, linesRead, tableless, withoutOrphans, replayOf}
+use Rattle.replay.specs.Replay.{Frame, carried, reopened, atStart, settled, linesRead, tableless, withoutOrphans, replayOf}
 use Rattle.recovery.specs.Sets.{setsOf}
 
 -- src is empty or ends in a newline, its lines are read to the state s, and s has no rowset without its table and no vector without its rowset
@@ -40,5 +40,5 @@ pub data Appended : List ℕ → VersionManagerInner → Type 0 where
   first : (m : VersionManagerInner) → Hands m start → Appended [] m
   rewritten : (src : List ℕ) (s : State) (m : VersionManagerInner) → replayOf src ≡ given s → setsOf (stateOf m) ≡ setsOf s → Appended (rewrittenOf s) m
   committed : (src : List ℕ) (m n : VersionManagerInner) (k : ℕ) (os : List Operation) (room : ℕ) (u : State)
-      → Appended src m → badInner m ≡ false → length os ≤ k → commitOf (stateOf m) k os room ≡ left u → Hands n u → Appended (src ++ appendOf os) n
+      → Appended src m → badInner m ≡ false → length os ≤ k → commitOf (stateOf m) k os room ≡ given u → Hands n u → Appended (src ++ appendOf os) n
   other : (src : List ℕ) (m n : VersionManagerInner) → Appended src m → setsOf (stateOf n) ≡ setsOf (stateOf m) → Appended src n

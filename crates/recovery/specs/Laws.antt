@@ -7,13 +7,13 @@ use lib.ListN.{length, take}
 use Rattle.lists.specs.Keyed.{allOf}
 use Rattle.manifest.specs.Operations.{Operation, wellFormed}
 use Rattle.ids.specs.Limits.{mostOperations, longestManifest}
+use Rattle.ids.specs.Results.{given}
 use Rattle.version_state.specs.declared.VersionManagerInner.{VersionManagerInner}
 use Rattle.version_state.specs.State.{State, start, withEpoch, stateOf, Hands}
 use Rattle.version_state.specs.Sound.{badInner}
-use Rattle.operations.specs.Steps.{left}
 use Rattle.commit.specs.Commit.{appendOf, commitOf}
 use Rattle.rewrite.specs.Rewritten.{rewrittenOf, longestRewritten}
-use Rattle.replay.specs.Replay.{given, reopened, replayOf}
+use Rattle.replay.specs.Replay.{reopened, replayOf}
 use Rattle.recovery.specs.Sets.{setsOf}
 use Rattle.recovery.specs.Holds.{Holds, followed, Appended}
 
@@ -23,7 +23,7 @@ pub record AppendLaws : Type 0 where
   pub replayed : (src : List ℕ) (s : State) → Holds src s → length src ≤ longestManifest → replayOf src ≡ given s
   -- followed by a whole append of operations, at most k, that commit accepts on its sets: the state followed by these operations
   pub whole : (src : List ℕ) (s : State) (m : VersionManagerInner) (k : ℕ) (os : List Operation) (room : ℕ) (u : State)
-      → Holds src s → setsOf (stateOf m) ≡ setsOf s → badInner m ≡ false → length os ≤ k → commitOf (stateOf m) k os room ≡ left u
+      → Holds src s → setsOf (stateOf m) ≡ setsOf s → badInner m ≡ false → length os ≤ k → commitOf (stateOf m) k os room ≡ given u
       → Holds (src ++ appendOf os) (followed os s) × (setsOf (followed os s) ≡ setsOf u)
   -- followed by a proper first part of an append, cut at any byte: the state
   pub torn : (src : List ℕ) (s : State) (os : List Operation) (k : ℕ)

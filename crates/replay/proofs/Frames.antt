@@ -24,6 +24,7 @@ use Rattle.manifest.specs.declared.reader.LineAt.the-variants as found
 use Rattle.manifest.proofs.Split.{lines-at, lines-none, lines-from-start, line-placed, line-further}
 use Rattle.snapshot.specs.Entries.{Entry, byIds}
 use Rattle.ids.specs.Limits.{longestManifest, mostOperations}
+use Rattle.ids.specs.Results.{Result, refused, given, andThen}
 use Rattle.version_state.specs.State.{State, withPairs, withVectors}
 use Rattle.replay_lists.specs.Rows.{rows, byBoth, byFirst}
 use Rattle.replay_lists.proofs.Rows.{rows-length, firsts-length, seconds-length}
@@ -32,7 +33,7 @@ use Rattle.replay.specs.declared.Applied.{Applied}
 use Rattle.replay.specs.declared.Begun.{Begun}
 use Rattle.replay.specs.declared.Turn.{Turn}
 use Rattle.replay.specs.declared.Replayed.{Replayed}
-use Rattle.replay.specs.Replay.{Result, refused, given, andThen, Frame, none, Carried, carried, atStart, framed, stands, settled, overLimit, limited, ended, noted, lineRead, linesRead, finished, ReplayIs}
+use Rattle.replay.specs.Replay.{Frame, none, Carried, carried, atStart, framed, stands, settled, overLimit, limited, ended, noted, lineRead, linesRead, finished, ReplayIs}
 use Rattle.replay.specs.Working.{tableRoom, heldRoom, workRoom, tablesPart, pairsPart, vectorsPart, cut, pairRow, vectorRow, Slices, stateIn, Good, Grown, oneOf, AppliedIs, saidFrom, leading, framedLightly, FrameIs, Small, EndIs, BegunOk, BegunIs, Turned, TurnIs, OperationSays, Ready, RunIs, ReadTo}
 use Rattle.replay.proofs.Maps.{lex-split, ascending-mapped}
 use Rattle.replay.proofs.Working.{tables-whole, pairs-whole, vectors-whole}

@@ -8,11 +8,12 @@ use Rattle.lists.specs.Keyed.{keep, isAt, put, without, changed}
 use Rattle.lists.proofs.Tests.{by-cases, clash}
 use Rattle.lists.proofs.Order.{less-asym, less-total, less-trans, more-same, same-true, same-eq}
 use Rattle.lists.proofs.Keyed.{After, Ascending, all-map, all-keep, ascending-put, ascending-changed}
+use Rattle.ids.specs.Results.{Result, andThen}
 use Rattle.manifest.specs.Operations.{Operation, createTable, dropTable, addRowset, deleteRowset, addVector, deleteVector, nextIds}
 use Rattle.snapshot.specs.Entries.{Entry, addedAt, deletedAt, byIds}
 use Rattle.version_state.specs.State.{State, withPairs, withVectors}
 use Rattle.operations.specs.Effect.{applied}
-use Rattle.replay.specs.Replay.{Result, andThen, reopened, conflicts, framed, stands, settled}
+use Rattle.replay.specs.Replay.{reopened, conflicts, framed, stands, settled}
 use Rattle.replay.specs.Working.{lightly, framedLightly}
 
 module _ {A : Type 0} (key : A → List ℕ) where

@@ -13,6 +13,7 @@ use Rattle.lists.specs.Keyed.{allOf, anyOf, isAt, has, put, without, ascending}
 use Rattle.lists.proofs.Tests.{both}
 use Rattle.lists.proofs.Keyed.{ascend-to, ascend-from, ascending-put, ascending-keep, all-put, all-keep, allOf-all, all-allOf, anyOf-map}
 use Rattle.ids.specs.Ids.{largest32, largest64, isId32, isId64}
+use Rattle.ids.specs.Results.{Result}
 use Rattle.text.specs.Name.{isName}
 use Rattle.manifest.specs.Operations.{createTable, addRowset, addVector, operation}
 use Rattle.manifest.specs.Lines.{lineOf}
@@ -25,7 +26,7 @@ use Rattle.replay_lists.proofs.Parts.{back, back-in, back-before, back-after}
 use Rattle.replay_lists.proofs.Rows.{firsts-length, seconds-length}
 use Rattle.replay.specs.declared.Sets.{Sets}
 use Rattle.replay.specs.declared.Applied.{Applied}
-use Rattle.replay.specs.Replay.{Result, reopened}
+use Rattle.replay.specs.Replay.{reopened}
 use Rattle.replay.specs.Working.{shapeNoted, nameNoted, tableRow, pairRow, vectorRow, wide32, listsOf, cut, tablesPart, pairsPart, vectorsPart, tablesEnd, pairsEnd, workRoom, tablesIn, pairsIn, vectorsIn, stateIn, tableRoom, heldRoom, narrowFirst, TablesGood, PairsGood, VectorsGood, Good, Stands, AppliedIs}
 use Rattle.replay.proofs.Maps.{map-put, map-without, second-any, lex-split, eq-split, high, low}
 

@@ -6,9 +6,9 @@ use Prim.Native.Nat.{ℕ, _+_}
 use lib.Dec.{leb, ltb}
 use lib.ListN.{length}
 use Rattle.lists.specs.Keyed.{keep, allOf}
-use Rattle.ids.specs.declared.refusal.Refusal.{Refusal}
 use Rattle.ids.specs.declared.refusal.Refusal.the-variants.{ManifestTooLong, Malformed, TableConflict, OverLimit, RowsetWithoutTable, TooManyOperations}
 use Rattle.ids.specs.declared.refusal.Verdict.the-variants.{Accepted, Refused}
+use Rattle.ids.specs.Results.{Result, refused, given, andThen}
 use Rattle.manifest.specs.Operations.{Operation, createTable, dropTable, addRowset, deleteRowset, addVector, deleteVector, nextIds, Line, begin, end, operation, bad}
 use Rattle.manifest.specs.Lines.{lineOf}
 use Rattle.manifest.specs.Split.{lines}
@@ -20,16 +20,6 @@ use Rattle.version_state.specs.Sound.{hasTable, hasRowset}
 use Rattle.operations.specs.Effect.{applied}
 use Rattle.operations.specs.Judge.{isLive}
 use Rattle.replay.specs.declared.Replayed.{Replayed}
-
--- a refusal, or what is given
-pub data Result (A : Type 0) : Type 0 where
-  refused : Refusal → Result A
-  given : A → Result A
-
-module _ {A B : Type 0} where
-  abbrev pub andThen : Result A → (A → Result B) → Result B
-  andThen (refused k) f = refused k
-  andThen (given a) f = f a
 
 -- no frame is open, or one is: the number of the line after its `B`, and the operations since then, a line each
 pub data Frame : Type 0 where

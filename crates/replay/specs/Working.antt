@@ -16,6 +16,7 @@ use Rattle.manifest.specs.Split.{linesFrom}
 use Rattle.snapshot.specs.Entries.{Entry, addedAt, byIds}
 use Rattle.snapshot.specs.Tables.{TableEntry, created}
 use Rattle.ids.specs.Limits.{mostTables, mostHeld, longestManifest, mostOperations}
+use Rattle.ids.specs.Results.{Result, refused, given, andThen}
 use Rattle.version_state.specs.State.{State, withPairs, withVectors}
 use Rattle.operations.specs.Effect.{applied}
 use Rattle.replay_lists.specs.Rows.{rows, firsts, seconds, byBoth, byFirst}
@@ -24,7 +25,7 @@ use Rattle.replay.specs.declared.Applied.{Applied}
 use Rattle.replay.specs.declared.Here.{Here}
 use Rattle.replay.specs.declared.Begun.{Begun}
 use Rattle.replay.specs.declared.Turn.{Turn}
-use Rattle.replay.specs.Replay.{Result, refused, given, andThen, reopened, conflicts, Frame, none, opened, Carried}
+use Rattle.replay.specs.Replay.{reopened, conflicts, Frame, none, opened, Carried}
 
 -- one more than a number of 32 bits, and than a name's length, may be
 abbrev pub wide32 : ℕ

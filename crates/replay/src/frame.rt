@@ -23,7 +23,8 @@ ghost use lib.ListN.{length, take};
 ghost use Rattle.text.specs.Class.{Classes};
 ghost use Rattle.manifest.specs.Operations.{lineSaid};
 ghost use Rattle.ids.specs.Limits.{mostTables, mostHeld};
-ghost use Rattle.replay.specs.Replay.{limited, andThen};
+ghost use Rattle.ids.specs.Results.{andThen};
+ghost use Rattle.replay.specs.Replay.{limited};
 ghost use Rattle.replay.specs.Working.{leading, saidFrom, HereOf, HereSays, framedLightly, FrameIs, EndIs, Ready, cut, workRoom, stateIn};
 
 fn not_here() -> Here

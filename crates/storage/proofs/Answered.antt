@@ -11,9 +11,10 @@ use Rattle.ids.specs.declared.refusal.Refusal.{Refusal}
 use Rattle.ids.specs.declared.refusal.Refusal.the-variants.{OutputTooShort}
 use Rattle.ids.specs.declared.refusal.Verdict.the-variants.{Refused}
 use Rattle.ids.specs.Answers.{Told, told}
+use Rattle.ids.specs.Results.{Result, refused, given, andThen}
 use Rattle.version_state.specs.State.{State, withEpoch}
 use Rattle.rewrite.specs.Rewritten.{rewrittenOf}
-use Rattle.replay.specs.Replay.{Result, refused, given, andThen, replayOf}
+use Rattle.replay.specs.Replay.{replayOf}
 use Rattle.storage.specs.declared.Reopened.{Reopened}
 use Rattle.storage.specs.declared.ReopenAnswer.the-variants as answer
 use Rattle.storage.specs.Reopen.{openedOf, reopenTold, ReopenIs, ReopenSays}

@@ -4,9 +4,10 @@ use Prim.Native.Nat.{ℕ}
 use native.Mathlib.Omega.{arith}
 use Rattle.ids.specs.declared.refusal.Refusal.{Refusal}
 use Rattle.ids.specs.declared.refusal.Verdict.the-variants.{Accepted, Refused}
+use Rattle.ids.specs.Results.{Result, refused, given}
 use Rattle.version_state.specs.State.{State, stateOf, Fit}
 use Rattle.replay.specs.declared.Replayed.{Replayed}
-use Rattle.replay.specs.Replay.{Result, refused, given, ReplayIs}
+use Rattle.replay.specs.Replay.{ReplayIs}
 
 pub replay-refused : (x : Result State) (r : Replayed) (k : Refusal) → ReplayIs x r → r .verdict ≡ Refused k → x ≡ refused k
 unfolding ReplayIs

@@ -9,11 +9,12 @@ use Rattle.lists.specs.Written.{over}
 use Rattle.ids.specs.declared.refusal.Refusal.the-variants.{OutputTooShort}
 use Rattle.ids.specs.declared.refusal.Verdict.the-variants.{Accepted, Refused}
 use Rattle.ids.specs.Answers.{Told, told}
+use Rattle.ids.specs.Results.{Result, refused, given, andThen}
 use Rattle.version_state.specs.State.{State, start, withEpoch}
 use Rattle.pins.specs.Book.{Keeps}
 use Rattle.version_manager.specs.Managers.{Manages}
 use Rattle.rewrite.specs.Rewritten.{rewrittenOf}
-use Rattle.replay.specs.Replay.{Result, refused, given, andThen, replayOf}
+use Rattle.replay.specs.Replay.{replayOf}
 use Rattle.storage.specs.declared.Reopened.{Reopened}
 use Rattle.storage.specs.declared.ReopenAnswer.{ReopenAnswer}
 use Rattle.storage.specs.declared.ReopenAnswer.the-variants as answer

@@ -16,18 +16,18 @@ use Rattle.ids.specs.declared.refusal.Verdict.{Verdict}
 use Rattle.ids.specs.declared.refusal.Verdict.the-variants.{Accepted, Refused}
 use Rattle.ids.specs.Verdicts.{_⇒_, judged}
 use Rattle.ids.specs.Answers.{told, after}
+use Rattle.ids.specs.Results.{Result, refused, given, onward}
 use Rattle.manifest.specs.declared.operation.Batch.{Batch}
 use Rattle.manifest.specs.Operations.{Operation, operationOf, batchOf}
 use Rattle.snapshot.specs.Entries.{field}
 use Rattle.version_state.specs.State.{State}
 use Rattle.pins.specs.declared.PinBook.{PinBook}
-use Rattle.operations.specs.Steps.{Outcome, left, stopped, onward}
 use Rattle.operations.specs.Columns.{Columns, Stands}
 use Rattle.frames.specs.Frames.{textsOf}
 use Rattle.commit.specs.declared.Done.{Done}
 use Rattle.commit.specs.Commit.{commitOf, CommitIs}
 use Rattle.commit.specs.Lent.{asLine, operationsIn}
-use Rattle.commit.proofs.Sounds.{onward-left}
+use Rattle.commit.proofs.Sounds.{onward-given}
 use Rattle.commit.proofs.AsLines.{lines-room, lines-read, commit-same, commit-lines-same}
 use Rattle.vacuum.specs.declared.Released.{Released}
 use Rattle.vacuum.specs.LetGo.{vacuumed}
@@ -43,31 +43,31 @@ use Rattle.version_manager.specs.Vacuum.{vacuumVerdict, VacuumSays}
 -- a commit over the columns c that was refused, and one that was accepted
 module _ (m : VersionManager) (d : Done) (c : Columns) (r : Committed) where
   pub commit-no : (k : Refusal) → d .verdict ≡ Refused k → r .manager ≡ m → commitTold (r .answer) ≡ told (Refused k) []
-      → (x : Outcome) (os : List Operation) (out out′ : List ℕ) → CommitIs x os out d c out′ → CommitEnds x m os out r out′
-  commit-no k e h t (left s) os out out′ i = absurd (let z : _≡_ {A = ℕ} 0 1 = cc (i .0, e) in omega arith)
-  commit-no k e h t (stopped j) os out out′ i =
+      → (x : Result State) (os : List Operation) (out out′ : List ℕ) → CommitIs x os out d c out′ → CommitEnds x m os out r out′
+  commit-no k e h t (given s) os out out′ i = absurd (let z : _≡_ {A = ℕ} 0 1 = cc (i .0, e) in omega arith)
+  commit-no k e h t (refused j) os out out′ i =
       let q : k ≡ j = cc (i .0, e) in
       (t ∙ ap (λ (z : Refusal). told (Refused z) []) q, h, i .1)
 
   pub commit-yes : d .verdict ≡ Accepted → ((s : State) → Stands (d .held) c s → Manages (r .manager) s) → commitTold (r .answer) ≡ told Accepted (d .held .epoch ∷ d .length ∷ [])
-      → (x : Outcome) (os : List Operation) (out out′ : List ℕ) → CommitIs x os out d c out′ → CommitEnds x m os out r out′
-  commit-yes e h t (left s) os out out′ i =
+      → (x : Result State) (os : List Operation) (out out′ : List ℕ) → CommitIs x os out d c out′ → CommitEnds x m os out r out′
+  commit-yes e h t (given s) os out out′ i =
       (t ∙ ap (λ (z : State). told Accepted (z .epoch ∷ d .length ∷ [])) (i .2 .state) ∙ ap (λ (n : ℕ). told Accepted (s .epoch ∷ n ∷ [])) (i .1), h s (i .2), i .3)
-  commit-yes e h t (stopped j) os out out′ i = absurd (let z : _≡_ {A = ℕ} 0 1 = cc (i .0, e) in omega arith)
+  commit-yes e h t (refused j) os out out′ i = absurd (let z : _≡_ {A = ℕ} 0 1 = cc (i .0, e) in omega arith)
 
 -- a commit of a typed batch's lines is one of its operations
 module _ (m : VersionManager) (n : ℕ) (os : List Operation) (out : List ℕ) (r : Committed) (out′ : List ℕ) where
   outcome-same : outcomeOf m n (map asLine os) (length out) ≡ outcomeOf m n os (length out)
   outcome-same = ap (onward (judged ((badManager m ⇒ BadManager) ∷ []))) (commit-same (heldBy m) n os (length out))
 
-  ends-same : (x : Outcome) → outcomeOf m n os (length out) ≡ x → CommitEnds x m (map asLine os) out r out′ → CommitEnds x m os out r out′
-  ends-same (left s) h e =
-      let q = commit-lines-same (heldBy m) n os (length out) s (onward-left (judged ((badManager m ⇒ BadManager) ∷ [])) (commitOf (heldBy m) n os (length out)) s h .1) in
-      subst (λ (l : List Operation). CommitEnds (left s) m l out r out′) q e
-  ends-same (stopped k) h e = e
+  ends-same : (x : Result State) → outcomeOf m n os (length out) ≡ x → CommitEnds x m (map asLine os) out r out′ → CommitEnds x m os out r out′
+  ends-same (given s) h e =
+      let q = commit-lines-same (heldBy m) n os (length out) s (onward-given (judged ((badManager m ⇒ BadManager) ∷ [])) (commitOf (heldBy m) n os (length out)) s h .1) in
+      subst (λ (l : List Operation). CommitEnds (given s) m l out r out′) q e
+  ends-same (refused k) h e = e
 
   pub typed-says : CommitSays m n (map asLine os) out r out′ → CommitSays m n os out r out′
-  typed-says h = ends-same (outcomeOf m n os (length out)) refl (subst (λ (x : Outcome). CommitEnds x m (map asLine os) out r out′) outcome-same h)
+  typed-says h = ends-same (outcomeOf m n os (length out)) refl (subst (λ (x : Result State). CommitEnds x m (map asLine os) out r out′) outcome-same h)
 
 pub says-same : (m : VersionManager) (n : ℕ) (os : List Operation) (out : List ℕ) (r : Committed) (out′ : List ℕ) (k : ℕ) (l : List Operation) → n ≡ k → os ≡ l → CommitSays m n os out r out′ → CommitSays m k l out r out′
 says-same m n os out r out′ k l p q h = subst (λ (x : List Operation). CommitSays m k x out r out′) q (subst (λ (x : ℕ). CommitSays m x os out r out′) p h)

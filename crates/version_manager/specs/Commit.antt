@@ -8,8 +8,9 @@ use Rattle.ids.specs.declared.refusal.Refusal.the-variants.{BadManager}
 use Rattle.ids.specs.declared.refusal.Verdict.the-variants.{Accepted, Refused}
 use Rattle.ids.specs.Verdicts.{_⇒_, judged}
 use Rattle.ids.specs.Answers.{Told, told}
+use Rattle.ids.specs.Results.{Result, refused, given, onward}
 use Rattle.manifest.specs.Operations.{Operation}
-use Rattle.operations.specs.Steps.{Outcome, left, stopped, onward}
+use Rattle.version_state.specs.State.{State}
 use Rattle.commit.specs.Commit.{appendOf, commitOf}
 use Rattle.version_manager.specs.declared.VersionManager.{VersionManager}
 use Rattle.version_manager.specs.declared.CommitAnswer.{CommitAnswer}
@@ -18,7 +19,7 @@ use Rattle.version_manager.specs.declared.Committed.{Committed}
 use Rattle.version_manager.specs.Managers.{heldBy, badManager, Manages}
 
 -- 29, and then the commit of n operations os
-abbrev pub outcomeOf : VersionManager → ℕ → List Operation → ℕ → Outcome
+abbrev pub outcomeOf : VersionManager → ℕ → List Operation → ℕ → Result State
 outcomeOf m n os room = onward (judged ((badManager m ⇒ BadManager) ∷ [])) (commitOf (heldBy m) n os room)
 
 -- accepted: the new epoch and the append's length
@@ -26,12 +27,12 @@ abbrev pub commitTold : CommitAnswer → Told
 commitTold (answer.Appended e n) = told Accepted (e ∷ n ∷ [])
 commitTold (answer.Refused k) = told (Refused k) []
 
-abbrev pub CommitEnds : Outcome → VersionManager → List Operation → List ℕ → Committed → List ℕ → Type 0
-CommitEnds (left s) m os out r out′ =
+abbrev pub CommitEnds : Result State → VersionManager → List Operation → List ℕ → Committed → List ℕ → Type 0
+CommitEnds (given s) m os out r out′ =
     (commitTold (r .answer) ≡ told Accepted (s .epoch ∷ length (appendOf os) ∷ []))
     × Manages (r .manager) s
     × (out′ ≡ over (appendOf os) out)
-CommitEnds (stopped k) m os out r out′ = (commitTold (r .answer) ≡ told (Refused k) []) × (r .manager ≡ m) × (out′ ≡ out)
+CommitEnds (refused k) m os out r out′ = (commitTold (r .answer) ≡ told (Refused k) []) × (r .manager ≡ m) × (out′ ≡ out)
 
 -- what a commit by m of n operations os into the lent buffer says
 abbrev pub CommitSays : VersionManager → ℕ → List Operation → List ℕ → Committed → List ℕ → Type 0
