@@ -19,14 +19,15 @@ use Rattle.columns.specs.Rows.{rows, across, plain}
 use Rattle.snapshot.specs.Tables.{Whole}
 use Rattle.snapshot.proofs.TableRows.{ascending-tables}
 use Rattle.version_state.specs.declared.VersionManagerInner.{VersionManagerInner}
-use Rattle.version_state.specs.State.{State, withEpoch}
+use Rattle.version_state.specs.State.{State, withEpoch, Hands}
 use Rattle.version_state.specs.Sound.{badInner}
 use Rattle.version_state.proofs.Facts.{sound-of}
 use Rattle.version_state.proofs.Walks.{rising-prefix}
-use Rattle.operations.specs.declared.Held.{Held}
+use Rattle.version_state.specs.declared.Held.{Held}
 use Rattle.operations.specs.declared.Stepped.{Stepped}
 use Rattle.operations.specs.Steps.{stepOf, stepsOf}
-use Rattle.operations.specs.Columns.{Sized, Columns, columns, stateIn, Stands, Ready, StepIs}
+use Rattle.version_state.specs.Columns.{Columns, columns, stateIn, innerIn}
+use Rattle.operations.specs.Columns.{Sized, Ready, StepIs}
 use Rattle.operations.proofs.Keeps.{rising-vectors}
 use Rattle.frames.specs.Frames.{frameOf}
 use Rattle.commit.specs.declared.Done.{Done}
@@ -56,9 +57,7 @@ ready-of m b w z =
       record {
         whole = w;
         sized = z;
-        fewTables = s .fits .tables;
-        fewRowsets = s .fits .rowsets;
-        fewVectors = s .fits .vectors;
+        fits = s .fits;
         tables = s .ordered .tables;
         pairs = s .ordered .pairs;
         vectors = s .ordered .vectors;
@@ -132,7 +131,7 @@ module _ {h : Held} {c : Columns} (y : Ready h c) where
 pub commit-off : (x : Result State) (os : List Operation) (out : List ℕ) (r : Done) (c : Columns) (out′ : List ℕ) → Halts x (r .verdict) → out′ ≡ out → CommitIs x os out r c out′
 commit-off x os out r c out′ h q = rw (h .here) (h .told, q)
 
-pub commit-on : (x : Result State) (os : List Operation) (out : List ℕ) (r : Done) (c : Columns) (out′ : List ℕ) (s : State) → x ≡ given s → r .verdict ≡ Accepted → r .length ≡ length (frameOf os) → Stands (r .held) c s → out′ ≡ over (frameOf os) out
+pub commit-on : (x : Result State) (os : List Operation) (out : List ℕ) (r : Done) (c : Columns) (out′ : List ℕ) (s : State) → x ≡ given s → r .verdict ≡ Accepted → r .length ≡ length (frameOf os) → Hands (innerIn (r .held) c) s → out′ ≡ over (frameOf os) out
     → CommitIs x os out r c out′
 commit-on x os out r c out′ s q v n h w = rw q (v, n, h, w)
 

@@ -10,10 +10,11 @@ use Rattle.ids.specs.declared.refusal.Verdict.the-variants.{Accepted}
 use Rattle.ids.specs.Verdicts.{judged, isAccepted}
 use Rattle.ids.specs.Results.{given}
 use Rattle.version_state.specs.State.{withEpoch}
-use Rattle.operations.specs.declared.Held.{Held}
+use Rattle.version_state.specs.declared.Held.{Held}
 use Rattle.operations.specs.declared.Stepped.{Stepped}
 use Rattle.operations.specs.Steps.{stepsOf}
-use Rattle.operations.specs.Columns.{Columns, stateIn, Ready, StepIs}
+use Rattle.version_state.specs.Columns.{Columns, stateIn}
+use Rattle.operations.specs.Columns.{Ready, StepIs}
 use Rattle.frames.specs.Frames.{frameOf}
 use Rattle.commit.specs.Commit.{lastRules, commitOf}
 use Rattle.commit.specs.Lent.{operationsIn}

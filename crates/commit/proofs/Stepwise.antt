@@ -15,7 +15,8 @@ use Rattle.operations.specs.declared.Stepped.{Stepped}
 use Rattle.operations.specs.Effect.{applied}
 use Rattle.operations.specs.Judge.{opRules}
 use Rattle.operations.specs.Steps.{stepOf, stepsOf}
-use Rattle.operations.specs.Columns.{Columns, stateIn, Ready, StepIs}
+use Rattle.version_state.specs.Columns.{Columns, stateIn}
+use Rattle.operations.specs.Columns.{Ready, StepIs}
 
 pub manifest-applied : (e : ℕ) (o : Operation) (s : State) → applied e o s .manifest ≡ s .manifest
 manifest-applied e (createTable t h n) s = refl

@@ -11,10 +11,10 @@ use Rattle.ids.specs.Verdicts.{Rule, _⇒_, judged}
 use Rattle.manifest.specs.Operations.{Operation}
 use Rattle.ids.specs.Limits.{lastEpoch, longestManifest, mostOperations}
 use Rattle.ids.specs.Results.{Result, refused, given, andThen, onward}
-use Rattle.version_state.specs.State.{State, withEpoch}
+use Rattle.version_state.specs.State.{State, withEpoch, Hands}
 use Rattle.version_state.specs.Sound.{leftBehind}
 use Rattle.operations.specs.Steps.{stepsOf}
-use Rattle.operations.specs.Columns.{Columns, Stands}
+use Rattle.version_state.specs.Columns.{Columns, innerIn}
 use Rattle.frames.specs.Frames.{frameOf}
 use Rattle.commit.specs.declared.Done.{Done}
 
@@ -46,5 +46,5 @@ commitOf s n os room = onward (judged (firstRules s n)) (andThen (stepsOf 0 (s .
 -- Internal: a commit of os over columns, into the lent buffer. What is left stands in the columns, and the frame to append in the
 -- buffer; or a refusal, and nothing written.
 abbrev pub CommitIs : Result State → List Operation → List ℕ → Done → Columns → List ℕ → Type 0
-CommitIs (given s) os out r c out′ = (r .verdict ≡ Accepted) × (r .length ≡ length (appendOf os)) × Stands (r .held) c s × (out′ ≡ over (appendOf os) out)
+CommitIs (given s) os out r c out′ = (r .verdict ≡ Accepted) × (r .length ≡ length (appendOf os)) × Hands (innerIn (r .held) c) s × (out′ ≡ over (appendOf os) out)
 CommitIs (refused k) os out r c out′ = (r .verdict ≡ Refused k) × (out′ ≡ out)

@@ -11,8 +11,8 @@ use manifest::operation::EpochOp;
 use manifest::operation::ManifestOperation;
 use manifest::operation::ParsedLine;
 use manifest::reader::LineAt;
-use operations::Held;
 use operations::Stepped;
+use version_state::Held;
 ghost use mathlib.Core.Path.{_≡_};
 ghost use mathlib.Core.Bool.{true};
 ghost use mathlib.Core.List.{_∷_};
@@ -22,7 +22,8 @@ ghost use Rattle.text.specs.Class.{Classes};
 ghost use Rattle.manifest.specs.Operations.{nextIds, operationOf, wellFormed};
 ghost use Rattle.manifest.specs.Lines.{lineOf};
 ghost use Rattle.operations.specs.Steps.{stepsOf};
-ghost use Rattle.operations.specs.Columns.{columns, stateIn, Ready, StepIs};
+ghost use Rattle.version_state.specs.Columns.{columns, stateIn};
+ghost use Rattle.operations.specs.Columns.{Ready, StepIs};
 ghost use Rattle.commit.specs.Lent.{operationSaid, operationsIn};
 
 // An operation, and the place after its line.

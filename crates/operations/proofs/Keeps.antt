@@ -22,12 +22,13 @@ use Rattle.snapshot.specs.Tables.{TableEntry, created, byTable, tableAt, Whole}
 use Rattle.snapshot.proofs.Entries.{ascending-ids}
 use Rattle.version_state.specs.State.{State}
 use Rattle.version_state.proofs.Facts.{Ordered}
-use Rattle.operations.specs.declared.Held.{Held}
+use Rattle.version_state.specs.declared.Held.{Held}
 use Rattle.operations.specs.declared.Stepped.{Stepped}
 use Rattle.operations.specs.Effect.{applied}
 use Rattle.operations.specs.Judge.{stateRules, opRules}
 use Rattle.operations.specs.Steps.{stepOf}
-use Rattle.operations.specs.Columns.{Leaves, Turned, Sized, Rising, Columns, stateIn, Ready, StepIs}
+use Rattle.version_state.specs.Columns.{Columns, stateIn}
+use Rattle.operations.specs.Columns.{Leaves, Turned, Sized, Rising, Ready, StepIs}
 
 entries-put : (x : Entry) (l : List Entry) → ascending byIds l ≡ true → ascending byIds (put byIds x l) ≡ true
 entries-put x l h = ascend-from byIds (put byIds x l) (ascending-put byIds x l (ascend-to byIds l h))
@@ -104,9 +105,12 @@ module _ (h : Held) (c : Columns) (s : State) (q : stateIn h c ≡ s) where
       record {
         whole = w;
         sized = z;
-        fewTables = omega (arith, g .tables, rows-length (tableAt (c .ids) (c .shapes) (c .lengths) (c .names) (c .locked)) (h .tables));
-        fewRowsets = omega (arith, g .pairs, rows-length (entryAt (c .pairTables ∷ c .pairRowsets ∷ []) (c .pairAdded) (c .pairDeleted)) (h .rowsets));
-        fewVectors = omega (arith, g .vectors, rows-length (entryAt (c .tables ∷ c .rowsets ∷ c .vectors ∷ []) (c .added) (c .deleted)) (h .vectors));
+        fits =
+          record {
+            tables = omega (arith, g .tables, rows-length (tableAt (c .ids) (c .shapes) (c .lengths) (c .names) (c .locked)) (h .tables));
+            rowsets = omega (arith, g .pairs, rows-length (entryAt (c .pairTables ∷ c .pairRowsets ∷ []) (c .pairAdded) (c .pairDeleted)) (h .rowsets));
+            vectors = omega (arith, g .vectors, rows-length (entryAt (c .tables ∷ c .rowsets ∷ c .vectors ∷ []) (c .added) (c .deleted)) (h .vectors));
+          };
         tables = p .tables;
         pairs = p .pairs;
         vectors = p .vectors;
@@ -117,16 +121,16 @@ module _ {h : Held} {c : Columns} (y : Ready h c) where
   short : Short (stateIn h c)
   short =
       record {
-        tables = omega (arith, y .fewTables, rows-length (tableAt (c .ids) (c .shapes) (c .lengths) (c .names) (c .locked)) (h .tables));
-        pairs = omega (arith, y .fewRowsets, rows-length (entryAt (c .pairTables ∷ c .pairRowsets ∷ []) (c .pairAdded) (c .pairDeleted)) (h .rowsets));
-        vectors = omega (arith, y .fewVectors, rows-length (entryAt (c .tables ∷ c .rowsets ∷ c .vectors ∷ []) (c .added) (c .deleted)) (h .vectors));
+        tables = omega (arith, y .fits .tables, rows-length (tableAt (c .ids) (c .shapes) (c .lengths) (c .names) (c .locked)) (h .tables));
+        pairs = omega (arith, y .fits .rowsets, rows-length (entryAt (c .pairTables ∷ c .pairRowsets ∷ []) (c .pairAdded) (c .pairDeleted)) (h .rowsets));
+        vectors = omega (arith, y .fits .vectors, rows-length (entryAt (c .tables ∷ c .rowsets ∷ c .vectors ∷ []) (c .added) (c .deleted)) (h .vectors));
       }
 
   pub rising-pairs : Rising (c .pairTables ∷ c .pairRowsets ∷ []) (h .rowsets)
-  rising-pairs = record { fits = y .fewRowsets; rises = sym (ascending-ids (c .pairTables ∷ c .pairRowsets ∷ []) (c .pairAdded) (c .pairDeleted) (h .rowsets)) ∙ y .pairs }
+  rising-pairs = record { fits = y .fits .rowsets; rises = sym (ascending-ids (c .pairTables ∷ c .pairRowsets ∷ []) (c .pairAdded) (c .pairDeleted) (h .rowsets)) ∙ y .pairs }
 
   pub rising-vectors : Rising (c .tables ∷ c .rowsets ∷ c .vectors ∷ []) (h .vectors)
-  rising-vectors = record { fits = y .fewVectors; rises = sym (ascending-ids (c .tables ∷ c .rowsets ∷ c .vectors ∷ []) (c .added) (c .deleted) (h .vectors)) ∙ y .vectors }
+  rising-vectors = record { fits = y .fits .vectors; rises = sym (ascending-ids (c .tables ∷ c .rowsets ∷ c .vectors ∷ []) (c .added) (c .deleted) (h .vectors)) ∙ y .vectors }
 
   -- what a kind of operation did is a step
   pub turned-step : (i e : ℕ) (o : Operation) (r : Stepped) (d : Columns) → wellFormed o ≡ true → Turned i e o (stateIn h c) r (stateIn (r .held) d)

@@ -1,39 +1,30 @@
--- A state in lent columns, and what a step over them says. All here is internal. Assumes nothing.
+-- What a step over lent columns says. All here is internal. Assumes nothing.
 use mathlib.Core.Path.{_≡_}
-use mathlib.Core.Bool.{Bool, true}
+use mathlib.Core.Bool.{true}
 use mathlib.Core.List.{List, [], _∷_}
 use Prim.Native.Nat.{ℕ, _≤_}
 use lib.Dec.{ltb}
 use lib.ListN.{length}
 use Rattle.lists.specs.Keyed.{allOf, ascending}
-use Rattle.ids.specs.Limits.{mostTables, mostHeld}
+use Rattle.ids.specs.Limits.{mostHeld}
 use Rattle.ids.specs.declared.refusal.Verdict.{Verdict}
 use Rattle.ids.specs.declared.refusal.Verdict.the-variants.{Accepted, Refused}
 use Rattle.ids.specs.Verdicts.{judged}
 use Rattle.ids.specs.Results.{Result, refused, given, onward}
 use Rattle.columns.specs.Rows.{rows, across, plain}
 use Rattle.manifest.specs.Operations.{Operation}
-use Rattle.snapshot.specs.Entries.{Entry, byIds, entries}
-use Rattle.snapshot.specs.Tables.{TableEntry, byTable, tableRows, Whole}
-use Rattle.version_state.specs.State.{State}
-use Rattle.operations.specs.declared.Held.{Held}
+use Rattle.snapshot.specs.Entries.{Entry, byIds}
+use Rattle.snapshot.specs.Tables.{TableEntry, byTable, Whole}
+use Rattle.version_state.specs.declared.Held.{Held}
+use Rattle.version_state.specs.State.{State, stateBy, Fit}
+use Rattle.version_state.specs.Columns.{Columns, innerIn, stateIn}
 use Rattle.operations.specs.declared.Stepped.{Stepped}
 use Rattle.operations.specs.Effect.{applied}
 use Rattle.operations.specs.Judge.{stateRules}
 
--- the state that stands in columns, each list by its count, beside the numbers h.
+-- the state that stands in columns, each list by its count, beside the numbers h
 abbrev pub stateHeld : Held → (ℕ → List TableEntry) → (ℕ → List Entry) → (ℕ → List Entry) → State
-stateHeld h ts ps vs =
-    record {
-      epoch = h .epoch;
-      nextTable = h .next .table .0;
-      nextRowset = h .next .rowset .0;
-      nextVector = h .next .vector .0;
-      tables = ts (h .tables);
-      pairs = ps (h .rowsets);
-      vectors = vs (h .vectors);
-      manifest = h .manifest;
-    }
+stateHeld h ts ps vs = stateBy (h .epoch) (h .next) (ts (h .tables)) (ps (h .rowsets)) (vs (h .vectors)) (h .manifest)
 
 -- the outcome is the verdict v; what is left, where it is accepted, is t
 unfoldable pub Leaves : Result State → Verdict → State → Type 0
@@ -54,48 +45,11 @@ pub record Rising (ks : List (List ℕ)) (n : ℕ) : Type 0 where
   pub fits : n ≤ mostHeld
   pub rises : ascending plain (rows (across ks) n) ≡ true
 
--- the columns of a state: of its tables, of its pairs, and of its vectors
-pub record Columns : Type 0 where
-  pub ids : List ℕ
-  pub shapes : List ℕ
-  pub lengths : List ℕ
-  pub names : List ℕ
-  pub locked : List Bool
-  pub pairTables : List ℕ
-  pub pairRowsets : List ℕ
-  pub pairAdded : List ℕ
-  pub pairDeleted : List ℕ
-  pub tables : List ℕ
-  pub rowsets : List ℕ
-  pub vectors : List ℕ
-  pub added : List ℕ
-  pub deleted : List ℕ
-
-abbrev pub columns : List ℕ → List ℕ → List ℕ → List ℕ → List Bool → List ℕ → List ℕ → List ℕ → List ℕ → List ℕ → List ℕ → List ℕ → List ℕ → List ℕ → Columns
-columns i s l n k a b c d t r v x y =
-    record { ids = i; shapes = s; lengths = l; names = n; locked = k; pairTables = a; pairRowsets = b; pairAdded = c; pairDeleted = d; tables = t; rowsets = r; vectors = v; added = x; deleted = y }
-
--- the state that stands in columns
-abbrev pub stateIn : Held → Columns → State
-stateIn h c =
-    stateHeld h (tableRows (c .ids) (c .shapes) (c .lengths) (c .names) (c .locked))
-    (entries (c .pairTables ∷ c .pairRowsets ∷ []) (c .pairAdded) (c .pairDeleted))
-    (entries (c .tables ∷ c .rowsets ∷ c .vectors ∷ []) (c .added) (c .deleted))
-
--- the state s stands in columns, its counts within the limits
-pub record Stands (h : Held) (c : Columns) (s : State) : Type 0 where
-  pub fewTables : h .tables ≤ mostTables
-  pub fewRowsets : h .rowsets ≤ mostHeld
-  pub fewVectors : h .vectors ≤ mostHeld
-  pub state : stateIn h c ≡ s
-
 -- what a step needs: columns of their arrays' lengths, counts within the limits, lists that rise, and tables below the next id
 pub record Ready (h : Held) (c : Columns) : Type 0 where
   pub whole : Whole (c .ids) (c .shapes) (c .lengths) (c .names) (c .locked)
   pub sized : Sized (c .pairTables ∷ c .pairRowsets ∷ c .pairAdded ∷ c .pairDeleted ∷ c .tables ∷ c .rowsets ∷ c .vectors ∷ c .added ∷ c .deleted ∷ [])
-  pub fewTables : h .tables ≤ mostTables
-  pub fewRowsets : h .rowsets ≤ mostHeld
-  pub fewVectors : h .vectors ≤ mostHeld
+  pub fits : Fit (innerIn h c)
   pub tables : ascending byTable (stateIn h c .tables) ≡ true
   pub pairs : ascending byIds (stateIn h c .pairs) ≡ true
   pub vectors : ascending byIds (stateIn h c .vectors) ≡ true

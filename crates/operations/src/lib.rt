@@ -6,27 +6,18 @@ use ids::refusal::Refusal;
 use ids::refusal::Verdict;
 use manifest::operation::Change;
 use manifest::operation::EpochOp;
-use version_state::NextIds;
+use version_state::Held;
 ghost use mathlib.Core.Path.{_≡_};
 ghost use mathlib.Core.Bool.{true};
 ghost use Rattle.manifest.specs.Operations.{operationOf, wellFormed};
+ghost use Rattle.version_state.specs.Columns.{columns, stateIn};
 ghost use Rattle.operations.specs.Laws.{JudgedAlike};
 ghost use Rattle.operations.specs.Steps.{stepOf};
-ghost use Rattle.operations.specs.Columns.{columns, stateIn, Ready, StepIs};
+ghost use Rattle.operations.specs.Columns.{Ready, StepIs};
 
 pub mod pairs;
 pub mod tables;
 pub mod vectors;
-
-// The numbers of a state, beside its columns: `tables`, `rowsets` and `vectors` are the counts.
-pub struct Held {
-    pub epoch: u32,
-    pub next: NextIds,
-    pub tables: usize,
-    pub rowsets: usize,
-    pub vectors: usize,
-    pub manifest: usize,
-}
 
 pub struct Stepped {
     pub verdict: Verdict,

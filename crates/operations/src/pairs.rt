@@ -1,11 +1,11 @@
 // Operations on the lent columns of pairs. All here is internal.
-use crate::Held;
 use crate::Stepped;
 use ids::RowsetNo;
 use ids::TableNo;
 use ids::limits::MOST_HELD;
 use ids::limits::MOST_TABLES;
 use ids::refusal::Refusal;
+use version_state::Held;
 ghost use mathlib.Core.Path.{_≡_};
 ghost use mathlib.Core.Bool.{Bool, _&&_};
 ghost use mathlib.Core.List.{List, [], _∷_};

@@ -1,11 +1,11 @@
 // Operations on the lent columns of tables. All here is internal.
-use crate::Held;
 use crate::Stepped;
 use ids::TableNo;
 use ids::limits::MOST_TABLES;
 use ids::limits::NAME_BYTES;
 use ids::name::Name;
 use ids::refusal::Refusal;
+use version_state::Held;
 ghost use mathlib.Core.Path.{_≡_};
 ghost use mathlib.Core.Bool.{true};
 ghost use mathlib.Core.List.{List};

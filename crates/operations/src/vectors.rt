@@ -1,11 +1,11 @@
 // Operations on the lent columns of vectors. All here is internal.
-use crate::Held;
 use crate::Stepped;
 use ids::RowsetNo;
 use ids::TableNo;
 use ids::VectorNo;
 use ids::limits::MOST_HELD;
 use ids::refusal::Refusal;
+use version_state::Held;
 ghost use mathlib.Core.Path.{_≡_};
 ghost use mathlib.Core.Bool.{false, _&&_};
 ghost use mathlib.Core.List.{List, [], _∷_};

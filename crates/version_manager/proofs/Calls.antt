@@ -20,9 +20,9 @@ use Rattle.ids.specs.Results.{Result, refused, given, onward}
 use Rattle.manifest.specs.declared.operation.Batch.{Batch}
 use Rattle.manifest.specs.Operations.{Operation, operationOf, batchOf}
 use Rattle.snapshot.specs.Entries.{field}
-use Rattle.version_state.specs.State.{State}
+use Rattle.version_state.specs.State.{State, Hands}
 use Rattle.pins.specs.declared.PinBook.{PinBook}
-use Rattle.operations.specs.Columns.{Columns, Stands}
+use Rattle.version_state.specs.Columns.{Columns, innerIn}
 use Rattle.frames.specs.Frames.{textsOf}
 use Rattle.commit.specs.declared.Done.{Done}
 use Rattle.commit.specs.Commit.{commitOf, CommitIs}
@@ -49,7 +49,7 @@ module _ (m : VersionManager) (d : Done) (c : Columns) (r : Committed) where
       let q : k ≡ j = cc (i .0, e) in
       (t ∙ ap (λ (z : Refusal). told (Refused z) []) q, h, i .1)
 
-  pub commit-yes : d .verdict ≡ Accepted → ((s : State) → Stands (d .held) c s → Manages (r .manager) s) → commitTold (r .answer) ≡ told Accepted (d .held .epoch ∷ d .length ∷ [])
+  pub commit-yes : d .verdict ≡ Accepted → ((s : State) → Hands (innerIn (d .held) c) s → Manages (r .manager) s) → commitTold (r .answer) ≡ told Accepted (d .held .epoch ∷ d .length ∷ [])
       → (x : Result State) (os : List Operation) (out out′ : List ℕ) → CommitIs x os out d c out′ → CommitEnds x m os out r out′
   commit-yes e h t (given s) os out out′ i =
       (t ∙ ap (λ (z : State). told Accepted (z .epoch ∷ d .length ∷ [])) (i .2 .state) ∙ ap (λ (n : ℕ). told Accepted (s .epoch ∷ n ∷ [])) (i .1), h s (i .2), i .3)

@@ -8,9 +8,6 @@ use Rattle.snapshot.specs.Entries.{Entry, shown}
 use Rattle.snapshot.specs.Tables.{TableEntry}
 use Rattle.snapshot.specs.Views.{tablesOf, rowsetsOf, vectorsOf}
 use Rattle.ids.specs.Limits.{mostTables, mostHeld}
-use Rattle.snapshot.specs.declared.tables.Tables.{Tables}
-use Rattle.snapshot.specs.declared.rowsets.Rowsets.{Rowsets}
-use Rattle.snapshot.specs.declared.vectors.Vectors.{Vectors}
 use Rattle.version_state.specs.declared.NextIds.{NextIds}
 use Rattle.version_state.specs.declared.VersionManagerInner.{VersionManagerInner}
 
@@ -53,31 +50,13 @@ abbrev pub withEpoch : State → ℕ → ℕ → State
 withEpoch s e n =
     record { epoch = e; nextTable = s .nextTable; nextRowset = s .nextRowset; nextVector = s .nextVector; tables = s .tables; pairs = s .pairs; vectors = s .vectors; manifest = n }
 
--- what is held in columns: ids, shapes, lengths of names, names, locks; tables, rowsets, added, deleted; tables, rowsets, vectors, added, deleted
-abbrev pub tablesIn : List ℕ → List ℕ → List ℕ → List ℕ → List Bool → ℕ → Tables
-tablesIn i s l n k c = record { ids = i; shapes = s; lengths = l; names = n; locked = k; count = c }
-
-abbrev pub rowsetsIn : List ℕ → List ℕ → List ℕ → List ℕ → ℕ → Rowsets
-rowsetsIn t r a d c = record { tables = t; rowsets = r; added = a; deleted = d; count = c }
-
-abbrev pub vectorsIn : List ℕ → List ℕ → List ℕ → List ℕ → List ℕ → ℕ → Vectors
-vectorsIn t r v a d c = record { tables = t; rowsets = r; vectors = v; added = a; deleted = d; count = c }
-
-abbrev pub innerIn : ℕ → NextIds → Tables → Rowsets → Vectors → ℕ → VersionManagerInner
-innerIn e n ts ps vs k = record { epoch = e; next = n; tables = ts; rowsets = ps; vectors = vs; manifest = k }
+-- a state by its epoch, next ids, lists and manifest length
+abbrev pub stateBy : ℕ → NextIds → List TableEntry → List Entry → List Entry → ℕ → State
+stateBy e n ts ps vs k =
+    record { epoch = e; nextTable = n .table .0; nextRowset = n .rowset .0; nextVector = n .vector .0; tables = ts; pairs = ps; vectors = vs; manifest = k }
 
 abbrev pub stateOf : VersionManagerInner → State
-stateOf m =
-    record {
-      epoch = m .epoch;
-      nextTable = m .next .table .0;
-      nextRowset = m .next .rowset .0;
-      nextVector = m .next .vector .0;
-      tables = tablesOf (m .tables);
-      pairs = rowsetsOf (m .rowsets);
-      vectors = vectorsOf (m .vectors);
-      manifest = m .manifest;
-    }
+stateOf m = stateBy (m .epoch) (m .next) (tablesOf (m .tables)) (rowsetsOf (m .rowsets)) (vectorsOf (m .vectors)) (m .manifest)
 
 -- the counts of the arrays are within document 01's limits
 abbrev pub countsFit : VersionManagerInner → Bool

@@ -18,7 +18,8 @@ ghost use mathlib.Core.List.{List};
 ghost use Prim.Native.Nat.{ℕ};
 ghost use lib.ListN.{length};
 ghost use Rattle.snapshot.specs.Tables.{nameBytes};
-ghost use Rattle.version_state.specs.State.{start, Hands, tablesIn, rowsetsIn, vectorsIn, innerIn};
+ghost use Rattle.version_state.specs.State.{start, Hands};
+ghost use Rattle.version_state.specs.Columns.{columns, numbers, innerIn};
 ghost use Rattle.version_state.specs.Sound.{badInner};
 
 // The next id of each kind.
@@ -37,6 +38,16 @@ pub struct VersionManagerInner {
     pub rowsets: Rowsets,
     pub vectors: Vectors,
     // The manifest's length.
+    pub manifest: usize,
+}
+
+// The numbers of a state whose columns are lent beside them: `tables`, `rowsets` and `vectors` are the counts.
+pub struct Held {
+    pub epoch: u32,
+    pub next: NextIds,
+    pub tables: usize,
+    pub rowsets: usize,
+    pub vectors: usize,
     pub manifest: usize,
 }
 
@@ -62,11 +73,10 @@ pub fn bad<'a>(
     manifest: usize,
 ) -> bool
     requires { ⌜ length (now names) ≡ nameBytes ⌝ }
-    ensures { λ r. ⌜ ((shapes : List ℕ) (locked : List Bool) → r ≡ badInner (innerIn epoch next
-        (tablesIn (now (ids .entry)) shapes (now (lengths .entry)) (now (names .entry)) locked tables)
-        (rowsetsIn (now («rowset_tables» .entry)) (now («rowset_ids» .entry)) (now («rowset_added» .entry)) (now («rowset_deleted» .entry)) rowsets)
-        (vectorsIn (now («vector_tables» .entry)) (now («vector_rowsets» .entry)) (now («vector_ids» .entry)) (now («vector_added» .entry)) (now («vector_deleted» .entry)) vectors)
-        manifest)) ⌝ }
+    ensures { λ r. ⌜ ((shapes : List ℕ) (locked : List Bool) → r ≡ badInner (innerIn (numbers epoch next tables rowsets vectors manifest)
+        (columns (now (ids .entry)) shapes (now (lengths .entry)) (now (names .entry)) locked
+        (now («rowset_tables» .entry)) (now («rowset_ids» .entry)) (now («rowset_added» .entry)) (now («rowset_deleted» .entry))
+        (now («vector_tables» .entry)) (now («vector_rowsets» .entry)) (now («vector_ids» .entry)) (now («vector_added» .entry)) (now («vector_deleted» .entry))))) ⌝ }
 {
     if limits::beyond_limits(lengths, names, tables, rowsets, vectors, manifest) {
         return true;

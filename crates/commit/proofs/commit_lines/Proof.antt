@@ -9,7 +9,7 @@ use lib.ListN.{length}
 use Rattle.lists.specs.Written.{over}
 use Rattle.lists.proofs.Places.{known}
 use Rattle.ids.specs.Limits.{mostOperations}
-use Rattle.operations.specs.Columns.{columns, stateIn}
+use Rattle.version_state.specs.Columns.{columns, stateIn}
 use Rattle.operations.proofs.Keeps.{rising-pairs}
 use Rattle.commit.specs.Lent.{operationsIn}
 use Rattle.commit.proofs.Calls.{too-many, too-late, rising-tables, sorted-vectors, commit-off, commit-on}
@@ -71,7 +71,7 @@ ending-requires c κs =
     let few : length (operationsIn (now (a .ops))) ≤ mostOperations = omega (arith, c .before .before .before .before .before .before .before .before .before .before .before .before .before .before .before .before .before .before .before .before .before .before .before .before .before .before .before .before .before .before .before .if1 .left, c .before .before .before .before .before .before .before .before .before .before .before .before .before .before .before .before .before .before .before .before .before .before .before .before .before .before .before .before .before .before .before .before .count .ensures) in
     let x = c .before .before .before .before .before .before .before .before .before .before .before .before .steps in
     let z = stepped-ready (now (a .ops)) (length (now (a .out))) (a .first) (columns (now (a .ids)) (now (a .shapes)) (now (a .lengths)) (now (a .names)) (now (a .locked)) (now (a .pair-tables)) (now (a .pair-rowsets)) (now (a .pair-added)) (now (a .pair-deleted)) (now (a .tables)) (now (a .rowsets)) (now (a .vectors)) (now (a .added)) (now (a .deleted))) few (c .before .before .before .before .before .before .before .before .before .before .before .before .before .before .before .before .before .before .before .before .before .before .before .before .before .before .before .before .before .if2 .left) (x .result) (columns (x .last .0) (x .last .1 .0) (x .last .1 .1 .0) (x .last .1 .1 .1 .0) (x .last .1 .1 .1 .1 .0) (x .last .1 .1 .1 .1 .1 .0) (x .last .1 .1 .1 .1 .1 .1 .0) (x .last .1 .1 .1 .1 .1 .1 .1 .0) (x .last .1 .1 .1 .1 .1 .1 .1 .1 .0) (x .last .1 .1 .1 .1 .1 .1 .1 .1 .1 .0) (x .last .1 .1 .1 .1 .1 .1 .1 .1 .1 .1 .0) (x .last .1 .1 .1 .1 .1 .1 .1 .1 .1 .1 .1 .0) (x .last .1 .1 .1 .1 .1 .1 .1 .1 .1 .1 .1 .1 .0) (x .last .1 .1 .1 .1 .1 .1 .1 .1 .1 .1 .1 .1 .1 .0)) (x .ensures) (sym (c .before .before .before .before .before .before .before .before .before .before .accepted .ensures) ∙ not-false _ (c .before .before .before .before .before .before .before .before .before .if3 .left)) in
-    (z .fewTables, rising-tables z, rising-pairs z, z .fewVectors, sorted-vectors z, stepped-manifest (now (a .ops)) (length (now (a .out))) (a .first) (columns (now (a .ids)) (now (a .shapes)) (now (a .lengths)) (now (a .names)) (now (a .locked)) (now (a .pair-tables)) (now (a .pair-rowsets)) (now (a .pair-added)) (now (a .pair-deleted)) (now (a .tables)) (now (a .rowsets)) (now (a .vectors)) (now (a .added)) (now (a .deleted))) few (c .before .before .before .before .before .before .before .before .before .before .before .before .before .before .before .before .before .before .before .before .before .before .before .before .before .before .before .before .before .if2 .left) (x .result) (columns (x .last .0) (x .last .1 .0) (x .last .1 .1 .0) (x .last .1 .1 .1 .0) (x .last .1 .1 .1 .1 .0) (x .last .1 .1 .1 .1 .1 .0) (x .last .1 .1 .1 .1 .1 .1 .0) (x .last .1 .1 .1 .1 .1 .1 .1 .0) (x .last .1 .1 .1 .1 .1 .1 .1 .1 .0) (x .last .1 .1 .1 .1 .1 .1 .1 .1 .1 .0) (x .last .1 .1 .1 .1 .1 .1 .1 .1 .1 .1 .0) (x .last .1 .1 .1 .1 .1 .1 .1 .1 .1 .1 .1 .0) (x .last .1 .1 .1 .1 .1 .1 .1 .1 .1 .1 .1 .1 .0) (x .last .1 .1 .1 .1 .1 .1 .1 .1 .1 .1 .1 .1 .1 .0)) (x .ensures) (sym (c .before .before .before .before .before .before .before .before .before .before .accepted .ensures) ∙ not-false _ (c .before .before .before .before .before .before .before .before .before .if3 .left)) (c .before .before .before .before .before .before .before .before .before .before .before .before .before .before .before .before .before .before .before .before .before .before .before .before .before .before .before .before .before .before .before .before .before .before .before .before .before .pre .1))
+    (z .fits .tables, rising-tables z, rising-pairs z, z .fits .vectors, sorted-vectors z, stepped-manifest (now (a .ops)) (length (now (a .out))) (a .first) (columns (now (a .ids)) (now (a .shapes)) (now (a .lengths)) (now (a .names)) (now (a .locked)) (now (a .pair-tables)) (now (a .pair-rowsets)) (now (a .pair-added)) (now (a .pair-deleted)) (now (a .tables)) (now (a .rowsets)) (now (a .vectors)) (now (a .added)) (now (a .deleted))) few (c .before .before .before .before .before .before .before .before .before .before .before .before .before .before .before .before .before .before .before .before .before .before .before .before .before .before .before .before .before .if2 .left) (x .result) (columns (x .last .0) (x .last .1 .0) (x .last .1 .1 .0) (x .last .1 .1 .1 .0) (x .last .1 .1 .1 .1 .0) (x .last .1 .1 .1 .1 .1 .0) (x .last .1 .1 .1 .1 .1 .1 .0) (x .last .1 .1 .1 .1 .1 .1 .1 .0) (x .last .1 .1 .1 .1 .1 .1 .1 .1 .0) (x .last .1 .1 .1 .1 .1 .1 .1 .1 .1 .0) (x .last .1 .1 .1 .1 .1 .1 .1 .1 .1 .1 .0) (x .last .1 .1 .1 .1 .1 .1 .1 .1 .1 .1 .1 .0) (x .last .1 .1 .1 .1 .1 .1 .1 .1 .1 .1 .1 .1 .0) (x .last .1 .1 .1 .1 .1 .1 .1 .1 .1 .1 .1 .1 .1 .0)) (x .ensures) (sym (c .before .before .before .before .before .before .before .before .before .before .accepted .ensures) ∙ not-false _ (c .before .before .before .before .before .before .before .before .before .if3 .left)) (c .before .before .before .before .before .before .before .before .before .before .before .before .before .before .before .before .before .before .before .before .before .before .before .before .before .before .before .before .before .before .before .before .before .before .before .before .before .pre .1))
 
 accepted-requires-2 : tie.Need-accepted-requires-2
 accepted-requires-2 c κs = search known
@@ -109,7 +109,7 @@ returns-5 c =
     let x = c .before .before .before .before .before .before .before .before .before .before .before .before .before .before .before .before .before .before .before .before .before .steps in
     let z = stepped-ready (now (a .ops)) (length (now (a .out))) (a .first) (columns (now (a .ids)) (now (a .shapes)) (now (a .lengths)) (now (a .names)) (now (a .locked)) (now (a .pair-tables)) (now (a .pair-rowsets)) (now (a .pair-added)) (now (a .pair-deleted)) (now (a .tables)) (now (a .rowsets)) (now (a .vectors)) (now (a .added)) (now (a .deleted))) few (c .before .before .before .before .before .before .before .before .before .before .before .before .before .before .before .before .before .before .before .before .before .before .before .before .before .before .before .before .before .before .before .before .before .before .before .before .before .before .if2 .left) (x .result) (columns (x .last .0) (x .last .1 .0) (x .last .1 .1 .0) (x .last .1 .1 .1 .0) (x .last .1 .1 .1 .1 .0) (x .last .1 .1 .1 .1 .1 .0) (x .last .1 .1 .1 .1 .1 .1 .0) (x .last .1 .1 .1 .1 .1 .1 .1 .0) (x .last .1 .1 .1 .1 .1 .1 .1 .1 .0) (x .last .1 .1 .1 .1 .1 .1 .1 .1 .1 .0) (x .last .1 .1 .1 .1 .1 .1 .1 .1 .1 .1 .0) (x .last .1 .1 .1 .1 .1 .1 .1 .1 .1 .1 .1 .0) (x .last .1 .1 .1 .1 .1 .1 .1 .1 .1 .1 .1 .1 .0) (x .last .1 .1 .1 .1 .1 .1 .1 .1 .1 .1 .1 .1 .1 .0)) (x .ensures) (sym (c .before .before .before .before .before .before .before .before .before .before .before .before .before .before .before .before .before .before .before .accepted .ensures) ∙ not-false _ (c .before .before .before .before .before .before .before .before .before .before .before .before .before .before .before .before .before .before .if3 .left)) in
     let o = commits (now (a .ops)) (length (now (a .out))) (a .first) (columns (now (a .ids)) (now (a .shapes)) (now (a .lengths)) (now (a .names)) (now (a .locked)) (now (a .pair-tables)) (now (a .pair-rowsets)) (now (a .pair-added)) (now (a .pair-deleted)) (now (a .tables)) (now (a .rowsets)) (now (a .vectors)) (now (a .added)) (now (a .deleted))) few (c .before .before .before .before .before .before .before .before .before .before .before .before .before .before .before .before .before .before .before .before .before .before .before .before .before .before .before .before .before .before .before .before .before .before .before .before .before .before .if2 .left) (x .result) (columns (x .last .0) (x .last .1 .0) (x .last .1 .1 .0) (x .last .1 .1 .1 .0) (x .last .1 .1 .1 .1 .0) (x .last .1 .1 .1 .1 .1 .0) (x .last .1 .1 .1 .1 .1 .1 .0) (x .last .1 .1 .1 .1 .1 .1 .1 .0) (x .last .1 .1 .1 .1 .1 .1 .1 .1 .0) (x .last .1 .1 .1 .1 .1 .1 .1 .1 .1 .0) (x .last .1 .1 .1 .1 .1 .1 .1 .1 .1 .1 .0) (x .last .1 .1 .1 .1 .1 .1 .1 .1 .1 .1 .1 .0) (x .last .1 .1 .1 .1 .1 .1 .1 .1 .1 .1 .1 .1 .0) (x .last .1 .1 .1 .1 .1 .1 .1 .1 .1 .1 .1 .1 .1 .0)) (x .ensures) (sym (c .before .before .before .before .before .before .before .before .before .before .before .before .before .before .before .before .before .before .before .accepted .ensures) ∙ not-false _ (c .before .before .before .before .before .before .before .before .before .before .before .before .before .before .before .before .before .before .if3 .left)) (c .before .before .before .before .before .before .before .before .ending .result) (c .before .before .before .before .before .before .before .before .ending .ensures (x .last .1 .0) (x .last .1 .1 .0) (x .last .1 .1 .1 .0) (x .last .1 .1 .1 .1 .1 .1 .1 .1 .1 .1 .1 .0) (x .last .1 .1 .1 .1 .0)) (sym (c .before .before .before .before .before .before .before .accepted2 .ensures) ∙ not-false _ (c .before .before .before .before .before .before .if4 .left)) in
-    commit-on _ _ _ _ _ _ _ (o .1) (o .0) (stepped-size (now (a .ops)) (length (now (a .out))) (a .first) (columns (now (a .ids)) (now (a .shapes)) (now (a .lengths)) (now (a .names)) (now (a .locked)) (now (a .pair-tables)) (now (a .pair-rowsets)) (now (a .pair-added)) (now (a .pair-deleted)) (now (a .tables)) (now (a .rowsets)) (now (a .vectors)) (now (a .added)) (now (a .deleted))) few (c .before .before .before .before .before .before .before .before .before .before .before .before .before .before .before .before .before .before .before .before .before .before .before .before .before .before .before .before .before .before .before .before .before .before .before .before .before .before .if2 .left) (x .result) (columns (x .last .0) (x .last .1 .0) (x .last .1 .1 .0) (x .last .1 .1 .1 .0) (x .last .1 .1 .1 .1 .0) (x .last .1 .1 .1 .1 .1 .0) (x .last .1 .1 .1 .1 .1 .1 .0) (x .last .1 .1 .1 .1 .1 .1 .1 .0) (x .last .1 .1 .1 .1 .1 .1 .1 .1 .0) (x .last .1 .1 .1 .1 .1 .1 .1 .1 .1 .0) (x .last .1 .1 .1 .1 .1 .1 .1 .1 .1 .1 .0) (x .last .1 .1 .1 .1 .1 .1 .1 .1 .1 .1 .1 .0) (x .last .1 .1 .1 .1 .1 .1 .1 .1 .1 .1 .1 .1 .0) (x .last .1 .1 .1 .1 .1 .1 .1 .1 .1 .1 .1 .1 .1 .0)) (x .ensures) (sym (c .before .before .before .before .before .before .before .before .before .before .before .before .before .before .before .before .before .before .before .accepted .ensures) ∙ not-false _ (c .before .before .before .before .before .before .before .before .before .before .before .before .before .before .before .before .before .before .if3 .left))) (record { fewTables = z .fewTables; fewRowsets = z .fewRowsets; fewVectors = z .fewVectors; state = refl }) (c .before .before .before .before .put-frame .ensures ∙ ap (λ (r : List ℕ). over r (now (a .out))) (sym (stepped-frame (now (a .ops)) (length (now (a .out))) (a .first) (columns (now (a .ids)) (now (a .shapes)) (now (a .lengths)) (now (a .names)) (now (a .locked)) (now (a .pair-tables)) (now (a .pair-rowsets)) (now (a .pair-added)) (now (a .pair-deleted)) (now (a .tables)) (now (a .rowsets)) (now (a .vectors)) (now (a .added)) (now (a .deleted))) few (c .before .before .before .before .before .before .before .before .before .before .before .before .before .before .before .before .before .before .before .before .before .before .before .before .before .before .before .before .before .before .before .before .before .before .before .before .before .before .if2 .left) (x .result) (columns (x .last .0) (x .last .1 .0) (x .last .1 .1 .0) (x .last .1 .1 .1 .0) (x .last .1 .1 .1 .1 .0) (x .last .1 .1 .1 .1 .1 .0) (x .last .1 .1 .1 .1 .1 .1 .0) (x .last .1 .1 .1 .1 .1 .1 .1 .0) (x .last .1 .1 .1 .1 .1 .1 .1 .1 .0) (x .last .1 .1 .1 .1 .1 .1 .1 .1 .1 .0) (x .last .1 .1 .1 .1 .1 .1 .1 .1 .1 .1 .0) (x .last .1 .1 .1 .1 .1 .1 .1 .1 .1 .1 .1 .0) (x .last .1 .1 .1 .1 .1 .1 .1 .1 .1 .1 .1 .1 .0) (x .last .1 .1 .1 .1 .1 .1 .1 .1 .1 .1 .1 .1 .1 .0)) (x .ensures) (sym (c .before .before .before .before .before .before .before .before .before .before .before .before .before .before .before .before .before .before .before .accepted .ensures) ∙ not-false _ (c .before .before .before .before .before .before .before .before .before .before .before .before .before .before .before .before .before .before .if3 .left)))))
+    commit-on _ _ _ _ _ _ _ (o .1) (o .0) (stepped-size (now (a .ops)) (length (now (a .out))) (a .first) (columns (now (a .ids)) (now (a .shapes)) (now (a .lengths)) (now (a .names)) (now (a .locked)) (now (a .pair-tables)) (now (a .pair-rowsets)) (now (a .pair-added)) (now (a .pair-deleted)) (now (a .tables)) (now (a .rowsets)) (now (a .vectors)) (now (a .added)) (now (a .deleted))) few (c .before .before .before .before .before .before .before .before .before .before .before .before .before .before .before .before .before .before .before .before .before .before .before .before .before .before .before .before .before .before .before .before .before .before .before .before .before .before .if2 .left) (x .result) (columns (x .last .0) (x .last .1 .0) (x .last .1 .1 .0) (x .last .1 .1 .1 .0) (x .last .1 .1 .1 .1 .0) (x .last .1 .1 .1 .1 .1 .0) (x .last .1 .1 .1 .1 .1 .1 .0) (x .last .1 .1 .1 .1 .1 .1 .1 .0) (x .last .1 .1 .1 .1 .1 .1 .1 .1 .0) (x .last .1 .1 .1 .1 .1 .1 .1 .1 .1 .0) (x .last .1 .1 .1 .1 .1 .1 .1 .1 .1 .1 .0) (x .last .1 .1 .1 .1 .1 .1 .1 .1 .1 .1 .1 .0) (x .last .1 .1 .1 .1 .1 .1 .1 .1 .1 .1 .1 .1 .0) (x .last .1 .1 .1 .1 .1 .1 .1 .1 .1 .1 .1 .1 .1 .0)) (x .ensures) (sym (c .before .before .before .before .before .before .before .before .before .before .before .before .before .before .before .before .before .before .before .accepted .ensures) ∙ not-false _ (c .before .before .before .before .before .before .before .before .before .before .before .before .before .before .before .before .before .before .if3 .left))) (record { fits = record { tables = z .fits .tables; rowsets = z .fits .rowsets; vectors = z .fits .vectors }; state = refl }) (c .before .before .before .before .put-frame .ensures ∙ ap (λ (r : List ℕ). over r (now (a .out))) (sym (stepped-frame (now (a .ops)) (length (now (a .out))) (a .first) (columns (now (a .ids)) (now (a .shapes)) (now (a .lengths)) (now (a .names)) (now (a .locked)) (now (a .pair-tables)) (now (a .pair-rowsets)) (now (a .pair-added)) (now (a .pair-deleted)) (now (a .tables)) (now (a .rowsets)) (now (a .vectors)) (now (a .added)) (now (a .deleted))) few (c .before .before .before .before .before .before .before .before .before .before .before .before .before .before .before .before .before .before .before .before .before .before .before .before .before .before .before .before .before .before .before .before .before .before .before .before .before .before .if2 .left) (x .result) (columns (x .last .0) (x .last .1 .0) (x .last .1 .1 .0) (x .last .1 .1 .1 .0) (x .last .1 .1 .1 .1 .0) (x .last .1 .1 .1 .1 .1 .0) (x .last .1 .1 .1 .1 .1 .1 .0) (x .last .1 .1 .1 .1 .1 .1 .1 .0) (x .last .1 .1 .1 .1 .1 .1 .1 .1 .0) (x .last .1 .1 .1 .1 .1 .1 .1 .1 .1 .0) (x .last .1 .1 .1 .1 .1 .1 .1 .1 .1 .1 .0) (x .last .1 .1 .1 .1 .1 .1 .1 .1 .1 .1 .1 .0) (x .last .1 .1 .1 .1 .1 .1 .1 .1 .1 .1 .1 .1 .0) (x .last .1 .1 .1 .1 .1 .1 .1 .1 .1 .1 .1 .1 .1 .0)) (x .ensures) (sym (c .before .before .before .before .before .before .before .before .before .before .before .before .before .before .before .before .before .before .before .accepted .ensures) ∙ not-false _ (c .before .before .before .before .before .before .before .before .before .before .before .before .before .before .before .before .before .before .if3 .left)))))
 
 pub commit-lines-spec : {M : Type 1} → statement M
 commit-lines-spec =

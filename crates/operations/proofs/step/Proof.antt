@@ -21,19 +21,19 @@ enum-known-op c = search known
 create-requires : tie.Need-create-requires
 create-requires c κs =
     let w : wellFormed (operationOf (c .before .before .before .before .before .before .before .before .before .args .change)) ≡ true = c .before .before .before .before .before .before .before .before .before .pre .0 in
-    (c .before .before .before .before .before .before .before .before .before .pre .1 .fewTables, c .before .before .before .before .before .before .before .before .before .pre .1 .whole, c .before .before .before .before .before .before .before .before .before .pre .1 .below, ltb-true _ _ (both _ _ (rw (c .before .before .before .before .before .before .op .given .1) at w) .0))
+    (c .before .before .before .before .before .before .before .before .before .pre .1 .fits .tables, c .before .before .before .before .before .before .before .before .before .pre .1 .whole, c .before .before .before .before .before .before .before .before .before .pre .1 .below, ltb-true _ _ (both _ _ (rw (c .before .before .before .before .before .before .op .given .1) at w) .0))
 
 enum-known-op-2 : tie.Need-enum-known-op-2
 enum-known-op-2 c = search known
 
 drop-requires : tie.Need-drop-requires
-drop-requires c κs = (c .before .before .before .before .before .before .before .before .before .pre .1 .fewTables, c .before .before .before .before .before .before .before .before .before .pre .1 .whole)
+drop-requires c κs = (c .before .before .before .before .before .before .before .before .before .pre .1 .fits .tables, c .before .before .before .before .before .before .before .before .before .pre .1 .whole)
 
 enum-known-op-3 : tie.Need-enum-known-op-3
 enum-known-op-3 c = search known
 
 add-requires : tie.Need-add-requires
-add-requires c κs = let z = c .before .before .before .before .before .before .before .before .before .pre .1 .sized in (c .before .before .before .before .before .before .before .before .before .pre .1 .fewTables, rising-pairs (c .before .before .before .before .before .before .before .before .before .pre .1), (z .0, (z .1 .0, (z .1 .1 .0, (z .1 .1 .1 .0, tt)))))
+add-requires c κs = let z = c .before .before .before .before .before .before .before .before .before .pre .1 .sized in (c .before .before .before .before .before .before .before .before .before .pre .1 .fits .tables, rising-pairs (c .before .before .before .before .before .before .before .before .before .pre .1), (z .0, (z .1 .0, (z .1 .1 .0, (z .1 .1 .1 .0, tt)))))
 
 enum-known-op-4 : tie.Need-enum-known-op-4
 enum-known-op-4 c = search known

@@ -5,7 +5,8 @@ use mathlib.Core.List.{List, []}
 use Prim.Native.Nat.{ℕ}
 use Rattle.lists.proofs.Places.{known}
 use Rattle.version_state.specs.declared.VersionManagerInner.{VersionManagerInner}
-use Rattle.version_state.specs.State.{stateOf, Fit, tablesIn, rowsetsIn, vectorsIn, innerIn}
+use Rattle.version_state.specs.State.{stateOf, Fit}
+use Rattle.version_state.specs.Columns.{columns, numbers, innerIn}
 use Rattle.version_state.specs.Sound.{beyondLimits, outOfOrder, aboveOwn}
 use Rattle.version_state.proofs.Facts.{in-order, fit-within, limits-columns, order-columns, own-columns, ids-rise, pairs-rise, vectors-sorted, bad-limits, bad-order, bad-own, bad-left}
 use Rattle.version_state.proofs.bad.Statement.{statement}
@@ -15,10 +16,10 @@ use Rattle.version_state.proofs.bad.Tie as tie
 abbrev made : tie.Start → List ℕ → List Bool → VersionManagerInner
 made t s k =
     let a = t .args in
-    innerIn (a .epoch) (a .next) (tablesIn (a .ids .now) s (a .lengths .now) (a .names .now) k (a .tables))
-    (rowsetsIn (a .rowset-tables .now) (a .rowset-ids .now) (a .rowset-added .now) (a .rowset-deleted .now) (a .rowsets))
-    (vectorsIn (a .vector-tables .now) (a .vector-rowsets .now) (a .vector-ids .now) (a .vector-added .now) (a .vector-deleted .now) (a .vectors))
-    (a .manifest)
+    innerIn (numbers (a .epoch) (a .next) (a .tables) (a .rowsets) (a .vectors) (a .manifest))
+    (columns (a .ids .now) s (a .lengths .now) (a .names .now) k
+    (a .rowset-tables .now) (a .rowset-ids .now) (a .rowset-added .now) (a .rowset-deleted .now)
+    (a .vector-tables .now) (a .vector-rowsets .now) (a .vector-ids .now) (a .vector-added .now) (a .vector-deleted .now))
 
 -- what each test that is passed tells
 abbrev first : tie.Else1 → List ℕ → List Bool → VersionManagerInner

@@ -7,7 +7,8 @@ use borrow.Author.Tests.{not-true, not-false}
 use lib.ListN.{length, drop}
 use Rattle.lists.proofs.Places.{known}
 use Rattle.manifest.specs.Operations.{operationOf}
-use Rattle.operations.specs.Columns.{columns, stateIn, StepIs}
+use Rattle.version_state.specs.Columns.{columns, stateIn}
+use Rattle.operations.specs.Columns.{StepIs}
 use Rattle.commit.specs.Lent.{operationsIn}
 use Rattle.commit.proofs.Calls.{Going, go-on, go-off, halts-step}
 use Rattle.commit.proofs.Lent.{lent-end}

@@ -6,7 +6,7 @@ use Rattle.lists.proofs.Places.{known, length-mapped}
 use Rattle.ids.specs.Limits.{mostTables, mostHeld}
 use Rattle.snapshot.specs.Tables.{nameBytes}
 use Rattle.version_state.specs.State.{stateOf}
-use Rattle.operations.specs.Columns.{columns}
+use Rattle.version_state.specs.Columns.{columns}
 use Rattle.commit.specs.Commit.{commitOf}
 use Rattle.commit.specs.Lent.{operationsIn}
 use Rattle.commit.proofs.Calls.{ready-of}
@@ -67,7 +67,7 @@ returns-3 c =
     let a = c .before .before .before .before .before .before .before .before .before .before .before .before .before .before .before .before .before .before .before .before .before .before .before .before .before .before .before .before .before .before .before .before .before .before .before .before .before .before .before .before .before .before .before .before .before .before .args in
     let x = c .before .before .before .before .before .before .before .commit-lines in
     let b = sym (c .before .before .before .before .before .before .before .before .before .before .before .before .before .before .before .before .before .before .before .before .before .before .before .before .before .before .before .before .before .before .before .before .before .before .before .before .before .before .before .before .before .before .before .bad .ensures) ∙ c .before .before .before .before .before .before .before .before .before .before .before .before .before .before .before .before .before .before .before .before .before .before .before .before .before .before .before .before .before .before .before .before .before .before .before .before .before .before .before .before .before .before .if1 .left in
-    rw b (commit-yes (a .self) (x .result) (columns (x .last .0) (x .last .1 .0) (x .last .1 .1 .0) (x .last .1 .1 .1 .0) (x .last .1 .1 .1 .1 .0) (x .last .1 .1 .1 .1 .1 .0) (x .last .1 .1 .1 .1 .1 .1 .0) (x .last .1 .1 .1 .1 .1 .1 .1 .0) (x .last .1 .1 .1 .1 .1 .1 .1 .1 .0) (x .last .1 .1 .1 .1 .1 .1 .1 .1 .1 .0) (x .last .1 .1 .1 .1 .1 .1 .1 .1 .1 .1 .0) (x .last .1 .1 .1 .1 .1 .1 .1 .1 .1 .1 .1 .0) (x .last .1 .1 .1 .1 .1 .1 .1 .1 .1 .1 .1 .1 .0) (x .last .1 .1 .1 .1 .1 .1 .1 .1 .1 .1 .1 .1 .1 .0)) _ (c .before .before .before .enum-told .given .1) (λ s z. rw (c .handed .ensures) (record { fits = record { tables = z .fewTables; rowsets = z .fewRowsets; vectors = z .fewVectors }; state = z .state })) refl (commitOf (stateOf (a .self .inner)) (length (operationsIn (now (a .ops)))) (operationsIn (now (a .ops))) (length (now (a .out)))) (operationsIn (now (a .ops))) (now (a .out)) _ (x .ensures))
+    rw b (commit-yes (a .self) (x .result) (columns (x .last .0) (x .last .1 .0) (x .last .1 .1 .0) (x .last .1 .1 .1 .0) (x .last .1 .1 .1 .1 .0) (x .last .1 .1 .1 .1 .1 .0) (x .last .1 .1 .1 .1 .1 .1 .0) (x .last .1 .1 .1 .1 .1 .1 .1 .0) (x .last .1 .1 .1 .1 .1 .1 .1 .1 .0) (x .last .1 .1 .1 .1 .1 .1 .1 .1 .1 .0) (x .last .1 .1 .1 .1 .1 .1 .1 .1 .1 .1 .0) (x .last .1 .1 .1 .1 .1 .1 .1 .1 .1 .1 .1 .0) (x .last .1 .1 .1 .1 .1 .1 .1 .1 .1 .1 .1 .1 .0) (x .last .1 .1 .1 .1 .1 .1 .1 .1 .1 .1 .1 .1 .1 .0)) _ (c .before .before .before .enum-told .given .1) (λ s z. rw (c .handed .ensures) z) refl (commitOf (stateOf (a .self .inner)) (length (operationsIn (now (a .ops)))) (operationsIn (now (a .ops))) (length (now (a .out)))) (operationsIn (now (a .ops))) (now (a .out)) _ (x .ensures))
 
 pub commit-lines-spec : {M : Type 1} → statement M
 commit-lines-spec =
