@@ -10,6 +10,7 @@ pub mod CommitShows
 pub mod CommitState
 pub mod CommitFile
 pub mod Commit
+pub mod Quiet
 pub mod Draw
 pub mod Counts
 pub mod Pin

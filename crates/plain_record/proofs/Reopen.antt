@@ -29,7 +29,7 @@ use Rattle.recovery.proofs.Sound.{replay-sound, replay-room}
 use Rattle.recovery.proofs.Again.{replay-again}
 use Rattle.recovery.proofs.Appending.{holds-replayed}
 use Rattle.plain_record.specs.Sets.{Sets}
-use Rattle.plain_record.specs.Calls.{reopen}
+use Rattle.plain_record.specs.Calls.{asReopen}
 use Rattle.plain_record.specs.Plain.{Plain, setsAt, kept, Record, recorded, turn}
 use Rattle.plain_record.specs.Run.{port, World, world, isAccepted, DidReopen}
 use Rattle.plain_record.specs.Claim.{waitingIn}
@@ -146,15 +146,15 @@ module _ (w : World) (t : Told) (l : List (List ℕ)) (v : World) (out : List �
       let x = rw (i .torn .replayed, e) at (d .says) in
       ap isAccepted (d .told ∙ x .0)
 
-  short-stays : isAccepted t ≡ false → Inv v (turn (reopen out stale) (isAccepted t) r)
-  short-stays e =
+  short-stays : (id : ℕ) → isAccepted t ≡ false → Inv v (turn (asReopen (length out)) (isAccepted t) id r)
+  short-stays id e =
       let z : v ≡ w = d .after ∙ rw e in
       rw (z, e) (inv-stays w w r (r .place + 1) refl refl refl refl i)
 
-  pub reopen-keeps : Inv v (turn (reopen out stale) (isAccepted t) r)
-  reopen-keeps =
+  pub reopen-keeps : (id : ℕ) → Inv v (turn (asReopen (length out)) (isAccepted t) id r)
+  reopen-keeps id =
       by-cases (ltb (length out) (length (rewrittenOf found)))
-      (λ e. short-stays (too-short e))
+      (λ e. short-stays id (too-short e))
       (λ e.
       let x = rw (i .torn .replayed, e) at (d .says) in
       let q : t ≡ told Accepted (length (rewrittenOf found) ∷ []) = d .told ∙ x .0 in
