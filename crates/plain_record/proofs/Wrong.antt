@@ -9,14 +9,15 @@ use lib.ListN.{length, take, replicate, length-replicate}
 use borrow.Author.Tests.{eq-eqb}
 use Rattle.columns.specs.Rows.{rows}
 use Rattle.ids.specs.Limits.{mostTables, mostHeld}
-use Rattle.ids.specs.declared.refusal.Refusal.the-variants.{EpochNotPinned, OutputTooShort}
+use Rattle.ids.specs.declared.refusal.Refusal.{Refusal}
+use Rattle.ids.specs.declared.refusal.Refusal.the-variants.{PinAtEpochZero, IdNotDrawn, EpochNotPinned, OutputTooShort}
 use Rattle.ids.specs.declared.refusal.Verdict.the-variants.{Refused}
-use Rattle.ids.specs.Answers.{Told}
+use Rattle.ids.specs.Answers.{Told, told}
 use Rattle.text.specs.Class.{isDigit, isLower}
 use Rattle.text.specs.Name.{isNameByte, isName}
 use Rattle.text.specs.Decimal.{digitsBy, digits, readOn, readIn, readAt}
 use Rattle.manifest.specs.Operations.{Operation, createTable, addRowset, deleteRowset, addVector, deleteVector}
-use Rattle.manifest.specs.Lines.{fieldAt, named as namedAt, threeFields, tableFields, lineBy, lineOf, fieldsText, textOf}
+use Rattle.manifest.specs.Lines.{fieldAt, named as namedAt, twoFields, threeFields, tableFields, lineBy, lineOf, fieldsText, textOf}
 use Rattle.manifest.specs.Split.{linesOn, restOn, lines}
 use Rattle.snapshot.specs.declared.rowsets.Rowsets.{Rowsets}
 use Rattle.snapshot.specs.declared.tables.Tables.{Tables}
@@ -33,15 +34,15 @@ use Rattle.version_manager.specs.declared.RowsetAnswer.the-variants as rowset
 use Rattle.version_manager.specs.declared.DrawnRowset.{DrawnRowset}
 use Rattle.version_manager.specs.declared.VectorAnswer.the-variants as vector
 use Rattle.version_manager.specs.declared.DrawnVector.{DrawnVector}
-use Rattle.version_manager.specs.declared.CommitAnswer.the-variants.{Appended}
+use Rattle.version_manager.specs.declared.CommitAnswer.the-variants.{Appended, Refused as NotAppended}
 use Rattle.version_manager.specs.declared.Committed.{Committed}
-use Rattle.version_manager.specs.declared.VacuumAnswer.the-variants.{Listed}
+use Rattle.version_manager.specs.declared.VacuumAnswer.the-variants.{Listed, Refused as NotListed}
 use Rattle.version_manager.specs.declared.Vacuumed.{Vacuumed}
 use Rattle.version_manager.specs.Managers.{heldBy, FreshSays}
 use Rattle.version_manager.specs.Draw.{DrawRowsetSays, DrawVectorSays}
 use Rattle.version_manager.specs.Commit.{outcomeOf, CommitEnds, CommitSays}
 use Rattle.version_manager.specs.Show.{ShowTablesSays, ShowPairsSays, ShowVectorsSays}
-use Rattle.pinning.specs.declared.PinAnswer.the-variants.{Pinned}
+use Rattle.pinning.specs.declared.PinAnswer.the-variants.{Pinned, Refused as NotPinned}
 use Rattle.pinning.specs.declared.UnpinAnswer.the-variants.{Unpinned}
 use Rattle.pinning.specs.Says.{PinSays}
 use Rattle.show.specs.declared.ShowAnswer.the-variants.{Shown, Refused as NotShown}
@@ -55,7 +56,7 @@ use Rattle.plain_record.specs.Calls.{drawRowset, drawVector, commit, pin
 use Rattle.plain_record.specs.Run.{Steps, World, world, Event, onward, afterCommit, afterReopen, pairsIn, Starts, Link, Chain}
 use Rattle.plain_record.specs.Claim.{Claim, Holds}
 use Rattle.plain_record.specs.Shows.{ShowsTables, ShowsPairs, ShowsVectors}
-use Rattle.plain_record.specs.Wrong.{unchanged, keepsSets, unraised, leavesEpoch, unjudged, judgesNothing, unaware, forgetsWaiting, CommitEndsEarly, appendsNoEnd, PinsNext, answersNext, PinsNothing, countsNoPin, UnpinsNothing, keepsPin, VacuumsTo, nothing, listsNothing, portBound, keepsListed, countsOneMore, loweredBound, keepsOwnEpoch, unguarded, ignoresPins, losesPairs, losesVectors, opensEmpty, firstFrame, readsFirst, closed, countsEarly, forgotten, forgetsIds, ReopenEndsEarly, rewritesNoEnd, refusesReopen, showsCurrent, showsCurrentVectors, refusesShow, Refuted, WrongRefuted}
+use Rattle.plain_record.specs.Wrong.{unchanged, keepsSets, unraised, leavesEpoch, unjudged, judgesNothing, unaware, forgetsWaiting, CommitEndsEarly, appendsNoEnd, CommitLeaves, leavesPart, PinsNext, answersNext, PinsNothing, countsNoPin, PinsAnyway, countsRefused, UnpinsNothing, keepsPin, VacuumsTo, nothing, listsNothing, portBound, keepsListed, countsOneMore, loweredBound, keepsOwnEpoch, unguarded, ignoresPins, losesPairs, losesVectors, VacuumsAnyway, letsGoRefused, opensEmpty, firstFrame, readsFirst, readsToRoom, closed, countsEarly, forgotten, forgetsIds, ReopenEndsEarly, rewritesNoEnd, refusesReopen, showsCurrent, showsCurrentVectors, refusesShow, Refuted, WrongRefuted}
 
 -- What is not equal.
 apart : {m n : ℕ} → m ≡ n → eqb m n ≡ false → ⊥
@@ -183,15 +184,29 @@ vacuums w m n ts rs =
       after = onward m (w .book) (telling (n ∷ [])) w;
     }
 
-abbrev reopens : World → VersionManager → ℕ → List ℕ → Event
-reopens w m n out =
+abbrev reopens : World → VersionManager → ℕ → List ℕ → Bool → Event
+reopens w m n out stale =
     record {
       before = w;
-      call = reopen out false;
+      call = reopen out stale;
       told = telling (n ∷ []);
       listed = [];
-      after = afterReopen m unpinned (telling (n ∷ [])) out false w;
+      after = afterReopen m unpinned (telling (n ∷ [])) out stale w;
     }
+
+-- Refused calls. A commit and a vacuum are lent nothing.
+abbrev refusing : Refusal → Told
+refusing k = told (Refused k) []
+
+abbrev commitRefused : World → List Operation → VersionManager → Refusal → Event
+commitRefused w os m k =
+    record { before = w; call = commit os [] 0; told = refusing k; listed = []; after = afterCommit m (refusing k) [] 0 w }
+
+abbrev pinRefused : World → Refusal → PinBook → Event
+pinRefused w k b = record { before = w; call = pin; told = refusing k; listed = []; after = onward (w .manager) b (refusing k) w }
+
+abbrev vacuumRefused : World → VersionManager → Refusal → Event
+vacuumRefused w m k = record { before = w; call = vacuum [] []; told = refusing k; listed = []; after = onward m (w .book) (refusing k) w }
 
 module _ (S : Steps) where
   begins : S .fresh first → Starts S begun
@@ -217,8 +232,8 @@ module _ (S : Steps) where
   vacuumed w m n ts rs h =
       record { result = listedBy m n; tables = ts; rowsets = rs; says = h; told = refl; listed = refl; after = refl }
 
-  reopened : (w : World) (m : VersionManager) (n : ℕ) (out : List ℕ) → S .reopen (w .torn) out (rewrittenBy m n) out → Link S (reopens w m n out)
-  reopened w m n out h = record { result = rewrittenBy m n; left = out; says = h; told = refl; none = refl; after = refl }
+  reopened : (w : World) (m : VersionManager) (n : ℕ) (out : List ℕ) (stale : Bool) → S .reopen (w .torn) out (rewrittenBy m n) out → Link S (reopens w m n out stale)
+  reopened w m n out stale h = record { result = rewrittenBy m n; left = out; says = h; told = refl; none = refl; after = refl }
 
 fresh-says : FreshSays first
 unfolding rows
@@ -331,6 +346,28 @@ counts-one-more claim =
     on-TAD S claim fresh-says draw-says says-TAD (vacuums w sweptTAD 2 (0 ∷ []) (0 ∷ []) ∷ []) (refl, vacuumed S w sweptTAD 2 (0 ∷ []) (0 ∷ []) more-says, tt) in
     apart (h .answers .1 .1 .0 refl .1) refl
 
+-- a vacuum that is lent nothing lets the deletion go
+abbrev notListed : Vacuumed
+notListed = record { manager = sweptTAD; answer = NotListed OutputTooShort }
+
+anyway-says : VacuumsAnyway afterTAD unpinned [] [] notListed [] []
+unfolding rows isName isNameByte isDigit isLower goneAt shownAt
+anyway-says =
+    record { answer = refl; tables = refl; rowsets = refl; manager = record { fits = few 1 1 1 tables noPairs 24 (omega arith) (omega arith); state = refl } }
+
+lets-go-refused : Refuted letsGoRefused
+unfolding rows
+lets-go-refused claim =
+    let S = letsGoRefused in
+    let w = commitTAD .after in
+    let h =
+    on-TAD S claim fresh-says draw-says says-TAD (vacuumRefused w sweptTAD OutputTooShort ∷ []) (
+      refl,
+      record { result = notListed; tables = []; rowsets = []; says = anyway-says; told = refl; listed = refl; after = refl },
+      tt,
+    ) in
+    not-empty (h .agrees .waiting)
+
 -- the deletion's own epoch is pinned
 pin-says : PinSays afterTAD unpinned (Pinned 1) once
 unfolding rows isName isNameByte isDigit isLower goneAt shownAt
@@ -375,6 +412,25 @@ counts-no-pin claim =
     let w = commitTAD .after in
     let h = on-TAD S claim fresh-says draw-says says-TAD (pins w 1 unpinned ∷ []) (refl, pinned S w 1 unpinned uncounted-says, tt) in
     not-empty (h .agrees .book)
+
+-- a pin before any commit is refused by 10, and counted
+abbrev onZero : PinBook
+onZero = record { items = record { epoch = 0; count = 1 } ∷ replicate (mostPinned - 1) (record { epoch = 0; count = 0 }); count = 1 }
+
+zero-says : PinsAnyway (first .manager) unpinned (NotPinned PinAtEpochZero) onZero
+unfolding rows
+zero-says = record { answer = refl; book = record { fits = omega arith; pins = refl } }
+
+counts-refused : Refuted countsRefused
+counts-refused claim =
+    let S = countsRefused in
+    let h =
+    claim begun (pinRefused begun PinAtEpochZero onZero ∷ []) (begins S fresh-says) (
+      refl,
+      record { answer = NotPinned PinAtEpochZero; book = onZero; says = zero-says; told = refl; none = refl; after = refl },
+      tt,
+    ) in
+    not-empty (sym (h .agrees .book))
 
 -- The pair that waits is added again.
 abbrev opsA : List Operation
@@ -770,6 +826,33 @@ keeps-sets claim =
     ) in
     no-table S (commitT noTables 0 .after) 2 recorded unchanged-shows (h .agrees .tables)
 
+-- a commit whose rowset was not drawn is refused by 14, and leaves the table
+abbrev partT : VersionManager
+partT = holding 0 1 0 tables noPairs 0
+
+abbrev notAppended : Committed
+notAppended = record { manager = partT; answer = NotAppended (IdNotDrawn 1) }
+
+part-says : CommitLeaves (outcomeOf (first .manager) (length opsTA) opsTA 0) (first .manager) opsTA [] notAppended []
+unfolding rows stepOf isName isNameByte isDigit isLower
+part-says = (refl, record { fits = few 0 1 0 tables noPairs 0 (omega arith) (omega arith); state = refl }, refl)
+
+part-shows : ShowTablesSays partT unpinned 0 [] [] [] [] (NotShown OutputTooShort) [] [] [] []
+unfolding rows isName isNameByte isDigit isLower
+part-shows = record { answer = refl; ids = refl; shapes = refl; lengths = refl; names = refl }
+
+leaves-part : Refuted leavesPart
+leaves-part claim =
+    let S = leavesPart in
+    let e = commitRefused begun opsTA partT (IdNotDrawn 1) in
+    let h =
+    claim begun (e ∷ []) (begins S fresh-says) (
+      refl,
+      record { count = length opsTA; counted = omega arith; result = notAppended; left = []; says = part-says; told = refl; none = refl; after = refl },
+      tt,
+    ) in
+    a-table S (e .after) 0 part-shows (h .agrees .tables)
+
 -- a reopen that leaves nothing
 abbrev rewritten : List ℕ
 rewritten = 66 ∷ 10 ∷ 78 ∷ 44 ∷ 48 ∷ 44 ∷ 48 ∷ 44 ∷ 48 ∷ 10 ∷ 69 ∷ 10 ∷ []
@@ -787,7 +870,7 @@ module _ (S : Steps) (fresh : S .fresh first) (none : S .commit (first .manager)
   all-gone : Refuted S
   all-gone claim =
       let w = commitT tables 0 .after in
-      let o = reopens w empty 12 rewritten in
+      let o = reopens w empty 12 rewritten false in
       let h =
       claim begun (commitNone ∷ commitT tables 0 ∷ o ∷ []) (begins S fresh) (
         refl,
@@ -795,7 +878,7 @@ module _ (S : Steps) (fresh : S .fresh first) (none : S .commit (first .manager)
         (
           refl,
           committed S (commitNone .after) opsT (afterT tables) 2 12 frameT 0 one,
-          (refl, reopened S w empty 12 rewritten opens, tt),
+          (refl, reopened S w empty 12 rewritten false opens, tt),
         ),
       ) in
       no-table S (o .after) 1 recorded shows (h .agrees .tables)
@@ -813,6 +896,37 @@ first-says = (refl, record { fits = few 1 0 0 noTables noPairs 12 (omega arith) 
 
 reads-first : Refuted readsFirst
 reads-first = all-gone readsFirst fresh-says says-none says-T first-says empty-shows
+
+-- The manifest has 24 bytes and the rewritten one 20. A reopen that is lent 24 finds the table; one that is lent 20 would find it again in
+-- the rewritten manifest, but the old one still stands, and of its frame the end is cut off.
+abbrev rewrittenTAD : List ℕ
+rewrittenTAD = 66 ∷ 10 ∷ 78 ∷ 44 ∷ 49 ∷ 44 ∷ 49 ∷ 44 ∷ 48 ∷ 10 ∷ 84 ∷ 44 ∷ 48 ∷ 44 ∷ 55 ∷ 44 ∷ 97 ∷ 10 ∷ 69 ∷ 10 ∷ []
+
+abbrev foundTAD : VersionManager
+foundTAD = holding 1 1 1 tables noPairs 20
+
+whole-says : ReopenSays (take 24 frameTAD) (places 24 rewrittenTAD) (rewrittenBy foundTAD 20) (places 24 rewrittenTAD)
+unfolding rows textOf fieldsText digits digitsBy lines linesOn lineOf lineBy twoFields tableFields fieldAt namedAt readAt readIn readOn isName isNameByte isDigit isLower goneAt shownAt
+whole-says = (refl, record { fits = few 1 1 1 tables noPairs 20 (omega arith) (omega arith); state = refl }, no-pins, refl)
+
+cut-says : ReopenSays (take 20 frameTAD) (places 20 rewritten) (rewrittenBy empty 12) (places 20 rewritten)
+unfolding rows textOf fieldsText digits digitsBy lines linesOn lineOf lineBy twoFields tableFields fieldAt namedAt readAt readIn readOn isName isNameByte isDigit isLower
+cut-says = (refl, record { fits = few 1 0 0 noTables noPairs 12 (omega arith) (omega arith); state = refl }, no-pins, refl)
+
+reads-to-room : Refuted readsToRoom
+unfolding rows
+reads-to-room claim =
+    let S = readsToRoom in
+    let w = commitTAD .after in
+    let o = reopens w foundTAD 20 (places 24 rewrittenTAD) true in
+    let q = reopens (o .after) empty 12 (places 20 rewritten) false in
+    let h =
+    on-TAD S claim fresh-says draw-says says-TAD (o ∷ q ∷ []) (
+      refl,
+      reopened S w foundTAD 20 (places 24 rewrittenTAD) true whole-says,
+      (refl, reopened S (o .after) empty 12 (places 20 rewritten) false cut-says, tt),
+    ) in
+    no-table S (q .after) 1 recorded empty-shows (h .agrees .tables)
 
 -- Reopens that find the table, where the next table's digit is n.
 abbrev rewrittenT : ℕ → List ℕ
@@ -837,7 +951,7 @@ counts-early : Refuted countsEarly
 counts-early claim =
     let S = countsEarly in
     let w = commitT tables 1 .after in
-    let o = reopens w (found 1) 20 (rewrittenT 49) in
+    let o = reopens w (found 1) 20 (rewrittenT 49) false in
     let h =
     claim begun (commitNone ∷ commitT tables 1 ∷ o ∷ []) (begins S fresh-says) (
       refl,
@@ -845,7 +959,7 @@ counts-early claim =
       (
         refl,
         committed S (commitNone .after) opsT (afterT tables) 2 12 frameT 1 says-T,
-        (refl, reopened S w (found 1) 20 (rewrittenT 49) early-says, tt),
+        (refl, reopened S w (found 1) 20 (rewrittenT 49) false early-says, tt),
       ),
     ) in
     a-table S (o .after) 1 found-shows (h .agrees .tables)
@@ -859,7 +973,7 @@ forgets-ids : Refuted forgetsIds
 forgets-ids claim =
     let S = forgetsIds in
     let w = commitT tables 0 .after in
-    let o = reopens w (found 0) 20 (rewrittenT 48) in
+    let o = reopens w (found 0) 20 (rewrittenT 48) false in
     let h =
     claim begun (commitNone ∷ commitT tables 0 ∷ o ∷ []) (begins S fresh-says) (
       refl,
@@ -867,7 +981,7 @@ forgets-ids claim =
       (
         refl,
         committed S (commitNone .after) opsT (afterT tables) 2 12 frameT 0 says-T,
-        (refl, reopened S w (found 0) 20 (rewrittenT 48) forgets-says, tt),
+        (refl, reopened S w (found 0) 20 (rewrittenT 48) false forgets-says, tt),
       ),
     ) in
     true≢false (sym (h .agrees .next))
@@ -895,12 +1009,12 @@ unfolding rows
 appends-no-end claim =
     let S = appendsNoEnd in
     let w = createsT 10 .after in
-    let o = reopens w empty 12 rewritten in
+    let o = reopens w empty 12 rewritten false in
     let h =
     claim begun (createsT 10 ∷ o ∷ []) (begins S fresh-says) (
       refl,
       committed S begun opsT createdT 1 10 frameT 0 early-T,
-      (refl, reopened S w empty 12 rewritten unended-opens, tt),
+      (refl, reopened S w empty 12 rewritten false unended-opens, tt),
     ) in
     no-table S (o .after) 1 recorded empty-shows (h .agrees .tables)
 
@@ -921,16 +1035,16 @@ unfolding rows
 rewrites-no-end claim =
     let S = rewritesNoEnd in
     let w = createsT 12 .after in
-    let o = reopens w (found 1) 18 (rewrittenT 49) in
-    let q = reopens (o .after) empty 10 rewritten in
+    let o = reopens w (found 1) 18 (rewrittenT 49) false in
+    let q = reopens (o .after) empty 10 rewritten false in
     let h =
     claim begun (createsT 12 ∷ o ∷ q ∷ []) (begins S fresh-says) (
       refl,
       committed S begun opsT createdT 1 12 frameT 0 says-created,
       (
         refl,
-        reopened S w (found 1) 18 (rewrittenT 49) early-found,
-        (refl, reopened S (o .after) empty 10 rewritten early-empty, tt),
+        reopened S w (found 1) 18 (rewrittenT 49) false early-found,
+        (refl, reopened S (o .after) empty 10 rewritten false early-empty, tt),
       ),
     ) in
     no-table S (q .after) 1 recorded empty-shows (h .agrees .tables)
@@ -938,7 +1052,7 @@ rewrites-no-end claim =
 -- a reopen is refused, though it is lent enough
 module _ (out : List ℕ) (long : longestRewritten ≤ length out) where
   abbrev refusal : Event
-  refusal = record { before = begun; call = reopen out false; told = record { number = 9; place = 0; values = [] }; listed = []; after = begun }
+  refusal = record { before = begun; call = reopen out false; told = refusing OutputTooShort; listed = []; after = begun }
 
   refusal-says : Link refusesReopen refusal
   refusal-says =
@@ -977,8 +1091,10 @@ wrong-refuted =
       judgesNothing = judges-nothing;
       forgetsWaiting = forgets-waiting;
       appendsNoEnd = appends-no-end;
+      leavesPart = leaves-part;
       answersNext = answers-next;
       countsNoPin = counts-no-pin;
+      countsRefused = counts-refused;
       keepsPin = keeps-pin;
       listsNothing = lists-nothing;
       keepsListed = keeps-listed;
@@ -987,8 +1103,10 @@ wrong-refuted =
       ignoresPins = ignores-pins;
       losesPairs = loses-pairs;
       losesVectors = loses-vectors;
+      letsGoRefused = lets-go-refused;
       opensEmpty = opens-empty;
       readsFirst = reads-first;
+      readsToRoom = reads-to-room;
       countsEarly = counts-early;
       forgetsIds = forgets-ids;
       rewritesNoEnd = rewrites-no-end;
