@@ -23,4 +23,6 @@ pub mod Agree
 pub mod Through
 pub mod Theorem
 pub mod Worked
+pub mod Events
+pub mod WrongManifests
 pub mod Wrong
