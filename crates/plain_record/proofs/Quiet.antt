@@ -5,7 +5,7 @@ use mathlib.Core.List.{List, map}
 use Prim.Native.Nat.{ℕ, _+_, _≤_}
 use native.Mathlib.Omega.{arith}
 use Rattle.ids.specs.declared.refusal.Verdict.{Verdict}
-use Rattle.ids.specs.declared.refusal.Verdict.the-variants.{Accepted}
+use Rattle.ids.specs.declared.refusal.Verdict.the-variants.{Accepted, Refused}
 use Rattle.ids.specs.Answers.{Told, told}
 use Rattle.version_state.specs.State.{State, withNext}
 use Rattle.pins.specs.declared.PinBook.{PinBook}
@@ -61,8 +61,9 @@ pub quiet-kept : (id : ℕ) (w : World) (r : Record) (m : VersionManager) (s : S
     → Inv v (turn quiet (isAccepted t) id r)
 quiet-kept id w r m s x vs t v i after e back sound a =
     onward-kept quiet id w r m (w .book) x vs t v i after e
-    (λ q. accepted-stands m (w .book) (w .file) s (r .whole) (r .place + 1) (sound q) (handed q .state) (stands-unmoved (heldBy (w .manager)) s (w .book) (w .file) (r .whole) a (stands-of w r i)))
-    (λ j q. (subst (λ (y : Verdict). HandsBack y (w .manager) s m) q back, refl))
+    (λ q. accepted-stands m (w .book) (w .file) s (r .whole) (r .place + 1) (sound q) (handed Accepted q .state)
+    (stands-unmoved (heldBy (w .manager)) s (w .book) (w .file) (r .whole) a (stands-of w r i)))
+    (λ j q. (handed (Refused j) q, refl))
   where
-    handed : (q : x ≡ Accepted) → HandsBack Accepted (w .manager) s m
-    handed q = subst (λ (y : Verdict). HandsBack y (w .manager) s m) q back
+    handed : (y : Verdict) → x ≡ y → HandsBack y (w .manager) s m
+    handed y q = subst (λ (z : Verdict). HandsBack z (w .manager) s m) q back

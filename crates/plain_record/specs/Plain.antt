@@ -140,7 +140,7 @@ abbrev pub counts : List Operation → ℕ → Record → Record
 counts os missing r =
     recorded (counted (r .place) os (r .whole)) (cond (eqb missing 0) (counted (r .place) os (r .whole)) (r .whole)) (r .place + 1)
 
--- by the call's kind and the id that it answers
+-- an accepted call, by its kind and the id that it answers
 abbrev pub accepts : Kind → ℕ → Record → Record
 accepts quiet id r = landed (r .whole) r
 accepts (asCommit made missing) id r = counts (made id (r .whole .now)) missing r
