@@ -1,4 +1,4 @@
--- A commit keeps the invariant. Assumes nothing.
+-- A call that counts as a commit keeps the invariant, and a commit is one. Assumes nothing.
 use mathlib.Core.Path.{_≡_, refl, sym, ap, subst, _∙_}
 use mathlib.Core.Bool.{true, false}
 use mathlib.Core.List.{List, [], _∷_, _++_, map}
@@ -8,9 +8,7 @@ use lib.ListN.{length, take, length-append}
 use lib.Seq.{take-all}
 use Rattle.lists.specs.Keyed.{allOf}
 use Rattle.lists.specs.Written.{over}
-use Rattle.ids.specs.declared.refusal.Refusal.{Refusal}
-use Rattle.ids.specs.declared.refusal.Verdict.the-variants.{Accepted, Refused}
-use Rattle.ids.specs.Answers.{Told, told}
+use Rattle.ids.specs.Answers.{Told}
 use Rattle.ids.specs.Results.{Result, refused, given}
 use Rattle.manifest.specs.Operations.{Operation}
 use Rattle.frames.specs.Frames.{frameOf}
@@ -26,9 +24,9 @@ use Rattle.version_manager.specs.Managers.{heldBy, badManager, Manages}
 use Rattle.version_manager.specs.Commit.{outcomeOf, commitTold, CommitEnds}
 use Rattle.pinning.proofs.Laws.{pin-laws}
 use Rattle.plain_record.specs.Sets.{Sets, applyAll}
-use Rattle.plain_record.specs.Calls.{commit}
-use Rattle.plain_record.specs.Plain.{byEpochAndPair, deletions, await, setsAt, counted, idsOf, Record, accepts, turn}
-use Rattle.plain_record.specs.Run.{port, World, world, isAccepted, afterCommit, DidCommit}
+use Rattle.plain_record.specs.Calls.{asCommit}
+use Rattle.plain_record.specs.Plain.{byEpochAndPair, deletions, await, setsAt, counted, idsOf, Record, counts, turn}
+use Rattle.plain_record.specs.Run.{port, World, world, isAccepted, value, afterCommit, DidCommit}
 use Rattle.plain_record.specs.Claim.{waitingIn, waitingOf, belowNext}
 use Rattle.plain_record.proofs.Invariant.{plainSets, Inv}
 use Rattle.plain_record.proofs.Refused.{refused-number}
@@ -93,9 +91,8 @@ module _ (w : World) (r : Record) (i : Inv w r) (z : ℕ) (os : List Operation) 
   plain-after : plainSets (heldBy n) ≡ applyAll os (r .whole .now)
   plain-after = ap (λ (e : ℕ). plainAt e (heldBy n)) epoch-after ∙ sets-after
 
-  pub commit-inv : (out : List ℕ) (missing : ℕ)
-      → Inv (world n (w .book) (w .file ++ frameOf os) (w .file ++ take (length (frameOf os) - missing) (frameOf os))) (accepts (commit os out missing) r)
-  commit-inv out missing =
+  commit-inv : (missing : ℕ) → Inv (world n (w .book) (w .file ++ frameOf os) (w .file ++ take (length (frameOf os) - missing) (frameOf os))) (counts os missing r)
+  commit-inv missing =
       let p = r .whole in
       let m = w .manager .inner in
       record {
@@ -112,32 +109,39 @@ module _ (w : World) (r : Record) (i : Inv w r) (z : ℕ) (os : List Operation) 
         torn = torn-after (w .file) p m (n .inner) z os room s (i .sound) few h k (r .place) (i .file) missing (now-at w r i (m .epoch) (omega arith)) plain-after;
       }
 
--- A link of a run.
-module _ (w : World) (t : Told) (l : List (List ℕ)) (v : World) (os : List Operation) (out : List ℕ) (missing : ℕ) (r : Record) (i : Inv w r) where
-  refused-inv : (n : VersionManager) (lent : List ℕ) (k : Refusal) → n ≡ w .manager
-      → Inv (afterCommit n (told (Refused k) []) lent missing w) (turn (commit os out missing) (isAccepted (told (Refused k) [])) r)
-  refused-inv n lent k q =
-      rw (refused-number k) (inv-stays w (world n (w .book) (w .file) (w .torn)) r (r .place + 1) q refl refl refl i)
-
-  accepted-inv : (z : ℕ) (n : VersionManager) (lent : List ℕ) (s : State) → length os ≤ z → commitOf (heldBy (w .manager)) z os (length out) ≡ given s → Manages n s → lent ≡ over (frameOf os) out
-      → Inv (afterCommit n (told Accepted (s .epoch ∷ length (frameOf os) ∷ [])) lent missing w) (turn (commit os out missing) (isAccepted (told Accepted (s .epoch ∷ length (frameOf os) ∷ []))) r)
-  accepted-inv z n lent s few h k q =
+-- A call that counts as a commit: it hands on the manager n and leaves its buffer as lent. Its answer's values are the id, at which the
+-- operations may look, and the append's length.
+module _ (w : World) (r : Record) (i : Inv w r) (made : ℕ → Sets → List Operation) (missing : ℕ) (t : Told) (n : VersionManager) (lent : List ℕ) where
+  pub accepted-kept : (z : ℕ) (os : List Operation) (out : List ℕ) (s : State) → isAccepted t ≡ true → value 1 t ≡ length (frameOf os) → made (value 0 t) (r .whole .now) ≡ os
+      → length os ≤ z → commitOf (heldBy (w .manager)) z os (length out) ≡ given s → Manages n s → lent ≡ over (frameOf os) out
+      → Inv (afterCommit n t lent missing w) (turn (asCommit made missing) (isAccepted t) (value 0 t) r)
+  accepted-kept z os out s a b c few h k q =
       let f = frameOf os in
       let x : take (length f) lent ≡ f = ap (take (length f)) q ∙ append-taken f out (length f) (omega arith) ∙ take-all (length f) f (omega arith) in
       let y : take (length f - missing) lent ≡ take (length f - missing) f = ap (take (length f - missing)) q ∙ append-taken f out (length f - missing) (omega arith) in
-      rw (x, y) (commit-inv w r i z os few (length out) n s h k out missing)
+      rw (a, b, c, x, y) (commit-inv w r i z os few (length out) n s h k missing)
 
-  -- by 29 the commit is the state's
+  pub refused-kept : isAccepted t ≡ false → n ≡ w .manager → Inv (afterCommit n t lent missing w) (turn (asCommit made missing) (isAccepted t) (value 0 t) r)
+  refused-kept a q = rw a (inv-stays w (world n (w .book) (w .file) (w .torn)) r (r .place + 1) q refl refl refl i)
+
+-- A commit.
+module _ (w : World) (t : Told) (l : List (List ℕ)) (v : World) (os : List Operation) (out : List ℕ) (missing : ℕ) (r : Record) (i : Inv w r) where
+  abbrev made : ℕ → Sets → List Operation
+  made id s = os
+
+  -- by 29 it is the state's
   outcome-is : (z : ℕ) → outcomeOf (w .manager) z os (length out) ≡ commitOf (heldBy (w .manager)) z os (length out)
   outcome-is z = rw (i .sound)
 
   outcome-inv : (z : ℕ) (c : Committed) (lent : List ℕ) (x : Result State) → length os ≤ z → commitOf (heldBy (w .manager)) z os (length out) ≡ x → CommitEnds x (w .manager) os out c lent
-      → Inv (afterCommit (c .manager) (commitTold (c .answer)) lent missing w) (turn (commit os out missing) (isAccepted (commitTold (c .answer))) r)
-  outcome-inv z c lent (given s) few h k = rw (k .0) (accepted-inv z (c .manager) lent s few h (k .1) (k .2))
-  outcome-inv z c lent (refused j) few h k = rw (k .0) (refused-inv (c .manager) lent j (k .1))
+      → t ≡ commitTold (c .answer) → Inv (afterCommit (c .manager) t lent missing w) (turn (asCommit made missing) (isAccepted t) (value 0 t) r)
+  outcome-inv z c lent (given s) few h k e =
+      let q = e ∙ k .0 in
+      accepted-kept w r i made missing t (c .manager) lent z os out s (ap isAccepted q) (ap (value 1) q) refl few h (k .1) (k .2)
+  outcome-inv z c lent (refused j) few h k e =
+      refused-kept w r i made missing t (c .manager) lent (ap isAccepted (e ∙ k .0) ∙ refused-number j) (k .1)
 
-  pub commit-keeps : DidCommit port w t l v os out missing → Inv v (turn (commit os out missing) (isAccepted t) r)
+  pub commit-keeps : DidCommit port w t l v os out missing → Inv v (turn (asCommit made missing) (isAccepted t) (value 0 t) r)
   commit-keeps d =
       let says = subst (λ (x : Result State). CommitEnds x (w .manager) os out (d .result) (d .left)) (outcome-is (d .count)) (d .says) in
-      let x = outcome-inv (d .count) (d .result) (d .left) (commitOf (heldBy (w .manager)) (d .count) os (length out)) (d .counted) refl says in
-      rw (d .after, d .told) x
+      rw (d .after) (outcome-inv (d .count) (d .result) (d .left) (commitOf (heldBy (w .manager)) (d .count) os (length out)) (d .counted) refl says (d .told))

@@ -13,9 +13,9 @@ use Rattle.lists.proofs.Order.{same-refl, same-true}
 use Rattle.lists.proofs.Keyed.{All, all-map, all-placed, all-keep, anyOf-placed, none-anyOf}
 use Rattle.manifest.specs.Operations.{Operation, createTable, dropTable, addRowset, deleteRowset, addVector, deleteVector, nextIds}
 use Rattle.pins.specs.Book.{pinsOf}
-use Rattle.plain_record.specs.Calls.{Call, drawRowset, drawVector, commit, pin, unpin, vacuum, reopen}
+use Rattle.plain_record.specs.Calls.{Kind, quiet, asCommit, asPin, asUnpin, asVacuum, asReopen, kindOf}
 use Rattle.plain_record.specs.Plain.{Waiting, byEpochAndPair, epochOf, deletions, await, counted, blocked, listed, Record, atStart, turn}
-use Rattle.plain_record.specs.Run.{Event, isAccepted}
+use Rattle.plain_record.specs.Run.{Event, isAccepted, value}
 use Rattle.plain_record.specs.Claim.{pinsIn, pairsOf, differ, AnswerBy, nextRecord, isVacuum, isReopen, vacuums, frees, isIt, another, removes, lists, Listing, NeverListed, ListedFirst, deletionsBy, EachListed, Deletions}
 
 -- every waiting entry comes from a commit before the next call
@@ -33,14 +33,13 @@ abbrev pub AllSeen : Record → List Event → Type 0
 AllSeen r [] = Unit {0}
 AllSeen r (e ∷ es) = Seen r e × AllSeen (nextRecord r e) es
 
-pub answer-lists : (r : Record) (e : Event) (c : Call) → AnswerBy r e c → isVacuum c && isAccepted (e .told) ≡ true → e .listed ≡ pairsOf (listed (r .whole))
-answer-lists r e drawRowset a v = clash v refl
-answer-lists r e drawVector a v = clash v refl
-answer-lists r e (commit os out missing) a v = clash v refl
-answer-lists r e pin a v = clash v refl
-answer-lists r e (unpin d) a v = clash v refl
-answer-lists r e (vacuum ts rs) a v = a v .0
-answer-lists r e (reopen out stale) a v = clash v refl
+pub answer-lists : (r : Record) (e : Event) (k : Kind) → AnswerBy r e k → isVacuum k && isAccepted (e .told) ≡ true → e .listed ≡ pairsOf (listed (r .whole))
+answer-lists r e quiet a v = clash v refl
+answer-lists r e (asCommit made missing) a v = clash v refl
+answer-lists r e asPin a v = clash v refl
+answer-lists r e (asUnpin d) a v = clash v refl
+answer-lists r e asVacuum a v = a v .0
+answer-lists r e (asReopen lent) a v = clash v refl
 
 all-await : (P : Waiting → Type 0) (ws l : List Waiting) → All P ws → All P l → All P (await ws l)
 all-await P [] l p q = q
@@ -114,19 +113,18 @@ counted-below os r b =
     all-await (λ (x : Waiting). x .commit < r .place + 1) (deletions (r .place) (epochOf (r .whole) + 1) 0 os) (r .whole .waiting)
     (new-below (r .place) (epochOf (r .whole) + 1) os) (later (r .place) (r .whole .waiting) (b .whole))
 
-below-turn : (c : Call) (a : Bool) (r : Record) → Below r → Below (turn c a r)
-below-turn drawRowset true r b = let h = later (r .place) (r .whole .waiting) (b .whole) in record { whole = h; torn = h }
-below-turn drawVector true r b = let h = later (r .place) (r .whole .waiting) (b .whole) in record { whole = h; torn = h }
-below-turn (commit os out missing) true r b =
-    let h = counted-below os r b in
+below-turn : (k : Kind) (a : Bool) (id : ℕ) (r : Record) → Below r → Below (turn k a id r)
+below-turn quiet true id r b = let h = later (r .place) (r .whole .waiting) (b .whole) in record { whole = h; torn = h }
+below-turn (asCommit made missing) true id r b =
+    let h = counted-below (made id (r .whole .now)) r b in
     record { whole = h; torn = by-cases (eqb missing 0) (λ t. rw t h) (λ t. rw t (later (r .place) (r .whole .waiting) (b .whole))) }
-below-turn pin true r b = let h = later (r .place) (r .whole .waiting) (b .whole) in record { whole = h; torn = h }
-below-turn (unpin e) true r b = let h = later (r .place) (r .whole .waiting) (b .whole) in record { whole = h; torn = h }
-below-turn (vacuum ts rs) true r b =
+below-turn asPin true id r b = let h = later (r .place) (r .whole .waiting) (b .whole) in record { whole = h; torn = h }
+below-turn (asUnpin e) true id r b = let h = later (r .place) (r .whole .waiting) (b .whole) in record { whole = h; torn = h }
+below-turn asVacuum true id r b =
     let h = all-keep (λ (x : Waiting). x .commit < r .place + 1) (λ w. blocked (r .whole .pinned) (w .epoch)) (r .whole .waiting) (later (r .place) (r .whole .waiting) (b .whole)) in
     record { whole = h; torn = h }
-below-turn (reopen out stale) true r b = record { whole = tt; torn = tt }
-below-turn c false r b = record { whole = later (r .place) (r .whole .waiting) (b .whole); torn = later (r .place) (r .torn .waiting) (b .torn) }
+below-turn (asReopen lent) true id r b = record { whole = tt; torn = tt }
+below-turn k false id r b = record { whole = later (r .place) (r .whole .waiting) (b .whole); torn = later (r .place) (r .torn .waiting) (b .torn) }
 
 pub below-start : Below atStart
 below-start = record { whole = tt; torn = tt }
@@ -141,7 +139,7 @@ record Tagged (d : Waiting) (r : Record) : Type 0 where
 
 -- an accepted reopen
 abbrev reopens : Event → Bool
-reopens e = isReopen (e .call) && isAccepted (e .told)
+reopens e = isReopen (kindOf (e .call)) && isAccepted (e .told)
 
 -- it waits
 abbrev waitsIn : Waiting → Record → Bool
@@ -164,45 +162,39 @@ module _ (d : Waiting) where
   new-other : (n e : ℕ) (os : List Operation) → d .commit < n → All (λ (x : Waiting). isIt d x ≡ false) (deletions n e 0 os)
   new-other n e os h = all-map (deletions n e 0 os) (λ x o. other-commit d x (λ s. let u = o .0 in omega arith)) (all-of n e 0 os)
 
-  tagged-turn : (c : Call) (a : Bool) (r : Record) → Tagged d r → Tagged d (turn c a r)
-  tagged-turn drawRowset true r t = let h = t .earlier in record { earlier = omega arith; alike = t .alike }
-  tagged-turn drawVector true r t = let h = t .earlier in record { earlier = omega arith; alike = t .alike }
-  tagged-turn (commit os out missing) true r t =
+  tagged-turn : (k : Kind) (a : Bool) (id : ℕ) (r : Record) → Tagged d r → Tagged d (turn k a id r)
+  tagged-turn quiet true id r t = let h = t .earlier in record { earlier = omega arith; alike = t .alike }
+  tagged-turn (asCommit made missing) true id r t =
       let h = t .earlier in
-      let n = new-other (r .place) (epochOf (r .whole) + 1) os h in
-      record {
-        earlier = omega arith;
-        alike =
-            all-await (Alike d) (deletions (r .place) (epochOf (r .whole) + 1) 0 os) (r .whole .waiting)
-            (all-map (deletions (r .place) (epochOf (r .whole) + 1) 0 os) (λ x f g. clash g f) n) (t .alike);
-      }
-  tagged-turn pin true r t = let h = t .earlier in record { earlier = omega arith; alike = t .alike }
-  tagged-turn (unpin e) true r t = let h = t .earlier in record { earlier = omega arith; alike = t .alike }
-  tagged-turn (vacuum ts rs) true r t =
+      let new = deletions (r .place) (epochOf (r .whole) + 1) 0 (made id (r .whole .now)) in
+      let n = new-other (r .place) (epochOf (r .whole) + 1) (made id (r .whole .now)) h in
+      record { earlier = omega arith; alike = all-await (Alike d) new (r .whole .waiting) (all-map new (λ x f g. clash g f) n) (t .alike) }
+  tagged-turn asPin true id r t = let h = t .earlier in record { earlier = omega arith; alike = t .alike }
+  tagged-turn (asUnpin e) true id r t = let h = t .earlier in record { earlier = omega arith; alike = t .alike }
+  tagged-turn asVacuum true id r t =
       let h = t .earlier in
       record { earlier = omega arith; alike = all-keep (Alike d) (λ w. blocked (r .whole .pinned) (w .epoch)) (r .whole .waiting) (t .alike) }
-  tagged-turn (reopen out stale) true r t = let h = t .earlier in record { earlier = omega arith; alike = tt }
-  tagged-turn c false r t = let h = t .earlier in record { earlier = omega arith; alike = t .alike }
+  tagged-turn (asReopen lent) true id r t = let h = t .earlier in record { earlier = omega arith; alike = tt }
+  tagged-turn k false id r t = let h = t .earlier in record { earlier = omega arith; alike = t .alike }
 
   -- whether it waits after a turn
-  waits-turn : (c : Call) (a : Bool) (r : Record) → Tagged d r
-      → waitsIn d (turn c a r) ≡ cond (isReopen c && a) false (cond (isVacuum c && a) (blocked (r .whole .pinned) (d .epoch) && waitsIn d r) (waitsIn d r))
-  waits-turn drawRowset true r t = refl
-  waits-turn drawVector true r t = refl
-  waits-turn (commit os out missing) true r t =
-      anyOf-await (isIt d) (deletions (r .place) (epochOf (r .whole) + 1) 0 os) (r .whole .waiting)
-      ∙ ap (λ (b : Bool). b || waitsIn d r) (none-anyOf (isIt d) (deletions (r .place) (epochOf (r .whole) + 1) 0 os) (new-other (r .place) (epochOf (r .whole) + 1) os (t .earlier)))
-  waits-turn pin true r t = refl
-  waits-turn (unpin e) true r t = refl
-  waits-turn (vacuum ts rs) true r t = kept-tag (blocked (r .whole .pinned)) (r .whole .waiting) (t .alike)
-  waits-turn (reopen out stale) true r t = refl
-  waits-turn drawRowset false r t = refl
-  waits-turn drawVector false r t = refl
-  waits-turn (commit os out missing) false r t = refl
-  waits-turn pin false r t = refl
-  waits-turn (unpin e) false r t = refl
-  waits-turn (vacuum ts rs) false r t = refl
-  waits-turn (reopen out stale) false r t = refl
+  waits-turn : (k : Kind) (a : Bool) (id : ℕ) (r : Record) → Tagged d r
+      → waitsIn d (turn k a id r) ≡ cond (isReopen k && a) false (cond (isVacuum k && a) (blocked (r .whole .pinned) (d .epoch) && waitsIn d r) (waitsIn d r))
+  waits-turn quiet true id r t = refl
+  waits-turn (asCommit made missing) true id r t =
+      let new = deletions (r .place) (epochOf (r .whole) + 1) 0 (made id (r .whole .now)) in
+      anyOf-await (isIt d) new (r .whole .waiting)
+      ∙ ap (λ (b : Bool). b || waitsIn d r) (none-anyOf (isIt d) new (new-other (r .place) (epochOf (r .whole) + 1) (made id (r .whole .now)) (t .earlier)))
+  waits-turn asPin true id r t = refl
+  waits-turn (asUnpin e) true id r t = refl
+  waits-turn asVacuum true id r t = kept-tag (blocked (r .whole .pinned)) (r .whole .waiting) (t .alike)
+  waits-turn (asReopen lent) true id r t = refl
+  waits-turn quiet false id r t = refl
+  waits-turn (asCommit made missing) false id r t = refl
+  waits-turn asPin false id r t = refl
+  waits-turn (asUnpin e) false id r t = refl
+  waits-turn asVacuum false id r t = refl
+  waits-turn (asReopen lent) false id r t = refl
 
   -- where no pair of a list is d's, nothing in it is d
   none-is : (l : List Waiting) → All (Alike d) l → anyOf (same (d .pair)) (pairsOf l) ≡ false → anyOf (isIt d) l ≡ false
@@ -299,10 +291,10 @@ module _ (d : Waiting) where
     keeps = blocked (r .whole .pinned) (d .epoch)
 
     turned : waitsIn d (nextRecord r e) ≡ cond (reopens e) false (cond (vacuums e) (keeps && waitsIn d r) (waitsIn d r))
-    turned = waits-turn (e .call) (isAccepted (e .told)) r t
+    turned = waits-turn (kindOf (e .call)) (isAccepted (e .told)) (value 0 (e .told)) r t
 
     tagged-next : Tagged d (nextRecord r e)
-    tagged-next = tagged-turn (e .call) (isAccepted (e .told)) r t
+    tagged-next = tagged-turn (kindOf (e .call)) (isAccepted (e .told)) (value 0 (e .told)) r t
 
     gone-next : waitsIn d r ≡ false → waitsIn d (nextRecord r e) ≡ false
     gone-next h = turned ∙ after-gone (reopens e) (vacuums e) keeps (waitsIn d r) h
@@ -381,19 +373,23 @@ module _ (os : List Operation) (r : Record) (b : Below r) (q : Record) (place : 
       all-map made (λ d p. begins d (p .0 .0) (p .0 .1) (p .1))
       (all-both (λ d. Of (r .place) (epochOf (r .whole) + 1) d × From 0 os d) (λ d. anyOf (isIt d) made ≡ true) made made-all (all-there made))
 
-opened : (c : Call) (a : Bool) (r : Record) (es : List Event) → a ≡ true → Below r → AllSeen (turn c a r) es → anyOf reopens es ≡ false
-    → EachListed (deletionsBy r c) (turn c a r) es
-opened drawRowset a r es t b k n = tt
-opened drawVector a r es t b k n = tt
-opened (commit os out missing) true r es t b k n =
-    each (deletions (r .place) (epochOf (r .whole) + 1) 0 os) (turn (commit os out missing) true r) es (all-begun os r b (turn (commit os out missing) true r) refl refl) k n
-opened (commit os out missing) false r es t b k n = clash t refl
-opened pin a r es t b k n = tt
-opened (unpin e) a r es t b k n = tt
-opened (vacuum ts rs) a r es t b k n = tt
-opened (reopen out stale) a r es t b k n = tt
+opened : (k : Kind) (a : Bool) (id : ℕ) (r : Record) (es : List Event) → a ≡ true → Below r → AllSeen (turn k a id r) es → anyOf reopens es ≡ false
+    → EachListed (deletionsBy r id k) (turn k a id r) es
+opened quiet a id r es t b k n = tt
+opened (asCommit made missing) true id r es t b k n =
+    let os = made id (r .whole .now) in
+    let q = turn (asCommit made missing) true id r in
+    each (deletions (r .place) (epochOf (r .whole) + 1) 0 os) q es (all-begun os r b q refl refl) k n
+opened (asCommit made missing) false id r es t b k n = clash t refl
+opened asPin a id r es t b k n = tt
+opened (asUnpin e) a id r es t b k n = tt
+opened asVacuum a id r es t b k n = tt
+opened (asReopen lent) a id r es t b k n = tt
 
 pub deletions-hold : (r : Record) (es : List Event) → Below r → AllSeen r es → Deletions r es
 deletions-hold r [] b k = tt
 deletions-hold r (e ∷ es) b k =
-    (λ t n. opened (e .call) (isAccepted (e .told)) r es t b (k .1) (not-true _ n), deletions-hold (nextRecord r e) es (below-turn (e .call) (isAccepted (e .told)) r b) (k .1))
+    let c = kindOf (e .call) in
+    let a = isAccepted (e .told) in
+    let id = value 0 (e .told) in
+    (λ t n. opened c a id r es t b (k .1) (not-true _ n), deletions-hold (nextRecord r e) es (below-turn c a id r b) (k .1))

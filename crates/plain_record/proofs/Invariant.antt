@@ -14,9 +14,10 @@ use Rattle.replay.specs.Replay.{replayOf}
 use Rattle.recovery.specs.Sets.{setsOf}
 use Rattle.recovery.specs.Holds as manifest
 use Rattle.plain_record.specs.Sets.{Table, table, Sets, sets}
-use Rattle.plain_record.specs.Plain.{Plain, epochOf, setsAt, Record}
-use Rattle.plain_record.specs.Run.{World, Event}
-use Rattle.plain_record.specs.Claim.{pinsIn, waitingIn, waitingOf, belowNext, AnswerBy, nextRecord}
+use Rattle.plain_record.specs.Calls.{Kind}
+use Rattle.plain_record.specs.Plain.{Plain, epochOf, setsAt, Record, turn}
+use Rattle.plain_record.specs.Run.{World, Event, isAccepted, value}
+use Rattle.plain_record.specs.Claim.{pinsIn, waitingIn, waitingOf, belowNext, AnswerBy}
 
 abbrev pub plainTable : TableEntry → Table
 plainTable t = table (t .table) (t .shape) (t .name)
@@ -54,7 +55,7 @@ pub record Inv (w : World) (r : Record) : Type 0 where
   pub file : Filed (w .file) (heldBy (w .manager)) (r .whole)
   pub torn : Torn (w .torn) (r .torn)
 
--- a turn keeps it, and its answer is as claimed
-pub record Kept (r : Record) (e : Event) : Type 0 where
-  pub inv : Inv (e .after) (nextRecord r e)
-  pub answer : AnswerBy r e (e .call)
+-- a turn keeps it, and its answer is as claimed; k is the call's kind
+pub record Kept (r : Record) (e : Event) (k : Kind) : Type 0 where
+  pub inv : Inv (e .after) (turn k (isAccepted (e .told)) (value 0 (e .told)) r)
+  pub answer : AnswerBy r e k

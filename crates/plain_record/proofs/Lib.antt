@@ -10,6 +10,7 @@ pub mod CommitShows
 pub mod CommitState
 pub mod CommitFile
 pub mod Commit
+pub mod Quiet
 pub mod Draw
 pub mod Counts
 pub mod Pin
@@ -22,4 +23,6 @@ pub mod Agree
 pub mod Through
 pub mod Theorem
 pub mod Worked
+pub mod Events
+pub mod WrongManifests
 pub mod Wrong

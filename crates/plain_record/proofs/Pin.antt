@@ -1,6 +1,6 @@
 -- Pin keeps the invariant, and answers the record's epoch. Assumes nothing.
-use mathlib.Core.Path.{_≡_, refl, sym, ap, ap₂, subst, _∙_}
-use mathlib.Core.Bool.{true, false, cond}
+use mathlib.Core.Path.{_≡_, refl, ap, ap₂, subst, _∙_}
+use mathlib.Core.Bool.{true, false}
 use mathlib.Core.List.{List, [], _∷_, map}
 use Prim.Native.Nat.{ℕ, _+_, _≤_}
 use native.Mathlib.Omega.{arith}
@@ -16,12 +16,12 @@ use Rattle.version_manager.specs.Managers.{heldBy}
 use Rattle.pinning.specs.Counts.{pinsAt, withPin}
 use Rattle.pinning.specs.Says.{BookAfter, pinVerdict}
 use Rattle.pinning.proofs.Laws.{pin-laws}
-use Rattle.plain_record.specs.Calls.{pin}
+use Rattle.plain_record.specs.Calls.{asPin}
 use Rattle.plain_record.specs.Plain.{Pins, Plain, epochOf, onePin, withPins, Record, turn}
-use Rattle.plain_record.specs.Run.{World, world, isAccepted, value, port, DidPin}
+use Rattle.plain_record.specs.Run.{World, isAccepted, value, port, DidPin}
 use Rattle.plain_record.specs.Claim.{pinsIn}
 use Rattle.plain_record.proofs.Invariant.{Filed, Inv}
-use Rattle.plain_record.proofs.Stands.{Stands, stands-of, accepted-stands, refused-stands, by-verdict}
+use Rattle.plain_record.proofs.Stands.{Stands, stands-of, accepted-stands, by-verdict, onward-kept}
 use Rattle.plain_record.proofs.Counts.{with-pin, bound-recounted}
 
 filed-pins : (f : List ℕ) (s : State) (l : List Pins) (p : Plain) → Filed f s p → Filed f s (withPins l p)
@@ -58,14 +58,15 @@ module _ (w : World) (r : Record) (t : Told) (l : List (List ℕ)) (v : World) (
       stands-pins (heldBy (w .manager)) (w .book) (d .book) (w .file) (onePin (epochOf (r .whole)) (r .whole .pinned)) (r .whole) (stands-of w r i)
       (pin-laws .pin (w .manager) (w .book) (d .answer) (d .book) (d .says) (i .book)) e h
 
-  pub pin-kept : Inv v (turn pin (isAccepted t) r)
-  pin-kept =
-      subst (λ (u : World). Inv u (turn pin (isAccepted t) r)) (sym (d .after))
-      (by-verdict (λ a. Inv (world (w .manager) (d .book) (w .file) (cond a (w .file) (w .torn))) (turn pin a r))
-      (pinVerdict (w .manager) (w .book)) (epoch ∷ []) t (d .told ∙ d .says .answer)
-      (λ a. accepted-stands (w .manager) (d .book) (w .file) (heldBy (w .manager)) (withPins (onePin (epochOf (r .whole)) (r .whole .pinned)) (r .whole)) (r .place + 1) (i .sound) refl
-      (stands-pinned (subst (λ (x : Verdict). BookAfter x (w .book) (withPin epoch (pinsOf (w .book))) (d .book)) a (d .says .book))))
-      (λ k a. refused-stands w r (w .manager) (d .book) refl (subst (λ (x : Verdict). BookAfter x (w .book) (withPin epoch (pinsOf (w .book))) (d .book)) a (d .says .book)) i))
+  abbrev After : Verdict → Type 0
+  After x = BookAfter x (w .book) (withPin epoch (pinsOf (w .book))) (d .book)
+
+  pub pin-kept : (id : ℕ) → Inv v (turn asPin (isAccepted t) id r)
+  pin-kept id =
+      let p = withPins (onePin (epochOf (r .whole)) (r .whole .pinned)) (r .whole) in
+      onward-kept asPin id w r (w .manager) (d .book) (pinVerdict (w .manager) (w .book)) (epoch ∷ []) t v i (d .after) (d .told ∙ d .says .answer)
+      (λ a. accepted-stands (w .manager) (d .book) (w .file) (heldBy (w .manager)) p (r .place + 1) (i .sound) refl (stands-pinned (subst After a (d .says .book))))
+      (λ k a. (refl, subst After a (d .says .book)))
 
   pub pin-answers : isAccepted t ≡ true → value 0 t ≡ epochOf (r .whole)
   pin-answers =

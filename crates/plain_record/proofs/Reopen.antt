@@ -29,9 +29,9 @@ use Rattle.recovery.proofs.Sound.{replay-sound, replay-room}
 use Rattle.recovery.proofs.Again.{replay-again}
 use Rattle.recovery.proofs.Appending.{holds-replayed}
 use Rattle.plain_record.specs.Sets.{Sets}
-use Rattle.plain_record.specs.Calls.{reopen}
+use Rattle.plain_record.specs.Calls.{asReopen}
 use Rattle.plain_record.specs.Plain.{Plain, setsAt, kept, Record, recorded, turn}
-use Rattle.plain_record.specs.Run.{port, World, world, isAccepted, DidReopen}
+use Rattle.plain_record.specs.Run.{port, World, isAccepted, replaced, DidReopen}
 use Rattle.plain_record.specs.Claim.{waitingIn}
 use Rattle.plain_record.proofs.Invariant.{plainTable, Torn, Inv}
 use Rattle.plain_record.proofs.CommitIds.{next-rise}
@@ -71,6 +71,11 @@ later-sets zero p h = absurd (omega arith)
 later-sets (suc zero) p h = refl
 later-sets (suc (suc d)) p h = refl
 
+-- the manifest that a reopen finds after one was replaced, where the old one and the new one are replayed to the same sets
+pub replaced-torn : (old new : List ℕ) (p : Plain) (stale : Bool) → Torn old p → Torn new p → Torn (cond stale old new) p
+replaced-torn old new p true o n = o
+replaced-torn old new p false o n = n
+
 -- The manager, the book and the file that an accepted reopen hands out.
 module _ (w : World) (r : Record) (i : Inv w r) (m : VersionManager) (b : PinBook) where
   abbrev t : Torn (w .torn) (r .torn)
@@ -97,12 +102,8 @@ module _ (w : World) (r : Record) (i : Inv w r) (m : VersionManager) (b : PinBoo
   old-torn : Torn (w .torn) (kept (r .torn))
   old-torn = record { state = s; replayed = t .replayed; sets = t .sets; next = t .next }
 
-  stale-torn : (stale : Bool) → Torn (cond stale (w .torn) (rewrittenOf s)) (kept (r .torn))
-  stale-torn true = old-torn
-  stale-torn false = file-torn
-
   pub handed-on : (stale : Bool) (place : ℕ) → Hands (m .inner) (withEpoch s (s .epoch) n) → Keeps b []
-      → Inv (world m b (rewrittenOf s) (cond stale (w .torn) (rewrittenOf s))) (recorded (kept (r .torn)) (kept (r .torn)) place)
+      → Inv (replaced m b (w .torn) (rewrittenOf s) stale) (recorded (kept (r .torn)) (kept (r .torn)) place)
   handed-on stale place k e =
       let z = k .state in
       let one : m .inner .epoch ≡ 1 = ap (λ (u : State). u .epoch) z ∙ at-one (w .torn) s (t .replayed) in
@@ -129,7 +130,7 @@ module _ (w : World) (r : Record) (i : Inv w r) (m : VersionManager) (b : PinBoo
               long = sym (ap (λ (u : State). u .manifest) z);
               next = t .next;
             };
-        torn = stale-torn stale;
+        torn = replaced-torn (w .torn) (rewrittenOf s) (kept (r .torn)) stale old-torn file-torn;
       }
 
 -- the bytes of a run that was written over the start of a buffer
@@ -146,15 +147,15 @@ module _ (w : World) (t : Told) (l : List (List ℕ)) (v : World) (out : List �
       let x = rw (i .torn .replayed, e) at (d .says) in
       ap isAccepted (d .told ∙ x .0)
 
-  short-stays : isAccepted t ≡ false → Inv v (turn (reopen out stale) (isAccepted t) r)
-  short-stays e =
+  short-stays : (id : ℕ) → isAccepted t ≡ false → Inv v (turn (asReopen (length out)) (isAccepted t) id r)
+  short-stays id e =
       let z : v ≡ w = d .after ∙ rw e in
       rw (z, e) (inv-stays w w r (r .place + 1) refl refl refl refl i)
 
-  pub reopen-keeps : Inv v (turn (reopen out stale) (isAccepted t) r)
-  reopen-keeps =
+  pub reopen-keeps : (id : ℕ) → Inv v (turn (asReopen (length out)) (isAccepted t) id r)
+  reopen-keeps id =
       by-cases (ltb (length out) (length (rewrittenOf found)))
-      (λ e. short-stays (too-short e))
+      (λ e. short-stays id (too-short e))
       (λ e.
       let x = rw (i .torn .replayed, e) at (d .says) in
       let q : t ≡ told Accepted (length (rewrittenOf found) ∷ []) = d .told ∙ x .0 in

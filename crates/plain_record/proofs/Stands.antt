@@ -1,6 +1,6 @@
--- The invariant by the manager's state alone, and its two turns: a refused call, and an accepted one that leaves the file as it is. Assumes nothing.
+-- The invariant by the manager's state alone, and the two turns of a call that leaves the file as it is: refused and accepted. Assumes nothing.
 use mathlib.Core.Path.{_≡_, refl, sym, ap, subst, _∙_}
-use mathlib.Core.Bool.{Bool, true, false}
+use mathlib.Core.Bool.{Bool, true, false, cond}
 use mathlib.Core.List.{List, map}
 use Prim.Native.Nat.{ℕ, _+_, _≤_}
 use native.Mathlib.Omega.{arith}
@@ -18,8 +18,9 @@ use Rattle.pins.proofs.Bound.{bound-le}
 use Rattle.version_manager.specs.declared.VersionManager.{VersionManager}
 use Rattle.version_manager.specs.Managers.{heldBy, badManager}
 use Rattle.plain_record.specs.Sets.{Sets, sets}
-use Rattle.plain_record.specs.Plain.{Plain, epochOf, setsAt, Record, recorded}
-use Rattle.plain_record.specs.Run.{World, world, isAccepted}
+use Rattle.plain_record.specs.Calls.{Kind}
+use Rattle.plain_record.specs.Plain.{Plain, epochOf, setsAt, Record, recorded, accepts, turn}
+use Rattle.plain_record.specs.Run.{World, world, isAccepted, onward}
 use Rattle.plain_record.specs.Claim.{pinsIn, waitingIn, waitingOf, belowNext}
 use Rattle.plain_record.proofs.Invariant.{plainTable, plainSets, Filed, Torn, Inv}
 use Rattle.plain_record.proofs.Landed.{landed}
@@ -90,3 +91,12 @@ refused-stands w r m b e h i = inv-stays w (world m b (w .file) (w .torn)) r (r 
 pub by-verdict : (P : Bool → Type 0) (v : Verdict) (vs : List ℕ) (t : Told) → t ≡ told v vs → (v ≡ Accepted → P true) → ((k : Refusal) → v ≡ Refused k → P false) → P (isAccepted t)
 by-verdict P Accepted vs t e a r = subst (λ (u : Told). P (isAccepted u)) (sym e) (a refl)
 by-verdict P (Refused k) vs t e a r = subst (λ (u : Told). P (isAccepted u)) (sym e) (subst P (sym (refused-number k)) (r k refl))
+
+-- a call of the kind k that appends nothing and hands on the manager m and the book b; x is its verdict
+pub onward-kept : (k : Kind) (id : ℕ) (w : World) (r : Record) (m : VersionManager) (b : PinBook) (x : Verdict) (vs : List ℕ) (t : Told) (v : World) → Inv w r
+    → v ≡ onward m b t w → t ≡ told x vs → (x ≡ Accepted → Inv (world m b (w .file) (w .file)) (accepts k id r)) → ((j : Refusal) → x ≡ Refused j → (m ≡ w .manager) × (b ≡ w .book))
+    → Inv v (turn k (isAccepted t) id r)
+onward-kept k id w r m b x vs t v i after e took stayed =
+    subst (λ (u : World). Inv u (turn k (isAccepted t) id r)) (sym after)
+    (by-verdict (λ a. Inv (world m b (w .file) (cond a (w .file) (w .torn))) (turn k a id r)) x vs t e took
+    (λ j q. refused-stands w r m b (stayed j q .0) (stayed j q .1) i))

@@ -1,9 +1,7 @@
 -- Demand 3: every turn of a run keeps the invariant, and it holds at the start. Assumes nothing.
 use mathlib.Core.Path.{refl, sym, ap, subst, _∙_}
-use mathlib.Core.List.{List, [], map}
-use Prim.Native.Nat.{ℕ}
+use mathlib.Core.List.{[], map}
 use native.Mathlib.Omega.{arith}
-use Rattle.ids.specs.Answers.{Told}
 use Rattle.version_state.specs.State.{State, start, withEpoch, pairsAt, vectorsAt}
 use Rattle.version_manager.specs.declared.Opened.{Opened}
 use Rattle.version_manager.specs.Managers.{FreshSays}
@@ -12,11 +10,11 @@ use Rattle.replay.specs.Replay.{reopened}
 use Rattle.recovery.specs.Sets.{setsOf}
 use Rattle.recovery.proofs.Appending.{empty-holds, holds-replayed}
 use Rattle.plain_record.specs.Sets.{Sets, none}
-use Rattle.plain_record.specs.Calls.{Call, drawRowset, drawVector, commit, pin, unpin, vacuum, reopen}
-use Rattle.plain_record.specs.Plain.{Record, atStart, turn}
+use Rattle.plain_record.specs.Calls.{Call, drawRowset, drawVector, commit, pin, unpin, vacuum, reopen, kindOf}
+use Rattle.plain_record.specs.Plain.{Record, atStart}
 use Rattle.plain_record.specs.Plain.{start as plain-start}
-use Rattle.plain_record.specs.Run.{World, world, Event, isAccepted, port, LinkBy, Link, Starts}
-use Rattle.plain_record.specs.Claim.{pinsIn, waitingIn, AnswerBy, Claim}
+use Rattle.plain_record.specs.Run.{World, world, Event, value, port, LinkBy, Starts}
+use Rattle.plain_record.specs.Claim.{pinsIn, waitingIn, Claim}
 use Rattle.plain_record.proofs.Invariant.{plainTable, Torn, Inv, Kept}
 use Rattle.plain_record.proofs.CommitShows.{shows-now}
 use Rattle.plain_record.proofs.Draw.{draw-rowset-kept, draw-vector-kept}
@@ -59,32 +57,25 @@ start-inv o f =
 starts : (w : World) → Starts port w → Inv w atStart
 starts w s = subst (λ (x : World). Inv x atStart) (sym (s .fresh)) (start-inv (s .opened) (s .says))
 
--- One turn, by its kind of call.
+-- One turn, by its call.
 
-turn-inv : (c : Call) (w : World) (r : Record) (t : Told) (l : List (List ℕ)) (v : World) → Inv w r → LinkBy port w t l v c → Inv v (turn c (isAccepted t) r)
-turn-inv drawRowset w r t l v i d = draw-rowset-kept w r t l v i d
-turn-inv drawVector w r t l v i d = draw-vector-kept w r t l v i d
-turn-inv (commit os out missing) w r t l v i d = commit-keeps w t l v os out missing r i d
-turn-inv pin w r t l v i d = pin-kept w r t l v i d
-turn-inv (unpin e) w r t l v i d = unpin-kept w r t l v e i d
-turn-inv (vacuum ts rs) w r t l v i d = vacuum-kept w r t l v ts rs i d
-turn-inv (reopen out stale) w r t l v i d = reopen-keeps w t l v out stale r i d
-
-turn-answer : (e : Event) (r : Record) (c : Call) → Inv (e .before) r → LinkBy port (e .before) (e .told) (e .listed) (e .after) c → AnswerBy r e c
-turn-answer e r drawRowset i d = tt
-turn-answer e r drawVector i d = tt
-turn-answer e r (commit os out missing) i d = tt
-turn-answer e r pin i d = pin-answers (e .before) r (e .told) (e .listed) (e .after) i d
-turn-answer e r (unpin d) i k = tt
-turn-answer e r (vacuum ts rs) i d = vacuum-lists (e .before) r (e .told) (e .listed) (e .after) ts rs i d
-turn-answer e r (reopen out stale) i d = reopen-accepted (e .before) (e .told) (e .listed) (e .after) out stale r i d
-
-turns : (e : Event) (r : Record) → Inv (e .before) r → Link port e → Kept r e
-turns e r i d =
+turned : (c : Call) (e : Event) (r : Record) → Inv (e .before) r → LinkBy port (e .before) (e .told) (e .listed) (e .after) c → Kept r e (kindOf c)
+turned drawRowset e r i d = record { inv = draw-rowset-kept (value 0 (e .told)) (e .before) r (e .told) (e .listed) (e .after) i d; answer = tt }
+turned drawVector e r i d = record { inv = draw-vector-kept (value 0 (e .told)) (e .before) r (e .told) (e .listed) (e .after) i d; answer = tt }
+turned (commit os out missing) e r i d = record { inv = commit-keeps (e .before) (e .told) (e .listed) (e .after) os out missing r i d; answer = tt }
+turned pin e r i d =
+    record { inv = pin-kept (e .before) r (e .told) (e .listed) (e .after) i d (value 0 (e .told)); answer = pin-answers (e .before) r (e .told) (e .listed) (e .after) i d }
+turned (unpin n) e r i d = record { inv = unpin-kept (e .before) r (e .told) (e .listed) (e .after) n i d (value 0 (e .told)); answer = tt }
+turned (vacuum ts rs) e r i d =
     record {
-      inv = turn-inv (e .call) (e .before) r (e .told) (e .listed) (e .after) i d;
-      answer = turn-answer e r (e .call) i d;
+      inv = vacuum-kept (e .before) r (e .told) (e .listed) (e .after) ts rs i d (value 0 (e .told));
+      answer = vacuum-lists (e .before) r (e .told) (e .listed) (e .after) ts rs i d;
+    }
+turned (reopen out stale) e r i d =
+    record {
+      inv = reopen-keeps (e .before) (e .told) (e .listed) (e .after) out stale r i d (value 0 (e .told));
+      answer = reopen-accepted (e .before) (e .told) (e .listed) (e .after) out stale r i d;
     }
 
 pub theorem : Claim port
-theorem = claimed turns starts
+theorem = claimed (λ e r. turned (e .call) e r) starts

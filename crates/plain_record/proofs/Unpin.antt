@@ -1,6 +1,6 @@
 -- Unpin keeps the invariant. Assumes nothing.
-use mathlib.Core.Path.{_≡_, refl, sym, ap, subst, _∙_}
-use mathlib.Core.Bool.{true, cond}
+use mathlib.Core.Path.{_≡_, refl, ap, subst, _∙_}
+use mathlib.Core.Bool.{true}
 use mathlib.Core.List.{List, [], _∷_, map}
 use Prim.Native.Nat.{ℕ, _+_, _≤_}
 use borrow.Author.Tests.{not-false}
@@ -15,12 +15,12 @@ use Rattle.version_manager.specs.Managers.{heldBy}
 use Rattle.pinning.specs.Counts.{leftOn, withoutPin}
 use Rattle.pinning.specs.Says.{BookAfter, unpinRules, unpinVerdict, isDue, flag, readyOf}
 use Rattle.pinning.proofs.Laws.{pin-laws}
-use Rattle.plain_record.specs.Calls.{unpin}
+use Rattle.plain_record.specs.Calls.{asUnpin}
 use Rattle.plain_record.specs.Plain.{oneLess, withPins, Record, turn}
-use Rattle.plain_record.specs.Run.{World, world, isAccepted, port, DidUnpin}
+use Rattle.plain_record.specs.Run.{World, isAccepted, port, DidUnpin}
 use Rattle.plain_record.specs.Claim.{pinsIn}
 use Rattle.plain_record.proofs.Invariant.{Inv}
-use Rattle.plain_record.proofs.Stands.{Stands, stands-of, accepted-stands, refused-stands, by-verdict}
+use Rattle.plain_record.proofs.Stands.{Stands, stands-of, accepted-stands, onward-kept}
 use Rattle.plain_record.proofs.Counts.{without-pin, bound-recounted}
 use Rattle.plain_record.proofs.Pin.{stands-pins}
 
@@ -45,11 +45,12 @@ module _ (w : World) (r : Record) (t : Told) (l : List (List ℕ)) (v : World) (
   is-pinned : unpinVerdict (w .manager) e (w .book) ≡ Accepted → pinned e pinsHeld ≡ true
   is-pinned a = not-false (pinned e pinsHeld) (none-judged (unpinRules (w .manager) e (w .book)) a .1 .1 .0)
 
-  pub unpin-kept : Inv v (turn (unpin e) (isAccepted t) r)
-  unpin-kept =
-      subst (λ (u : World). Inv u (turn (unpin e) (isAccepted t) r)) (sym (d .after))
-      (by-verdict (λ a. Inv (world (w .manager) (d .book) (w .file) (cond a (w .file) (w .torn))) (turn (unpin e) a r))
-      (unpinVerdict (w .manager) e (w .book)) (flag (isDue (w .manager) e (w .book)) ∷ readyOf (d .answer) ∷ []) t (d .told ∙ d .says .answer)
-      (λ a. accepted-stands (w .manager) (d .book) (w .file) (heldBy (w .manager)) (withPins (oneLess e (r .whole .pinned)) (r .whole)) (r .place + 1) (i .sound) refl
-      (stands-unpinned (is-pinned a) (subst (λ (x : Verdict). BookAfter x (w .book) (withoutPin e pinsHeld) (d .book)) a (d .says .book))))
-      (λ k a. refused-stands w r (w .manager) (d .book) refl (subst (λ (x : Verdict). BookAfter x (w .book) (withoutPin e pinsHeld) (d .book)) a (d .says .book)) i))
+  abbrev After : Verdict → Type 0
+  After x = BookAfter x (w .book) (withoutPin e pinsHeld) (d .book)
+
+  pub unpin-kept : (id : ℕ) → Inv v (turn (asUnpin e) (isAccepted t) id r)
+  unpin-kept id =
+      let p = withPins (oneLess e (r .whole .pinned)) (r .whole) in
+      onward-kept (asUnpin e) id w r (w .manager) (d .book) (unpinVerdict (w .manager) e (w .book)) (flag (isDue (w .manager) e (w .book)) ∷ readyOf (d .answer) ∷ []) t v i (d .after) (d .told ∙ d .says .answer)
+      (λ a. accepted-stands (w .manager) (d .book) (w .file) (heldBy (w .manager)) p (r .place + 1) (i .sound) refl (stands-unpinned (is-pinned a) (subst After a (d .says .book))))
+      (λ k a. (refl, subst After a (d .says .book)))

@@ -1,6 +1,6 @@
 -- A vacuum beside the record: what it lists, what still waits after it, and the files. Assumes nothing.
 use mathlib.Core.Path.{_≡_, refl, sym, ap, subst, _∙_}
-use mathlib.Core.Bool.{Bool, true, false, cond, not, _&&_}
+use mathlib.Core.Bool.{Bool, true, false, not, _&&_}
 use mathlib.Core.List.{List, [], _∷_, map}
 use Prim.Native.Nat.{ℕ, zero, suc, _+_, _≤_}
 use native.Mathlib.Omega.{arith}
@@ -30,13 +30,13 @@ use Rattle.vacuum.proofs.Laws.{pairs-after, vectors-after, vacuum-sound}
 use Rattle.version_manager.specs.Managers.{heldBy, HandsBack}
 use Rattle.version_manager.specs.Vacuum.{vacuumVerdict}
 use Rattle.recovery.specs.Sets.{setsOf}
-use Rattle.plain_record.specs.Calls.{vacuum}
+use Rattle.plain_record.specs.Calls.{asVacuum}
 use Rattle.plain_record.specs.Plain.{Pins, Waiting, byEpochAndPair, Plain, blocked, listed, swept, Record, turn}
-use Rattle.plain_record.specs.Run.{port, World, world, isAccepted, value, paired, pairsIn, listedIf, DidVacuum}
+use Rattle.plain_record.specs.Run.{port, World, isAccepted, value, paired, pairsIn, listedIf, DidVacuum}
 use Rattle.plain_record.specs.Claim.{pinsIn, waitingIn, waitingOf, pairsOf}
 use Rattle.plain_record.proofs.Invariant.{Inv}
 use Rattle.plain_record.proofs.Refused.{refused-number}
-use Rattle.plain_record.proofs.Stands.{Stands, accepted-stands, refused-stands, by-verdict}
+use Rattle.plain_record.proofs.Stands.{Stands, accepted-stands, onward-kept}
 use Rattle.plain_record.proofs.CommitIds.{next-rise}
 
 -- the entries that pass a test stay in order
@@ -202,15 +202,13 @@ module _ (w : World) (r : Record) (t : Told) (l : List (List ℕ)) (v : World) (
   tells : t ≡ told verdict (length (listOf (heldBy (w .manager)) (w .book)) ∷ [])
   tells = d .told ∙ d .says .answer
 
-  pub vacuum-kept : Inv v (turn (vacuum ts rs) (isAccepted t) r)
-  vacuum-kept =
-      subst (λ (u : World). Inv u (turn (vacuum ts rs) (isAccepted t) r)) (sym (d .after))
-      (by-verdict (λ a. Inv (world (d .result .manager) (w .book) (w .file) (cond a (w .file) (w .torn))) (turn (vacuum ts rs) a r))
-      verdict (length (listOf (heldBy (w .manager)) (w .book)) ∷ []) t tells
+  pub vacuum-kept : (id : ℕ) → Inv v (turn asVacuum (isAccepted t) id r)
+  vacuum-kept id =
+      onward-kept asVacuum id w r (d .result .manager) (w .book) verdict (length (listOf (heldBy (w .manager)) (w .book)) ∷ []) t v i (d .after) tells
       (λ a. let h = subst Handed a (d .says .manager) in
       accepted-stands (d .result .manager) (w .book) (w .file) swept-state (swept (r .whole)) (r .place + 1)
       (vacuum-sound inner (d .result .manager .inner) to (bound-le (inner .epoch) (pinsOf (w .book))) (i .sound) h) (h .state) stands-swept)
-      (λ k a. refused-stands w r (d .result .manager) (w .book) (subst Handed a (d .says .manager)) refl i))
+      (λ k a. (subst Handed a (d .says .manager), refl))
 
   abbrev list : List Entry
   list = listOf (heldBy (w .manager)) (w .book)

@@ -1,8 +1,10 @@
--- The calls of a list, each with its arguments and what the disk does after it. Assumes nothing.
+-- The calls of a list, each with its arguments and what the disk does after it, and what each is to the record. Assumes nothing.
 use mathlib.Core.Bool.{Bool}
 use mathlib.Core.List.{List}
 use Prim.Native.Nat.{ℕ}
+use lib.ListN.{length}
 use Rattle.manifest.specs.Operations.{Operation}
+use Rattle.plain_record.specs.Sets.{Sets}
 
 -- Show and the other calls that only read are in no list: they settle nothing.
 pub data Call : Type 0 where
@@ -16,3 +18,25 @@ pub data Call : Type 0 where
   vacuum : List ℕ → List ℕ → Call
   -- the lent buffer, and whether the old manifest still stands where the next accepted call is again a reopen
   reopen : List ℕ → Bool → Call
+
+-- what a call is to the record
+pub data Kind : Type 0 where
+  -- it changes nothing there
+  quiet : Kind
+  -- it counts as a commit: its operations, made from the id that it answers and the last sets, and how many of the append's last bytes are missing
+  asCommit : (ℕ → Sets → List Operation) → ℕ → Kind
+  asPin : Kind
+  -- the epoch
+  asUnpin : ℕ → Kind
+  asVacuum : Kind
+  -- how many bytes are lent
+  asReopen : ℕ → Kind
+
+abbrev pub kindOf : Call → Kind
+kindOf drawRowset = quiet
+kindOf drawVector = quiet
+kindOf (commit os out missing) = asCommit (λ id s. os) missing
+kindOf pin = asPin
+kindOf (unpin e) = asUnpin e
+kindOf (vacuum ts rs) = asVacuum
+kindOf (reopen out stale) = asReopen (length out)

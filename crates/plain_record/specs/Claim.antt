@@ -12,7 +12,7 @@ use Rattle.version_state.specs.State.{State}
 use Rattle.pins.specs.Book.{PinEntry, pinsOf, mayShow}
 use Rattle.version_manager.specs.Managers.{heldBy}
 use Rattle.rewrite.specs.Rewritten.{longestRewritten}
-use Rattle.plain_record.specs.Calls.{Call, drawRowset, drawVector, commit, pin, unpin, vacuum, reopen}
+use Rattle.plain_record.specs.Calls.{Kind, quiet, asCommit, asPin, asUnpin, asVacuum, asReopen, kindOf}
 use Rattle.plain_record.specs.Plain.{Pins, pins, Waiting, Id, tableId, rowsetId, vectorId, Plain, epochOf, setsAt, deletions, blocked, listed, Record, atStart, turn}
 use Rattle.plain_record.specs.Run.{Steps, World, Event, isAccepted, value, Chain, lastOf, Starts}
 use Rattle.plain_record.specs.Shows.{ShowsTables, ShowsPairs, ShowsVectors}
@@ -56,24 +56,24 @@ pub record Agrees (S : Steps) (w : World) (p : Plain) : Type 0 where
   pub next : allOf (belowNext (heldBy (w .manager))) (p .added) ≡ true
 
 -- each answer, where the record was r before the call
-abbrev pub AnswerBy : Record → Event → Call → Type 0
-AnswerBy r e drawRowset = Unit {0}
-AnswerBy r e drawVector = Unit {0}
-AnswerBy r e (commit os out missing) = Unit {0}
+abbrev pub AnswerBy : Record → Event → Kind → Type 0
+AnswerBy r e quiet = Unit {0}
+AnswerBy r e (asCommit made missing) = Unit {0}
 -- an accepted pin answers the current epoch
-AnswerBy r e pin = isAccepted (e .told) ≡ true → value 0 (e .told) ≡ epochOf (r .whole)
-AnswerBy r e (unpin d) = Unit {0}
+AnswerBy r e asPin = isAccepted (e .told) ≡ true → value 0 (e .told) ≡ epochOf (r .whole)
+AnswerBy r e (asUnpin d) = Unit {0}
 -- an accepted vacuum lists what the record lists, in its order, and answers how many these are
-AnswerBy r e (vacuum ts rs) = isAccepted (e .told) ≡ true → (e .listed ≡ pairsOf (listed (r .whole))) × (value 0 (e .told) ≡ length (e .listed))
+AnswerBy r e asVacuum = isAccepted (e .told) ≡ true → (e .listed ≡ pairsOf (listed (r .whole))) × (value 0 (e .told) ≡ length (e .listed))
 -- a reopen that is lent enough is never refused
-AnswerBy r e (reopen out stale) = longestRewritten ≤ length out → isAccepted (e .told) ≡ true
+AnswerBy r e (asReopen lent) = longestRewritten ≤ lent → isAccepted (e .told) ≡ true
 
+-- the id that a create answers is its answer's first value; no other call's operations look at it
 abbrev pub nextRecord : Record → Event → Record
-nextRecord r e = turn (e .call) (isAccepted (e .told)) r
+nextRecord r e = turn (kindOf (e .call)) (isAccepted (e .told)) (value 0 (e .told)) r
 
 abbrev pub Answers : Record → List Event → Type 0
 Answers r [] = Unit {0}
-Answers r (e ∷ es) = AnswerBy r e (e .call) × Answers (nextRecord r e) es
+Answers r (e ∷ es) = AnswerBy r e (kindOf (e .call)) × Answers (nextRecord r e) es
 
 abbrev pub recordOf : Record → List Event → Record
 recordOf r [] = r
@@ -81,27 +81,25 @@ recordOf r (e ∷ es) = recordOf (nextRecord r e) es
 
 -- Which vacuum lists a deletion.
 
-abbrev pub isVacuum : Call → Bool
-isVacuum drawRowset = false
-isVacuum drawVector = false
-isVacuum (commit os out missing) = false
-isVacuum pin = false
-isVacuum (unpin e) = false
-isVacuum (vacuum ts rs) = true
-isVacuum (reopen out stale) = false
+abbrev pub isVacuum : Kind → Bool
+isVacuum quiet = false
+isVacuum (asCommit made missing) = false
+isVacuum asPin = false
+isVacuum (asUnpin e) = false
+isVacuum asVacuum = true
+isVacuum (asReopen lent) = false
 
-abbrev pub isReopen : Call → Bool
-isReopen drawRowset = false
-isReopen drawVector = false
-isReopen (commit os out missing) = false
-isReopen pin = false
-isReopen (unpin e) = false
-isReopen (vacuum ts rs) = false
-isReopen (reopen out stale) = true
+abbrev pub isReopen : Kind → Bool
+isReopen quiet = false
+isReopen (asCommit made missing) = false
+isReopen asPin = false
+isReopen (asUnpin e) = false
+isReopen asVacuum = false
+isReopen (asReopen lent) = true
 
 -- an accepted vacuum, and one that meets no pin on an epoch before w's
 abbrev pub vacuums : Event → Bool
-vacuums e = isVacuum (e .call) && isAccepted (e .told)
+vacuums e = isVacuum (kindOf (e .call)) && isAccepted (e .told)
 
 abbrev pub frees : Waiting → Event → Bool
 frees w e = vacuums e && not (blocked (map pinsIn (pinsOf (e .before .book))) (w .epoch))
@@ -139,17 +137,16 @@ ListedFirst w r (e ∷ es) =
 
 -- no accepted reopen
 abbrev pub neverReopened : List Event → Bool
-neverReopened es = not (anyOf (λ (e : Event). isReopen (e .call) && isAccepted (e .told)) es)
+neverReopened es = not (anyOf (λ (e : Event). isReopen (kindOf (e .call)) && isAccepted (e .told)) es)
 
--- the deletions of an accepted commit
-abbrev pub deletionsBy : Record → Call → List Waiting
-deletionsBy r drawRowset = []
-deletionsBy r drawVector = []
-deletionsBy r (commit os out missing) = deletions (r .place) (epochOf (r .whole) + 1) 0 os
-deletionsBy r pin = []
-deletionsBy r (unpin e) = []
-deletionsBy r (vacuum ts rs) = []
-deletionsBy r (reopen out stale) = []
+-- the deletions of an accepted call that answers id
+abbrev pub deletionsBy : Record → ℕ → Kind → List Waiting
+deletionsBy r id quiet = []
+deletionsBy r id (asCommit made missing) = deletions (r .place) (epochOf (r .whole) + 1) 0 (made id (r .whole .now))
+deletionsBy r id asPin = []
+deletionsBy r id (asUnpin e) = []
+deletionsBy r id asVacuum = []
+deletionsBy r id (asReopen lent) = []
 
 abbrev pub EachListed : List Waiting → Record → List Event → Type 0
 EachListed [] r es = Unit {0}
@@ -159,7 +156,7 @@ EachListed (w ∷ ws) r es = ListedFirst w r es × EachListed ws r es
 abbrev pub Deletions : Record → List Event → Type 0
 Deletions r [] = Unit {0}
 Deletions r (e ∷ es) =
-    (isAccepted (e .told) ≡ true → neverReopened es ≡ true → EachListed (deletionsBy r (e .call)) (nextRecord r e) es) × Deletions (nextRecord r e) es
+    (isAccepted (e .told) ≡ true → neverReopened es ≡ true → EachListed (deletionsBy r (value 0 (e .told)) (kindOf (e .call))) (nextRecord r e) es) × Deletions (nextRecord r e) es
 
 -- after every list of calls
 pub record Holds (S : Steps) (w : World) (es : List Event) : Type 0 where

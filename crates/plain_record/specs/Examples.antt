@@ -9,13 +9,13 @@ use Rattle.manifest.specs.Operations.{addRowset, deleteRowset, createTable, ope
 use Rattle.manifest.specs.Lines.{lineOf}
 use Rattle.manifest.specs.Split.{lines}
 use Rattle.plain_record.specs.Sets.{none, itself, table, sets}
-use Rattle.plain_record.specs.Calls.{Call, commit, pin, reopen}
+use Rattle.plain_record.specs.Calls.{Call, commit, pin, reopen, kindOf}
 use Rattle.plain_record.specs.Plain.{pins, waitingAs, byEpochAndPair, plain, tableId, rowsetId, listed, Record, atStart, turn}
 
--- the record after accepted calls
+-- the record after accepted calls, none of them a create
 abbrev pub recordAfter : List Call → Record → Record
 recordAfter [] r = r
-recordAfter (c ∷ cs) r = recordAfter cs (turn c true r)
+recordAfter (c ∷ cs) r = recordAfter cs (turn (kindOf c) true 0 r)
 
 -- the pair (0, 0), and a name
 abbrev pub pair : List ℕ

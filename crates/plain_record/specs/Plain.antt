@@ -1,4 +1,4 @@
--- Document 01's plain record. It is fed the calls' arguments, whether each was accepted, and how far an append landed. Assumes nothing.
+-- Document 01's plain record. It is fed the calls' arguments, whether each was accepted, the id that a create answers, and how far an append landed. Assumes nothing.
 use mathlib.Core.Bool.{Bool, true, false, cond, not}
 use mathlib.Core.List.{List, [], _∷_, _++_}
 use Prim.Native.Nat.{ℕ, _+_, _-_}
@@ -7,7 +7,7 @@ use lib.ListN.{length, getD}
 use Rattle.lists.specs.Keyed.{keep, anyOf, placed}
 use Rattle.manifest.specs.Operations.{Operation, createTable, dropTable, addRowset, deleteRowset, addVector, deleteVector, nextIds}
 use Rattle.plain_record.specs.Sets.{Sets, none, applyAll}
-use Rattle.plain_record.specs.Calls.{Call, drawRowset, drawVector, commit, pin, unpin, vacuum, reopen}
+use Rattle.plain_record.specs.Calls.{Kind, quiet, asCommit, asPin, asUnpin, asVacuum, asReopen}
 
 -- the pins of an epoch
 pub record Pins : Type 0 where
@@ -136,17 +136,20 @@ abbrev pub landed : Plain → Record → Record
 landed p r = recorded p p (r .place + 1)
 
 -- a commit whose last bytes are missing does not count where the next accepted call is a reopen
-abbrev pub accepts : Call → Record → Record
-accepts drawRowset r = landed (r .whole) r
-accepts drawVector r = landed (r .whole) r
-accepts (commit os out missing) r =
+abbrev pub counts : List Operation → ℕ → Record → Record
+counts os missing r =
     recorded (counted (r .place) os (r .whole)) (cond (eqb missing 0) (counted (r .place) os (r .whole)) (r .whole)) (r .place + 1)
-accepts pin r = landed (withPins (onePin (epochOf (r .whole)) (r .whole .pinned)) (r .whole)) r
-accepts (unpin e) r = landed (withPins (oneLess e (r .whole .pinned)) (r .whole)) r
-accepts (vacuum ts rs) r = landed (swept (r .whole)) r
-accepts (reopen out stale) r = landed (kept (r .torn)) r
+
+-- an accepted call, by its kind and the id that it answers
+abbrev pub accepts : Kind → ℕ → Record → Record
+accepts quiet id r = landed (r .whole) r
+accepts (asCommit made missing) id r = counts (made id (r .whole .now)) missing r
+accepts asPin id r = landed (withPins (onePin (epochOf (r .whole)) (r .whole .pinned)) (r .whole)) r
+accepts (asUnpin e) id r = landed (withPins (oneLess e (r .whole .pinned)) (r .whole)) r
+accepts asVacuum id r = landed (swept (r .whole)) r
+accepts (asReopen lent) id r = landed (kept (r .torn)) r
 
 -- a refused call changes nothing
-abbrev pub turn : Call → Bool → Record → Record
-turn c true r = accepts c r
-turn c false r = recorded (r .whole) (r .torn) (r .place + 1)
+abbrev pub turn : Kind → Bool → ℕ → Record → Record
+turn k true id r = accepts k id r
+turn k false id r = recorded (r .whole) (r .torn) (r .place + 1)

@@ -93,10 +93,13 @@ abbrev pub afterCommit : VersionManager → Told → List ℕ → ℕ → World 
 afterCommit m t out missing w =
     world m (w .book) (cond (isAccepted t) (w .file ++ take (value 1 t) out) (w .file)) (cond (isAccepted t) (w .file ++ take (value 1 t - missing) out) (w .torn))
 
--- the rewritten manifest replaces the old one whole, or the old one still stands; a refused reopen hands nothing on
+-- a rewritten manifest replaces the old one whole; only where the next accepted call is a reopen may the old one still stand
+abbrev pub replaced : VersionManager → PinBook → List ℕ → List ℕ → Bool → World
+replaced m b old new stale = world m b new (cond stale old new)
+
+-- a reopen replaces the manifest that it read; a refused one hands nothing on
 abbrev pub afterReopen : VersionManager → PinBook → Told → List ℕ → Bool → World → World
-afterReopen m b t out stale w =
-    cond (isAccepted t) (world m b (take (value 0 t) out) (cond stale (w .torn) (take (value 0 t) out))) w
+afterReopen m b t out stale w = cond (isAccepted t) (replaced m b (w .torn) (take (value 0 t) out) stale) w
 
 -- the pairs that two slices hold, and the first n of them
 abbrev pub paired : List ℕ → List ℕ → List (List ℕ)

@@ -21,8 +21,9 @@ use Rattle.version_state.specs.State.{State, withTables, withPairs, withVectors
 use Rattle.pins.specs.declared.PinBook.{PinBook}
 use Rattle.pins.specs.Book.{PinEntry, pinsOf, bound, Keeps}
 use Rattle.operations.specs.Effect.{applied}
+use Rattle.operations.specs.Steps.{stepOf}
 use Rattle.commit.specs.Commit.{appendOf, firstRules, finishOf, commitOf}
-use Rattle.vacuum.specs.LetGo.{vacuumList, staysBy}
+use Rattle.vacuum.specs.LetGo.{vacuumList, staysBy, vacuumed}
 use Rattle.vacuum.specs.Says.{boundOf, listOf}
 use Rattle.show.specs.declared.ShowAnswer.{ShowAnswer}
 use Rattle.show.specs.Says.{TablesShown}
@@ -168,6 +169,25 @@ CommitEndsEarly (refused k) m os out r out′ = CommitEnds (refused k) m os out 
 abbrev pub appendsNoEnd : Steps
 appendsNoEnd = committing (λ m n os out r out′. CommitEndsEarly (outcomeOf m n os (length out)) m os out r out′)
 
+-- a refused commit leaves what its operations did before the one that was refused
+abbrev pub reachedBy : Result State → State → (State → State) → State
+reachedBy (given u) s go = go u
+reachedBy (refused k) s go = s
+
+abbrev pub reached : ℕ → ℕ → List Operation → State → State
+reached i e [] s = s
+reached i e (o ∷ os) s = reachedBy (stepOf i e o s) s (λ u. reached (i + 1) e os u)
+
+abbrev pub CommitLeaves : Result State → VersionManager → List Operation → List ℕ → Committed → List ℕ → Type 0
+CommitLeaves (given s) m os out r out′ = CommitEnds (given s) m os out r out′
+CommitLeaves (refused k) m os out r out′ =
+    (commitTold (r .answer) ≡ told (Refused k) [])
+    × Manages (r .manager) (reached 0 (current m + 1) os (heldBy m))
+    × (out′ ≡ out)
+
+abbrev pub leavesPart : Steps
+leavesPart = committing (λ m n os out r out′. CommitLeaves (outcomeOf m n os (length out)) m os out r out′)
+
 -- a pin answers the next epoch
 pub record PinsNext (m : VersionManager) (b : PinBook) (a : PinAnswer) (b′ : PinBook) : Type 0 where
   pub answer : pinTold a ≡ told (pinVerdict m b) ((current m + 1) ∷ [])
@@ -183,6 +203,14 @@ pub record PinsNothing (m : VersionManager) (b : PinBook) (a : PinAnswer) (b′ 
 
 abbrev pub countsNoPin : Steps
 countsNoPin = pinning PinsNothing
+
+-- a refused pin is counted
+pub record PinsAnyway (m : VersionManager) (b : PinBook) (a : PinAnswer) (b′ : PinBook) : Type 0 where
+  pub answer : pinTold a ≡ told (pinVerdict m b) (current m ∷ [])
+  pub book : Keeps b′ (withPin (current m) (pinsOf b))
+
+abbrev pub countsRefused : Steps
+countsRefused = pinning PinsAnyway
 
 -- an unpin is answered, and its pin stays
 pub record UnpinsNothing (m : VersionManager) (e : ℕ) (b : PinBook) (a : UnpinAnswer) (b′ : PinBook) : Type 0 where
@@ -246,6 +274,16 @@ losesPairs = vacuuming (VacuumsTo 0 portBound unguarded portBound)
 abbrev pub losesVectors : Steps
 losesVectors = vacuuming (VacuumsTo 0 portBound portBound unguarded)
 
+-- a refused vacuum lists nothing, and lets go
+pub record VacuumsAnyway (m : VersionManager) (b : PinBook) (ts rs : List ℕ) (r : Vacuumed) (ts′ rs′ : List ℕ) : Type 0 where
+  pub answer : vacuumTold (r .answer) ≡ told (vacuumVerdict m b (length ts) (length rs)) (length (listOf (heldBy m) b) ∷ [])
+  pub tables : ts′ ≡ after (vacuumVerdict m b (length ts) (length rs)) (over (field 0 (listOf (heldBy m) b)) ts) ts
+  pub rowsets : rs′ ≡ after (vacuumVerdict m b (length ts) (length rs)) (over (field 1 (listOf (heldBy m) b)) rs) rs
+  pub manager : Manages (r .manager) (vacuumed (boundOf (heldBy m) b) (heldBy m))
+
+abbrev pub letsGoRefused : Steps
+letsGoRefused = vacuuming VacuumsAnyway
+
 -- a reopen finds nothing in any manifest
 abbrev pub opensEmpty : Steps
 opensEmpty = reopening (λ src. ReopenSays [])
@@ -260,6 +298,10 @@ firstFrame src = joined (toEnd (lines src))
 
 abbrev pub readsFirst : Steps
 readsFirst = reopening (λ src. ReopenSays (firstFrame src))
+
+-- a reopen reads no more bytes than it is lent: enough for every manifest that it has written, not for every one that it may find
+abbrev pub readsToRoom : Steps
+readsToRoom = reopening (λ src out. ReopenSays (take (length out) src) out)
 
 -- a reopen counts an `E` before its newline: bytes after the last newline are taken for a line
 abbrev pub closedBy : List ℕ → List ℕ
@@ -316,8 +358,10 @@ pub record WrongRefuted : Type 0 where
   pub judgesNothing : Refuted judgesNothing
   pub forgetsWaiting : Refuted forgetsWaiting
   pub appendsNoEnd : Refuted appendsNoEnd
+  pub leavesPart : Refuted leavesPart
   pub answersNext : Refuted answersNext
   pub countsNoPin : Refuted countsNoPin
+  pub countsRefused : Refuted countsRefused
   pub keepsPin : Refuted keepsPin
   pub listsNothing : Refuted listsNothing
   pub keepsListed : Refuted keepsListed
@@ -326,8 +370,10 @@ pub record WrongRefuted : Type 0 where
   pub ignoresPins : Refuted ignoresPins
   pub losesPairs : Refuted losesPairs
   pub losesVectors : Refuted losesVectors
+  pub letsGoRefused : Refuted letsGoRefused
   pub opensEmpty : Refuted opensEmpty
   pub readsFirst : Refuted readsFirst
+  pub readsToRoom : Refuted readsToRoom
   pub countsEarly : Refuted countsEarly
   pub forgetsIds : Refuted forgetsIds
   pub rewritesNoEnd : Refuted rewritesNoEnd
