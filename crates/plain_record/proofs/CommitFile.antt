@@ -17,9 +17,9 @@ use Rattle.frames.specs.Frames.{frameOf}
 use Rattle.frames.proofs.Texts.{frame-long}
 use Rattle.version_state.specs.declared.VersionManagerInner.{VersionManagerInner}
 use Rattle.version_state.specs.State.{State, stateOf, Hands}
+use Rattle.version_state.specs.Sets as shows
 use Rattle.version_state.specs.Sound.{badInner}
 use Rattle.commit.specs.Commit.{commitOf}
-use Rattle.recovery.specs.Sets as shows
 use Rattle.recovery.specs.Holds as manifest
 use Rattle.recovery.proofs.Appending.{holds-replayed, torn-replayed, whole-appended}
 use Rattle.plain_record.specs.Sets.{applyAll}

@@ -8,6 +8,7 @@ use Rattle.ids.specs.Results.{Result, refused, given, andThen}
 use Rattle.manifest.specs.Operations.{Operation, createTable, dropTable, addRowset, deleteRowset, addVector, deleteVector, nextIds}
 use Rattle.snapshot.specs.Tables.{TableEntry, created, byTable}
 use Rattle.version_state.specs.State.{State, pairsAt, vectorsAt}
+use Rattle.version_state.specs.Sets as shows
 use Rattle.version_state.proofs.Facts.{Ordered}
 use Rattle.operations.specs.Effect.{applied}
 use Rattle.operations.specs.Judge.{opRules}
@@ -15,7 +16,6 @@ use Rattle.operations.specs.Steps.{stepOf, stepsOf}
 use Rattle.operations.proofs.Keeps.{ordered-applied}
 use Rattle.commit.proofs.Stepwise.{halt, step-given}
 use Rattle.replay.proofs.Maps.{map-put, map-without}
-use Rattle.recovery.specs.Sets as shows
 use Rattle.recovery.proofs.Effects as effects
 use Rattle.plain_record.specs.Sets.{Table, Sets, sets, byId, apply, applyAll}
 use Rattle.plain_record.proofs.Invariant.{plainTable}

@@ -13,13 +13,13 @@ use Rattle.manifest.specs.Operations.{Operation, wellFormed}
 use Rattle.frames.specs.Frames.{frameOf}
 use Rattle.version_state.specs.declared.VersionManagerInner.{VersionManagerInner}
 use Rattle.version_state.specs.State.{State, stateOf, withEpoch}
+use Rattle.version_state.specs.Sets.{setsOf}
 use Rattle.version_state.specs.Sound.{badInner}
 use Rattle.version_state.proofs.Within.{within-of}
 use Rattle.version_state.proofs.Facts.{Sound, sound-of}
 use Rattle.commit.specs.Commit.{commitOf}
 use Rattle.commit.proofs.Stepwise.{steps-manifest}
 use Rattle.commit.proofs.Sounds.{Accepts, accepts}
-use Rattle.recovery.specs.Sets.{setsOf}
 use Rattle.recovery.specs.Holds as manifest
 use Rattle.recovery.proofs.Replays.{holds-read}
 use Rattle.recovery.proofs.Besides.{beside-start, beside-steps}

@@ -8,10 +8,10 @@ use Rattle.lists.specs.Keyed.{allOf}
 use Rattle.ids.specs.Results.{given}
 use Rattle.snapshot.specs.Tables.{TableEntry}
 use Rattle.version_state.specs.State.{State, pairsAt, vectorsAt}
+use Rattle.version_state.specs.Sets.{setsOf}
 use Rattle.pins.specs.Book.{pinsOf, badBook, bound}
 use Rattle.version_manager.specs.Managers.{heldBy, badManager}
 use Rattle.replay.specs.Replay.{replayOf}
-use Rattle.recovery.specs.Sets.{setsOf}
 use Rattle.recovery.specs.Holds as manifest
 use Rattle.plain_record.specs.Sets.{Table, table, Sets, sets}
 use Rattle.plain_record.specs.Calls.{Kind}

@@ -5,7 +5,7 @@ use Prim.Native.Nat.{ℕ, _≤_}
 use lib.ListN.{length}
 use Rattle.ids.specs.Limits.{longestManifest}
 use Rattle.version_state.specs.State.{State}
-use Rattle.recovery.specs.Sets as held
+use Rattle.version_state.specs.Sets as held
 use Rattle.recovery.proofs.Appending.{holds-replayed}
 use Rattle.plain_record.specs.Plain.{Plain}
 use Rattle.plain_record.proofs.Invariant.{plainSets, Filed, Torn}

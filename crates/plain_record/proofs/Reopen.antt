@@ -17,16 +17,16 @@ use Rattle.ids.specs.declared.refusal.Verdict.the-variants.{Accepted}
 use Rattle.ids.specs.Results.{given}
 use Rattle.snapshot.specs.Entries.{Entry, byDeletion}
 use Rattle.version_state.specs.State.{State, stateOf, withEpoch, Hands, pairsAt, vectorsAt}
+use Rattle.version_state.specs.Sets.{setsOf}
 use Rattle.pins.specs.declared.PinBook.{PinBook}
 use Rattle.pins.specs.Book.{pinsOf, badBook, bound, Keeps}
 use Rattle.version_manager.specs.declared.VersionManager.{VersionManager}
 use Rattle.rewrite.specs.Rewritten.{rewrittenOf, longestRewritten}
 use Rattle.replay.specs.Replay.{stands, replayOf}
-use Rattle.recovery.specs.Sets.{setsOf}
 use Rattle.recovery.specs.Holds as manifest
 use Rattle.recovery.proofs.SoundReading.{Whole, whole-replayed}
-use Rattle.recovery.proofs.Sound.{replay-sound, replay-room}
-use Rattle.recovery.proofs.Again.{replay-again}
+use Rattle.recovery.proofs.Sound.{replay-sound}
+use Rattle.recovery.proofs.Again.{replay-room, replay-again}
 use Rattle.recovery.proofs.Appending.{holds-replayed}
 use Rattle.plain_record.specs.Sets.{Sets}
 use Rattle.plain_record.specs.Calls.{asReopen}

@@ -3,11 +3,11 @@ use mathlib.Core.Path.{refl, sym, ap, subst, _∙_}
 use mathlib.Core.List.{[], map}
 use native.Mathlib.Omega.{arith}
 use Rattle.version_state.specs.State.{State, start, withEpoch, pairsAt, vectorsAt}
+use Rattle.version_state.specs.Sets.{setsOf}
 use Rattle.version_manager.specs.declared.Opened.{Opened}
 use Rattle.version_manager.specs.Managers.{FreshSays}
 use Rattle.version_manager.proofs.Laws.{draw-laws}
 use Rattle.replay.specs.Replay.{reopened}
-use Rattle.recovery.specs.Sets.{setsOf}
 use Rattle.recovery.proofs.Appending.{empty-holds, holds-replayed}
 use Rattle.plain_record.specs.Sets.{Sets, none}
 use Rattle.plain_record.specs.Calls.{Call, drawRowset, drawVector, commit, pin, unpin, vacuum, reopen, kindOf}

@@ -2,7 +2,7 @@
 use mathlib.Core.Path.{_≡_, refl, sym, ap, subst, _∙_}
 use mathlib.Core.Bool.{Bool, true, false, not, _&&_}
 use mathlib.Core.List.{List, [], _∷_, map}
-use Prim.Native.Nat.{ℕ, zero, suc, _+_, _≤_}
+use Prim.Native.Nat.{ℕ, _+_, _≤_}
 use native.Mathlib.Omega.{arith}
 use lib.Dec.{leb, ltb}
 use lib.ListN.{length, drop, getD, length-map}
@@ -12,7 +12,7 @@ use Rattle.lists.specs.Keyed.{keep, placed, arranged}
 use Rattle.lists.specs.Written.{over}
 use Rattle.lists.proofs.Tests.{by-cases, clash, both}
 use Rattle.lists.proofs.Keyed.{All, all-map, all-any, allOf-all, all-keep, all-placed, keep-same, keep-keep, keep-map, anyOf-map, sorted-arranged, keep-placed, keep-placed-out}
-use Rattle.columns.specs.Rows.{rowsFrom, rows}
+use Rattle.columns.proofs.Rows.{rows-all}
 use Rattle.ids.specs.declared.refusal.Verdict.{Verdict}
 use Rattle.ids.specs.declared.refusal.Verdict.the-variants.{Accepted, Refused}
 use Rattle.ids.specs.Answers.{Told, told, after}
@@ -20,6 +20,7 @@ use Rattle.snapshot.specs.Views.{rowsetsOf}
 use Rattle.snapshot.specs.Entries.{Entry, goneAt, goneBy, waits, byDeletion, belowNext, within, field}
 use Rattle.version_state.specs.declared.VersionManagerInner.{VersionManagerInner}
 use Rattle.version_state.specs.State.{State, stateOf}
+use Rattle.version_state.specs.Sets.{setsOf}
 use Rattle.version_state.proofs.Facts.{sound-of}
 use Rattle.pins.specs.Book.{PinEntry, pinsOf, bound}
 use Rattle.pins.specs.Book as pins
@@ -29,7 +30,6 @@ use Rattle.vacuum.specs.Says.{boundOf, listOf}
 use Rattle.vacuum.proofs.Laws.{pairs-after, vectors-after, vacuum-sound}
 use Rattle.version_manager.specs.Managers.{heldBy, HandsBack}
 use Rattle.version_manager.specs.Vacuum.{vacuumVerdict}
-use Rattle.recovery.specs.Sets.{setsOf}
 use Rattle.plain_record.specs.Calls.{asVacuum}
 use Rattle.plain_record.specs.Plain.{Pins, Waiting, byEpochAndPair, Plain, blocked, listed, swept, Record, turn}
 use Rattle.plain_record.specs.Run.{port, World, isAccepted, value, paired, pairsIn, listedIf, DidVacuum}
@@ -144,15 +144,10 @@ pub pairs-written : (l : List Entry) (ts rs : List ℕ) → All TwoIds l → pai
 pairs-written l ts rs h =
     rw (take-at (field 0 l) (drop (length (field 0 l)) ts) (length l) (length-map l _), take-at (field 1 l) (drop (length (field 1 l)) rs) (length l) (length-map l _)) (paired-fields l h)
 
-rows-all : {A : Type 0} (f : ℕ → A) (P : A → Type 0) → ((i : ℕ) → P (f i)) → (i n : ℕ) → All P (rowsFrom f i n)
-rows-all f P h i zero = tt
-rows-all f P h i (suc n) = (h i, rows-all f P h (suc i) n)
-
 pub two-ids : (m : VersionManagerInner) (b : ℕ) → All TwoIds (vacuumList b (stateOf m))
-unfolding rows
 two-ids m b =
     let l = rowsetsOf (m .rowsets) in
-    all-arranged byDeletion TwoIds (keep (goneBy b) l) (all-keep TwoIds (goneBy b) l (rows-all _ TwoIds (λ i. refl) 0 (m .rowsets .count)))
+    all-arranged byDeletion TwoIds (keep (goneBy b) l) (all-keep TwoIds (goneBy b) l (rows-all _ TwoIds (λ i. refl) (m .rowsets .count)))
 
 module _ (w : World) (r : Record) (t : Told) (l : List (List ℕ)) (v : World) (ts rs : List ℕ) (i : Inv w r) (d : DidVacuum port w t l v ts rs) where
   abbrev inner : VersionManagerInner

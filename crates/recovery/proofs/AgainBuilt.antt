@@ -1,27 +1,32 @@
--- The operations of a rewritten manifest make the state anew. Assumes nothing.
+-- The operations of a rewritten manifest make its next ids and sets anew. Assumes nothing.
 use mathlib.Core.Path.{_≡_, refl, sym, ap, ap₂, subst, _∙_}
-use mathlib.Core.Bool.{Bool, true, false}
+use mathlib.Core.Bool.{true, false, not}
 use mathlib.Core.List.{List, [], _∷_, _++_, map, append-nil, append-assoc}
 use Prim.Native.Nat.{ℕ, _+_, max}
 use native.Mathlib.Omega.{arith}
+use lib.Dec.{ltb}
 use lib.ListN.{getD}
-use Rattle.lists.specs.Order.{less}
+use borrow.Author.Tests.{ltb-true, not-true}
+use Rattle.lists.specs.Order.{less, same}
 use Rattle.lists.specs.Keyed.{has, put}
-use Rattle.lists.proofs.Tests.{by-cases, clash}
-use Rattle.lists.proofs.Order.{less-same}
-use Rattle.lists.proofs.Keyed.{All, all-map, all-any, all-append, none-anyOf, put-last, Ascending, ascend-to}
+use Rattle.lists.proofs.Tests.{by-cases, clash, both}
+use Rattle.lists.proofs.Order.{less-same, same-sym}
+use Rattle.lists.proofs.Keyed.{All, all-map, all-any, all-append, all-mapped, allOf-all, anyOf-none, none-anyOf, put-last, Ascending, ascend-to}
+use Rattle.lists.proofs.Views.{map-append}
+use Rattle.columns.specs.Rows.{plain}
 use Rattle.manifest.specs.Operations.{Operation, nextIds}
 use Rattle.snapshot.specs.Entries.{Entry, addedAt, byIds}
-use Rattle.snapshot.specs.Tables.{TableEntry, created, byTable, nameTaken}
+use Rattle.snapshot.specs.Tables.{TableEntry, byTable, nameTaken}
 use Rattle.version_state.specs.State.{State, start, withTables, withPairs, withVectors, withNext, withEpoch}
+use Rattle.version_state.specs.Sets.{Sets, sets, unlocked, Next}
 use Rattle.operations.specs.Effect.{applied}
-use Rattle.rewrite.specs.Rewritten.{createOf, addOf, addVectorOf}
-use Rattle.replay.specs.Replay.{reopened, conflicts, stands}
+use Rattle.rewrite.specs.Rewritten.{createOf, addOf, addVectorOf, rewriteOf}
+use Rattle.replay.specs.Replay.{reopened, conflicts}
+use Rattle.recovery.specs.Rewritable.{Rewritable, madeOf, namesDiffer, idsBelow}
 use Rattle.recovery.specs.Holds.{appliedAll}
 use Rattle.recovery.proofs.Reading.{conflictFree}
-use Rattle.recovery.proofs.SoundState.{Pairwise, Other, Made, Added, two, three}
-use Rattle.recovery.proofs.SoundReading.{Rests}
-use Rattle.recovery.proofs.Sound.{all-with, standing, plain}
+use Rattle.recovery.proofs.SoundState.{Pairwise, Other, two, three}
+use Rattle.recovery.proofs.SoundSets.{all-with, ids-two, ids-three}
 
 -- operations that nowhere conflict lead from s to t
 abbrev pub Leads : List Operation → State → State → Type 0
@@ -56,87 +61,85 @@ pairwise-both : {A : Type 0} (R S : A → A → Type 0) (l : List A) → Pairwis
 pairwise-both R S [] p q = tt
 pairwise-both R S (x ∷ l) p q = (all-with l (λ y a b. (a, b)) (p .0) (q .0), pairwise-both R S l (p .1) (q .1))
 
--- what a line says of an entry is the entry
-table-same : (x : TableEntry) → x .locked ≡ false → created (x .table) (x .shape) (x .name) ≡ x
-table-same x f = ap (λ (b : Bool). record { table = x .table; shape = x .shape; name = x .name; locked = b }) (sym f)
-
-entry-same : (f : List ℕ → List ℕ) (i n : ℕ) (x : Entry) → Added f i n x → stands x ≡ true → addedAt reopened (f (x .ids)) ≡ x
-entry-same f i n x a h =
-    ap (addedAt reopened) (sym (a .ids))
-    ∙ ap₂ (λ (b d : ℕ). record { ids = x .ids; added = b; deleted = d }) (sym (a .added)) (sym (standing x h))
-
--- the next ids of s, with these lists
-abbrev built : State → List TableEntry → List Entry → List Entry → State
-built s ts ps vs =
-    withVectors (withPairs (withTables (withNext (withEpoch start reopened 0) (s .nextTable) (s .nextRowset) (s .nextVector)) ts) ps) vs
+names-other : (l : List TableEntry) → namesDiffer l ≡ true → Pairwise Other l
+names-other [] h = tt
+names-other (x ∷ l) h =
+    let d = both (not (nameTaken (x .name) l)) (namesDiffer l) h in
+    (all-map l (λ y t. same-sym (x .name) (y .name) ∙ t) (anyOf-none (λ y. same (y .name) (x .name)) l (not-true _ (d .0))), names-other l (d .1))
 
 -- an earlier table, in order and of another name
 abbrev Before : TableEntry → TableEntry → Type 0
 Before y x = (less (byTable y) (byTable x) ≡ true) × Other y x
 
-module _ (s : State) where
-  table-step : (done : List TableEntry) (x : TableEntry) → All (λ y. Before y x) done → Made (s .nextTable) x
-      → (conflicts (createOf x) (built s done [] []) ≡ false) × (applied reopened (createOf x) (built s done [] []) ≡ built s (done ++ (x ∷ [])) [] [])
+-- an entry after the others, j being its ids
+put-added : (done : List (List ℕ)) (k j : List ℕ) → k ≡ j → All (λ i. less i k ≡ true) done
+    → put byIds (addedAt reopened j) (map (addedAt reopened) done) ≡ map (addedAt reopened) (done ++ (k ∷ []))
+put-added done k j e a =
+    ap (λ (i : List ℕ). put byIds (addedAt reopened i) (map (addedAt reopened) done)) (sym e)
+    ∙ put-last byIds (addedAt reopened k) (map (addedAt reopened) done) (all-mapped (λ y. less (byIds y) k ≡ true) (addedAt reopened) done a)
+    ∙ sym (map-append (addedAt reopened) done (k ∷ []))
+
+module _ (n : Next) where
+  abbrev built : List TableEntry → List (List ℕ) → List (List ℕ) → State
+  built ts ps vs = madeOf n (sets ts ps vs)
+
+  table-step : (done : List TableEntry) (x : TableEntry) → All (λ y. Before y x) done → ltb (x .table) (n .table) ≡ true
+      → (conflicts (createOf x) (built done [] []) ≡ false) × (applied reopened (createOf x) (built done [] []) ≡ built (done ++ (x ∷ [])) [] [])
   table-step done x a q =
-      let below = q .below in
-      let n : has byTable (byTable x) done ≡ false = none-anyOf _ done (all-map done (λ y h. less-same (byTable y) (byTable x) (h .0)) a) in
-      let o : nameTaken (x .name) done ≡ false = none-anyOf _ done (all-map done (λ y h. h .1) a) in
-      let e : put byTable (created (x .table) (x .shape) (x .name)) done ≡ done ++ (x ∷ []) =
-      ap (λ (t : TableEntry). put byTable t done) (table-same x (q .free)) ∙ put-last byTable x done (all-map done (λ y h. h .0) a) in
-      let m : max (s .nextTable) (x .table + 1) ≡ s .nextTable = omega arith in
-      (rw (n, o), ap₂ (λ (l : List TableEntry) (k : ℕ). withNext (built s l [] []) k (s .nextRowset) (s .nextVector)) e m)
+      let below = ltb-true (x .table) (n .table) q in
+      let ts = map unlocked done in
+      let i : has byTable (byTable x) ts ≡ false = none-anyOf _ ts (all-mapped (λ y. same (byTable y) (byTable x) ≡ false) unlocked done (all-map done (λ y h. less-same (byTable y) (byTable x) (h .0)) a)) in
+      let o : nameTaken (x .name) ts ≡ false = none-anyOf _ ts (all-mapped (λ y. same (y .name) (x .name) ≡ false) unlocked done (all-map done (λ y h. h .1) a)) in
+      let e : put byTable (unlocked x) ts ≡ map unlocked (done ++ (x ∷ [])) =
+      put-last byTable (unlocked x) ts (all-mapped (λ y. less (byTable y) (byTable x) ≡ true) unlocked done (all-map done (λ y h. h .0) a)) ∙ sym (map-append unlocked done (x ∷ [])) in
+      let m : max (n .table) (x .table + 1) ≡ n .table = omega arith in
+      (rw (i, o), ap₂ (λ (l : List TableEntry) (k : ℕ). withNext (withTables (built [] [] []) l) k (n .rowset) (n .vector)) e m)
 
-  pair-step : (ts : List TableEntry) (done : List Entry) (x : Entry) → All (λ y. less (byIds y) (byIds x) ≡ true) done → Added two 1 (s .nextRowset) x × (stands x ≡ true)
-      → (conflicts (addOf x) (built s ts done []) ≡ false) × (applied reopened (addOf x) (built s ts done []) ≡ built s ts (done ++ (x ∷ [])) [])
-  pair-step ts done x a q =
-      let below = q .0 .below in
-      let e : put byIds (addedAt reopened (two (x .ids))) done ≡ done ++ (x ∷ []) =
-      ap (λ (t : Entry). put byIds t done) (entry-same two 1 (s .nextRowset) x (q .0) (q .1)) ∙ put-last byIds x done a in
-      let m : max (s .nextRowset) (getD (x .ids) 1 0 + 1) ≡ s .nextRowset = omega arith in
-      (refl, ap₂ (λ (l : List Entry) (k : ℕ). withNext (built s ts l []) (s .nextTable) k (s .nextVector)) e m)
+  pair-step : (ts : List TableEntry) (done : List (List ℕ)) (k : List ℕ) → All (λ j. less j k ≡ true) done → idsBelow (n .table ∷ n .rowset ∷ []) k ≡ true
+      → (conflicts (addOf k) (built ts done []) ≡ false) × (applied reopened (addOf k) (built ts done []) ≡ built ts (done ++ (k ∷ [])) [])
+  pair-step ts done k a q =
+      let i = ids-two (n .table) (n .rowset) k q in
+      let below = i .2 in
+      let m : max (n .rowset) (getD k 1 0 + 1) ≡ n .rowset = omega arith in
+      (refl, ap₂ (λ (l : List Entry) (r : ℕ). withNext (withPairs (built ts [] []) l) (n .table) r (n .vector)) (put-added done k (two k) (i .0) a) m)
 
-  vector-step : (ts : List TableEntry) (ps done : List Entry) (x : Entry) → All (λ y. less (byIds y) (byIds x) ≡ true) done → Added three 2 (s .nextVector) x × (stands x ≡ true)
-      → (conflicts (addVectorOf x) (built s ts ps done) ≡ false) × (applied reopened (addVectorOf x) (built s ts ps done) ≡ built s ts ps (done ++ (x ∷ [])))
-  vector-step ts ps done x a q =
-      let below = q .0 .below in
-      let e : put byIds (addedAt reopened (three (x .ids))) done ≡ done ++ (x ∷ []) =
-      ap (λ (t : Entry). put byIds t done) (entry-same three 2 (s .nextVector) x (q .0) (q .1)) ∙ put-last byIds x done a in
-      let m : max (s .nextVector) (getD (x .ids) 2 0 + 1) ≡ s .nextVector = omega arith in
-      (refl, ap₂ (λ (l : List Entry) (k : ℕ). withNext (built s ts ps l) (s .nextTable) (s .nextRowset) k) e m)
+  vector-step : (ts : List TableEntry) (ps done : List (List ℕ)) (k : List ℕ) → All (λ j. less j k ≡ true) done → idsBelow (n .table ∷ n .rowset ∷ n .vector ∷ []) k ≡ true
+      → (conflicts (addVectorOf k) (built ts ps done) ≡ false) × (applied reopened (addVectorOf k) (built ts ps done) ≡ built ts ps (done ++ (k ∷ [])))
+  vector-step ts ps done k a q =
+      let i = ids-three (n .table) (n .rowset) (n .vector) k q in
+      let below = i .3 in
+      let m : max (n .vector) (getD k 2 0 + 1) ≡ n .vector = omega arith in
+      (refl, ap₂ (λ (l : List Entry) (v : ℕ). withNext (withVectors (built ts ps []) l) (n .table) (n .rowset) v) (put-added done k (three k) (i .0) a) m)
 
-  next-step : Leads (nextIds (s .nextTable) (s .nextRowset) (s .nextVector) ∷ []) (withEpoch start reopened 0) (built s [] [] [])
+  next-step : Leads (nextIds (n .table) (n .rowset) (n .vector) ∷ []) (withEpoch start reopened 0) (built [] [] [])
   next-step =
-      let t : max 0 (s .nextTable) ≡ s .nextTable = omega arith in
-      let r : max 0 (s .nextRowset) ≡ s .nextRowset = omega arith in
-      let v : max 0 (s .nextVector) ≡ s .nextVector = omega arith in
+      let t : max 0 (n .table) ≡ n .table = omega arith in
+      let r : max 0 (n .rowset) ≡ n .rowset = omega arith in
+      let v : max 0 (n .vector) ≡ n .vector = omega arith in
       (refl, rw (t, r, v))
 
-  module _ (r : Rests s) where
-    table-leads : Leads (map createOf (s .tables)) (built s [] [] []) (built s (s .tables) [] [])
-    table-leads =
-        leads-all createOf (λ l. built s l [] []) Before (Made (s .nextTable)) table-step (s .tables)
-        (pairwise-both (λ x y. less (byTable x) (byTable y) ≡ true) Other (s .tables) (ascending-pairs byTable (s .tables) (ascend-to byTable (s .tables) (r .kept .ordered .tables))) (r .kept .names)) (r .kept .tables)
+module _ (n : Next) (z : Sets) (r : Rewritable n z) where
+  table-leads : Leads (map createOf (z .tables)) (built n [] [] []) (built n (z .tables) [] [])
+  table-leads =
+      leads-all createOf (λ l. built n l [] []) Before (λ x. ltb (x .table) (n .table) ≡ true) (table-step n) (z .tables)
+      (pairwise-both (λ x y. less (byTable x) (byTable y) ≡ true) Other (z .tables) (ascending-pairs byTable (z .tables) (ascend-to byTable (z .tables) (r .tables))) (names-other (z .tables) (r .names)))
+      (allOf-all _ (z .tables) (r .tableIds))
 
-    pair-leads : Leads (map addOf (s .pairs)) (built s (s .tables) [] []) (built s (s .tables) (s .pairs) [])
-    pair-leads =
-        leads-all addOf (λ l. built s (s .tables) l []) (λ y x. less (byIds y) (byIds x) ≡ true) (λ x. Added two 1 (s .nextRowset) x × (stands x ≡ true)) (pair-step (s .tables)) (s .pairs)
-        (ascending-pairs byIds (s .pairs) (ascend-to byIds (s .pairs) (r .kept .ordered .pairs))) (all-with (s .pairs) (λ x a b. (a, b)) (r .kept .pairs) (r .pairs))
+  pair-leads : Leads (map addOf (z .pairs)) (built n (z .tables) [] []) (built n (z .tables) (z .pairs) [])
+  pair-leads =
+      leads-all addOf (λ l. built n (z .tables) l []) (λ j k. less j k ≡ true) (λ k. idsBelow (n .table ∷ n .rowset ∷ []) k ≡ true) (pair-step n (z .tables)) (z .pairs)
+      (ascending-pairs plain (z .pairs) (ascend-to plain (z .pairs) (r .pairs))) (allOf-all _ (z .pairs) (r .pairIds))
 
-    vector-leads : Leads (map addVectorOf (s .vectors)) (built s (s .tables) (s .pairs) []) (built s (s .tables) (s .pairs) (s .vectors))
-    vector-leads =
-        leads-all addVectorOf (λ l. built s (s .tables) (s .pairs) l) (λ y x. less (byIds y) (byIds x) ≡ true) (λ x. Added three 2 (s .nextVector) x × (stands x ≡ true)) (vector-step (s .tables) (s .pairs)) (s .vectors)
-        (ascending-pairs byIds (s .vectors) (ascend-to byIds (s .vectors) (r .kept .ordered .vectors))) (all-with (s .vectors) (λ x a b. (a, b)) (r .kept .vectors) (r .vectors))
+  vector-leads : Leads (map addVectorOf (z .vectors)) (built n (z .tables) (z .pairs) []) (madeOf n z)
+  vector-leads =
+      leads-all addVectorOf (λ l. built n (z .tables) (z .pairs) l) (λ j k. less j k ≡ true) (λ k. idsBelow (n .table ∷ n .rowset ∷ n .vector ∷ []) k ≡ true) (vector-step n (z .tables) (z .pairs)) (z .vectors)
+      (ascending-pairs plain (z .vectors) (ascend-to plain (z .vectors) (r .vectors))) (allOf-all _ (z .vectors) (r .vectorIds))
 
-    built-same : built s (s .tables) (s .pairs) (s .vectors) ≡ s
-    built-same = ap₂ (λ (e n : ℕ). withEpoch s e n) (sym (r .kept .epoch)) (sym (r .kept .manifest))
-
-pub plain-leads : (s : State) → Rests s → Leads (plain s) (withEpoch start reopened 0) s
-plain-leads s r =
-    let ts = map createOf (s .tables) in
-    let ps = map addOf (s .pairs) in
-    let vs = map addVectorOf (s .vectors) in
-    let n = nextIds (s .nextTable) (s .nextRowset) (s .nextVector) in
-    let a = leads-append ts ps (built s [] [] []) (built s (s .tables) [] []) (built s (s .tables) (s .pairs) []) (table-leads s r) (pair-leads s r) in
-    let b = leads-append (ts ++ ps) vs (built s [] [] []) (built s (s .tables) (s .pairs) []) (built s (s .tables) (s .pairs) (s .vectors)) a (vector-leads s r) in
-    let c = leads-append (n ∷ []) ((ts ++ ps) ++ vs) (withEpoch start reopened 0) (built s [] [] []) (built s (s .tables) (s .pairs) (s .vectors)) (next-step s) b in
-    (c .0, c .1 ∙ built-same s r)
+  pub rewrite-leads : Leads (rewriteOf n z) (withEpoch start reopened 0) (madeOf n z)
+  rewrite-leads =
+      let ts = map createOf (z .tables) in
+      let ps = map addOf (z .pairs) in
+      let vs = map addVectorOf (z .vectors) in
+      let a = leads-append ts ps (built n [] [] []) (built n (z .tables) [] []) (built n (z .tables) (z .pairs) []) table-leads pair-leads in
+      let b = leads-append (ts ++ ps) vs (built n [] [] []) (built n (z .tables) (z .pairs) []) (madeOf n z) a vector-leads in
+      leads-append (nextIds (n .table) (n .rowset) (n .vector) ∷ []) ((ts ++ ps) ++ vs) (withEpoch start reopened 0) (built n [] [] []) (madeOf n z) (next-step n) b

@@ -16,19 +16,21 @@ use Rattle.ids.specs.Results.{Result, given, andThen}
 use Rattle.frames.specs.Frames.{frameOf}
 use Rattle.version_state.specs.declared.VersionManagerInner.{VersionManagerInner}
 use Rattle.version_state.specs.State.{State, start, withEpoch, stateOf}
+use Rattle.version_state.specs.Sets.{Sets, setsOf, Next}
 use Rattle.version_state.specs.Sound.{badInner}
 use Rattle.version_state.proofs.Facts.{sound-of}
 use Rattle.commit.specs.Commit.{commitOf}
 use Rattle.commit.proofs.Sounds.{Accepts, accepts}
+use Rattle.rewrite.specs.Rewritten.{writtenOf}
 use Rattle.replay.specs.Replay.{none, Carried, carried, reopened, atStart, linesRead, finished, linesReplayed, replayOf}
-use Rattle.recovery.specs.Sets.{setsOf}
+use Rattle.recovery.specs.Rewritable.{Rewritable, madeOf}
 use Rattle.recovery.specs.Holds.{Holds, appliedAll, followed, Appended, first, rewritten, committed, other}
 use Rattle.recovery.proofs.Reading.{saidRead, said-read, read-append, whole-append, torn-append}
 use Rattle.recovery.proofs.Framed.{frame-lines, rest-frame, torn-lines}
 use Rattle.recovery.proofs.Replays.{holds-read, sets-settled}
 use Rattle.recovery.proofs.Besides.{Went, beside-start, beside-steps}
 use Rattle.recovery.proofs.Owned.{none-tableless, none-orphaned, none-over}
-use Rattle.recovery.proofs.Again.{replay-again}
+use Rattle.recovery.proofs.Again.{rewritten-holds, rewritten-room, replay-again}
 
 pub empty-holds : Holds [] (withEpoch start reopened 0)
 unfolding restOn lines linesOn
@@ -45,6 +47,9 @@ holds-replayed src s h q =
     short-replayed src q
     ∙ ap (λ (x : Result Carried). andThen x (λ c. finished (c .state))) (h .read)
     ∙ holds-finished src s h
+
+pub rewritten-replayed : (n : Next) (z : Sets) → Rewritable n z → replayOf (writtenOf n z) ≡ given (madeOf n z)
+rewritten-replayed n z r = holds-replayed (writtenOf n z) (madeOf n z) (rewritten-holds n z r) (omega (arith, rewritten-room n z r))
 
 -- lines after those that are read to s
 module _ (src more : List ℕ) (s : State) (h : Holds src s) where

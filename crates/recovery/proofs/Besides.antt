@@ -22,6 +22,7 @@ use Rattle.snapshot.specs.Entries.{Entry, addedAt, deletedAt, goneAt, shownAt, 
 use Rattle.snapshot.specs.Tables.{TableEntry, created, byTable, nameTaken}
 use Rattle.version_state.specs.declared.VersionManagerInner.{VersionManagerInner}
 use Rattle.version_state.specs.State.{State, stateOf, pairsAt, vectorsAt}
+use Rattle.version_state.specs.Sets.{Sets, sets, unlocked, setsOf}
 use Rattle.version_state.proofs.Within.{Within, within-of}
 use Rattle.version_state.proofs.Facts.{Ordered, Sound}
 use Rattle.operations.specs.Effect.{applied}
@@ -30,7 +31,6 @@ use Rattle.operations.specs.Steps.{stepOf, stepsOf}
 use Rattle.operations.proofs.Keeps.{Below, below-applied, ordered-applied}
 use Rattle.commit.proofs.Stepwise.{halt, step-given}
 use Rattle.replay.specs.Replay.{reopened, conflicts}
-use Rattle.recovery.specs.Sets.{Sets, sets, unlocked, setsOf}
 use Rattle.recovery.specs.Holds.{appliedAll}
 use Rattle.recovery.proofs.Reading.{conflictFree}
 use Rattle.recovery.proofs.Effects.{setsAt, onSets, on-sets}
@@ -162,7 +162,7 @@ next-sets m s =
 few-rows : {A : Type 0} (f : ℕ → A) (n k : ℕ) → n ≤ k → length (rows f n) ≤ k
 few-rows f n k h = omega (arith, rows-length f n, h)
 
-few-start : (m : VersionManagerInner) → Sound m → Few (stateOf m)
+pub few-start : (m : VersionManagerInner) → Sound m → Few (stateOf m)
 few-start m s =
     record {
       tables = few-rows _ (m .tables .count) 16 (s .fits .tables);

@@ -12,11 +12,11 @@ use Rattle.manifest.specs.Operations.{Operation, createTable, dropTable, addRow
 use Rattle.snapshot.specs.Entries.{Entry, addedAt, deletedAt, goneAt, shownAt, shownBy, shown, byIds}
 use Rattle.snapshot.specs.Tables.{TableEntry, created, byTable}
 use Rattle.version_state.specs.State.{State, pairsAt, vectorsAt}
+use Rattle.version_state.specs.Sets.{Sets, sets, unlocked}
 use Rattle.version_state.proofs.Facts.{Ordered}
 use Rattle.operations.specs.Effect.{applied}
 use Rattle.replay.proofs.Light.{keep-put, keep-changed}
 use Rattle.replay.proofs.Maps.{map-put, map-without}
-use Rattle.recovery.specs.Sets.{Sets, sets, unlocked}
 
 -- the sets at an epoch
 abbrev pub setsAt : ℕ → State → Sets

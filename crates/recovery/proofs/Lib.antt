@@ -8,6 +8,7 @@ pub mod Owned
 pub mod Appending
 pub mod SoundState
 pub mod SoundReading
+pub mod SoundSets
 pub mod Sound
 pub mod AgainBuilt
 pub mod Again

@@ -9,32 +9,26 @@ use borrow.Author.Tests.{le-ltb, not-false}
 use Rattle.lists.specs.Keyed.{keep, allOf, has, isAt}
 use Rattle.lists.proofs.Tests.{both}
 use Rattle.lists.proofs.Keyed.{allOf-all, anyOf-map, keep-all, length-keep}
+use Rattle.columns.specs.Rows.{plain}
 use Rattle.snapshot.specs.Entries.{Entry, shownBy, byIds}
 use Rattle.snapshot.specs.Tables.{TableEntry, byTable}
 use Rattle.version_state.specs.State.{State, withVectors}
+use Rattle.version_state.specs.Sets.{Sets, unlocked}
 use Rattle.version_state.specs.Sound.{leftBehind}
 use Rattle.replay.specs.Replay.{settled, overLimit, tableless, withoutOrphans}
-use Rattle.recovery.specs.Sets.{Sets, unlocked}
-use Rattle.recovery.proofs.Effects.{itself}
+use Rattle.recovery.specs.Rewritable.{housed, owned}
 use Rattle.recovery.proofs.Replays.{ids-standing}
 use Rattle.recovery.proofs.Besides.{Beside}
 
-allOf-map : {A B : Type 0} (f : A → B) (p : B → Bool) (q : A → Bool) → ((x : A) → p (f x) ≡ q x) → (l : List A) → allOf p (map f l) ≡ allOf q l
+pub allOf-map : {A B : Type 0} (f : A → B) (p : B → Bool) (q : A → Bool) → ((x : A) → p (f x) ≡ q x) → (l : List A) → allOf p (map f l) ≡ allOf q l
 allOf-map f p q h [] = refl
 allOf-map f p q h (x ∷ l) = rw (h x, allOf-map f p q h l)
 
--- each pair has its table, and each vector its pair
-abbrev housed : List TableEntry → List (List ℕ) → Bool
-housed ts ps = allOf (λ k. has byTable (take 1 k) ts) ps
-
-abbrev owned : List (List ℕ) → List (List ℕ) → Bool
-owned ps vs = allOf (λ k. has itself (take 2 k) ps) vs
-
-housed-of : (ts : List TableEntry) (l : List Entry) → housed (map unlocked ts) (map byIds l) ≡ allOf (λ p. has byTable (take 1 (byIds p)) ts) l
+pub housed-of : (ts : List TableEntry) (l : List Entry) → housed (map unlocked ts) (map byIds l) ≡ allOf (λ p. has byTable (take 1 (byIds p)) ts) l
 housed-of ts l = allOf-map byIds _ _ (λ x. anyOf-map unlocked (isAt byTable (take 1 (byIds x))) ts) l
 
-owned-of : (ps vs : List Entry) → owned (map byIds ps) (map byIds vs) ≡ allOf (λ v. has byIds (take 2 (byIds v)) ps) vs
-owned-of ps vs = allOf-map byIds _ _ (λ x. anyOf-map byIds (isAt itself (take 2 (byIds x))) ps) vs
+pub owned-of : (ps vs : List Entry) → owned (map byIds ps) (map byIds vs) ≡ allOf (λ v. has byIds (take 2 (byIds v)) ps) vs
+owned-of ps vs = allOf-map byIds _ _ (λ x. anyOf-map byIds (isAt plain (take 2 (byIds x))) ps) vs
 
 -- w is what a commit at e left, v what the replay of its operations did
 module _ (e : ℕ) (w v : State) (b : Beside e w v) where

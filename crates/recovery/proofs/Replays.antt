@@ -15,11 +15,11 @@ use Rattle.manifest.specs.Lines.{lineOf}
 use Rattle.manifest.specs.Split.{lines}
 use Rattle.snapshot.specs.Entries.{Entry, addedAt, deletedAt, goneAt, shownAt, shownBy, shown, byIds}
 use Rattle.version_state.specs.State.{State, pairsAt, vectorsAt}
+use Rattle.version_state.specs.Sets.{sets, unlocked, setsOf}
 use Rattle.version_state.proofs.Facts.{Ordered}
 use Rattle.operations.specs.Effect.{applied}
 use Rattle.operations.proofs.Keeps.{ordered-applied}
 use Rattle.replay.specs.Replay.{Frame, none, opened, Carried, carried, reopened, atStart, conflicts, framed, stands, settled, overLimit, limited, ended, noted, lineRead, linesRead}
-use Rattle.recovery.specs.Sets.{sets, unlocked, setsOf}
 use Rattle.recovery.specs.Holds.{Holds}
 use Rattle.recovery.proofs.Effects.{setsAt}
 

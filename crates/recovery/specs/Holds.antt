@@ -9,12 +9,12 @@ use Rattle.manifest.specs.Operations.{Operation}
 use Rattle.manifest.specs.Split.{restOn, lines}
 use Rattle.version_state.specs.declared.VersionManagerInner.{VersionManagerInner}
 use Rattle.version_state.specs.State.{State, start, stateOf, Hands}
+use Rattle.version_state.specs.Sets.{setsOf}
 use Rattle.version_state.specs.Sound.{badInner}
 use Rattle.operations.specs.Effect.{applied}
 use Rattle.commit.specs.Commit.{appendOf, commitOf}
 use Rattle.rewrite.specs.Rewritten.{rewrittenOf}
 use Rattle.replay.specs.Replay.{Frame, carried, reopened, atStart, settled, linesRead, tableless, withoutOrphans, replayOf}
-use Rattle.recovery.specs.Sets.{setsOf}
 
 -- src is empty or ends in a newline, its lines are read to the state s, and s has no rowset without its table and no vector without its rowset
 pub record Holds (src : List ℕ) (s : State) : Type 0 where

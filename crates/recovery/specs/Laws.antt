@@ -10,11 +10,12 @@ use Rattle.ids.specs.Limits.{mostOperations, longestManifest}
 use Rattle.ids.specs.Results.{given}
 use Rattle.version_state.specs.declared.VersionManagerInner.{VersionManagerInner}
 use Rattle.version_state.specs.State.{State, start, withEpoch, stateOf, Hands}
+use Rattle.version_state.specs.Sets.{Sets, setsOf, Next, nextOf}
 use Rattle.version_state.specs.Sound.{badInner}
 use Rattle.commit.specs.Commit.{appendOf, commitOf}
-use Rattle.rewrite.specs.Rewritten.{rewrittenOf, longestRewritten}
+use Rattle.rewrite.specs.Rewritten.{writtenOf, rewrittenOf, longestRewritten}
 use Rattle.replay.specs.Replay.{reopened, replayOf}
-use Rattle.recovery.specs.Sets.{setsOf}
+use Rattle.recovery.specs.Rewritable.{Rewritable, Widths, madeOf, namesDiffer}
 use Rattle.recovery.specs.Holds.{Holds, followed, Appended}
 
 -- Of a manifest that holds a state.
@@ -34,10 +35,22 @@ pub record AppendLaws : Type 0 where
   pub made : (src : List ℕ) (m : VersionManagerInner) → Appended src m → length src ≤ longestManifest
       → (s : State) × (Holds src s × (setsOf (stateOf m) ≡ setsOf s) × (replayOf src ≡ given s))
 
+-- Of next ids and sets that are written anew.
+pub record RewriteLaws : Type 0 where
+  -- the manifest has its room, and is read to the same
+  pub room : (n : Next) (z : Sets) → Rewritable n z → length (writtenOf n z) ≤ longestRewritten
+  pub holds : (n : Next) (z : Sets) → Rewritable n z → Holds (writtenOf n z) (madeOf n z)
+  pub replayed : (n : Next) (z : Sets) → Rewritable n z → replayOf (writtenOf n z) ≡ given (madeOf n z)
+  -- a state's next ids and sets are the same when they are read
+  pub same : (s : State) → (nextOf (madeOf (nextOf s) (setsOf s)) ≡ nextOf s) × (setsOf (madeOf (nextOf s) (setsOf s)) ≡ setsOf s)
+  -- those of an open manager that passes 29, where its live names differ: 29 does not ask that
+  pub manager : (m : VersionManagerInner) → badInner m ≡ false → Widths (stateOf m) → namesDiffer (stateOf m .tables) ≡ true → Rewritable (nextOf (stateOf m)) (setsOf (stateOf m))
+
 -- Of any manifest that replay accepts.
 pub record ReopenLaws : Type 0 where
   -- what is handed out passes 29
   pub sound : (src : List ℕ) (s : State) (m : VersionManagerInner) (n : ℕ) → replayOf src ≡ given s → n ≤ longestManifest → Hands m (withEpoch s (s .epoch) n) → badInner m ≡ false
-  -- the rewritten manifest has its room, and holds the same state
+  -- its next ids and sets can be written anew: the rewritten manifest has its room, and holds the same state
+  pub rewritable : (src : List ℕ) (s : State) → replayOf src ≡ given s → Rewritable (nextOf s) (setsOf s)
   pub room : (src : List ℕ) (s : State) → replayOf src ≡ given s → length (rewrittenOf s) ≤ longestRewritten
   pub again : (src : List ℕ) (s : State) → replayOf src ≡ given s → Holds (rewrittenOf s) s

@@ -1,4 +1,4 @@
 -- The definitions that this crate's contracts cite. Assumes nothing.
-pub mod Sets
+pub mod Rewritable
 pub mod Holds
 pub mod Laws

@@ -2,18 +2,16 @@
 use mathlib.Core.Path.{_≡_}
 use mathlib.Core.Bool.{true}
 use mathlib.Core.List.{List, [], _∷_, _++_, map}
-use Prim.Native.Nat.{ℕ, _+_, _*_, _≤_}
+use Prim.Native.Nat.{ℕ, _*_, _≤_}
 use native.Mathlib.Nat.{mul-suc}
 use native.Mathlib.Omega.{arith}
 use lib.ListN.{length, getD, length-map}
 use Rattle.ids.specs.Ids.{largest32, largest64}
 use Rattle.ids.specs.Names.{longestName}
-use Rattle.lists.specs.Keyed.{keep}
-use Rattle.lists.proofs.Keyed.{All, allOf-all, length-keep}
+use Rattle.lists.proofs.Keyed.{All, allOf-all}
 use Rattle.text.proofs.Names.{name-length}
 use Rattle.manifest.specs.Operations.{Operation, createTable, addRowset, addVector, nextIds, wellFormed}
 use Rattle.manifest.proofs.Texts.{create-room, add-room, add-vector-room, next-room, pair-ids, vector-ids, next-values, table-values}
-use Rattle.snapshot.specs.Entries.{Entry, byIds, shownBy}
 use Rattle.snapshot.specs.Tables.{TableEntry}
 use Rattle.frames.specs.Frames.{textsOf}
 use Rattle.frames.proofs.Texts.{frame-long, texts-cons}
@@ -59,36 +57,33 @@ create-most t w =
     let v = table-values (t .table) (t .shape) (t .name) w in
     create-line (t .table) (t .shape) (omega (arith, v .0)) (v .1) (t .name) (name-length (t .name) (v .2) .1)
 
-add-most : (x : Entry) → wellFormed (addOf x) ≡ true → length (textsOf (addOf x ∷ [])) ≤ longestAdd
-add-most x w =
-    let a = getD (byIds x) 0 0 in
-    let b = getD (byIds x) 1 0 in
+add-most : (k : List ℕ) → wellFormed (addOf k) ≡ true → length (textsOf (addOf k ∷ [])) ≤ longestAdd
+add-most k w =
+    let a = getD k 0 0 in
+    let b = getD k 1 0 in
     let v = pair-ids a b w in
     add-line a b (omega (arith, v .0)) (omega (arith, v .1))
 
-vector-most : (x : Entry) → wellFormed (addVectorOf x) ≡ true → length (textsOf (addVectorOf x ∷ [])) ≤ longestAddVector
-vector-most x w =
-    let a = getD (byIds x) 0 0 in
-    let b = getD (byIds x) 1 0 in
-    let c = getD (byIds x) 2 0 in
+vector-most : (k : List ℕ) → wellFormed (addVectorOf k) ≡ true → length (textsOf (addVectorOf k ∷ [])) ≤ longestAddVector
+vector-most k w =
+    let a = getD k 0 0 in
+    let b = getD k 1 0 in
+    let c = getD k 2 0 in
     let v = vector-ids a b c w in
     vector-line a b (omega (arith, v .0)) (omega (arith, v .1)) c (omega (arith, v .2))
 
 pub rewritten-fits : RewrittenFits
-rewritten-fits s ht hp hv w =
-    let ts = map createOf (s .tables) in
-    let ps = map addOf (keep (shownBy (s .epoch)) (s .pairs)) in
-    let vs = map addVectorOf (keep (shownBy (s .epoch)) (s .vectors)) in
-    let n = nextIds (s .nextTable) (s .nextRowset) (s .nextVector) in
-    let a = allOf-all wellFormed (rewriteOf s) w in
-    let nv = next-values (s .nextTable) (s .nextRowset) (s .nextVector) (a .0) in
-    let nr = next-line (s .nextTable) (s .nextRowset) (nv .0) (nv .1) (s .nextVector) (nv .2) in
-    let t = texts-most longestCreate ts (all-of createOf longestCreate create-most (s .tables) (all-left ts ps (all-left (ts ++ ps) vs (a .1)))) in
-    let p = texts-most longestAdd ps (all-of addOf longestAdd add-most (keep (shownBy (s .epoch)) (s .pairs)) (all-right ts ps (all-left (ts ++ ps) vs (a .1)))) in
-    let v = texts-most longestAddVector vs (all-of addVectorOf longestAddVector vector-most (keep (shownBy (s .epoch)) (s .vectors)) (all-right (ts ++ ps) vs (a .1))) in
-    let lt = length-map (s .tables) createOf in
-    let lp = length-map (keep (shownBy (s .epoch)) (s .pairs)) addOf in
-    let lv = length-map (keep (shownBy (s .epoch)) (s .vectors)) addVectorOf in
-    let kp = length-keep (shownBy (s .epoch)) (s .pairs) in
-    let kv = length-keep (shownBy (s .epoch)) (s .vectors) in
-    omega (arith, frame-long (rewriteOf s), texts-length (n ∷ []) ((ts ++ ps) ++ vs), texts-length (ts ++ ps) vs, texts-length ts ps)
+rewritten-fits n z ht hp hv w =
+    let ts = map createOf (z .tables) in
+    let ps = map addOf (z .pairs) in
+    let vs = map addVectorOf (z .vectors) in
+    let a = allOf-all wellFormed (rewriteOf n z) w in
+    let nv = next-values (n .table) (n .rowset) (n .vector) (a .0) in
+    let nr = next-line (n .table) (n .rowset) (nv .0) (nv .1) (n .vector) (nv .2) in
+    let t = texts-most longestCreate ts (all-of createOf longestCreate create-most (z .tables) (all-left ts ps (all-left (ts ++ ps) vs (a .1)))) in
+    let p = texts-most longestAdd ps (all-of addOf longestAdd add-most (z .pairs) (all-right ts ps (all-left (ts ++ ps) vs (a .1)))) in
+    let v = texts-most longestAddVector vs (all-of addVectorOf longestAddVector vector-most (z .vectors) (all-right (ts ++ ps) vs (a .1))) in
+    let lt = length-map (z .tables) createOf in
+    let lp = length-map (z .pairs) addOf in
+    let lv = length-map (z .vectors) addVectorOf in
+    omega (arith, frame-long (rewriteOf n z), texts-length (nextIds (n .table) (n .rowset) (n .vector) ∷ []) ((ts ++ ps) ++ vs), texts-length (ts ++ ps) vs, texts-length ts ps)

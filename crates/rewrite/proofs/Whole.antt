@@ -1,11 +1,10 @@
 -- The rewritten manifest in its parts: `B`, `N`, the lines of tables, pairs and vectors, `E`. Assumes nothing.
 use mathlib.Core.Path.{_≡_, sym, ap, _∙_}
 use mathlib.Core.Bool.{Bool}
-use mathlib.Core.List.{List, [], _∷_, _++_, map, append-assoc}
+use mathlib.Core.List.{List, [], _∷_, _++_, map, map-map, append-assoc}
 use Prim.Native.Nat.{ℕ, _≤_}
 use native.Mathlib.Omega.{arith}
 use lib.ListN.{length}
-use Rattle.lists.specs.Keyed.{keep}
 use Rattle.lists.specs.Written.{Wrote}
 use Rattle.lists.proofs.Places.{length-mapped}
 use Rattle.lists.proofs.Written.{wrote-on}
@@ -13,19 +12,23 @@ use Rattle.columns.proofs.Rows.{rows-map}
 use Rattle.text.specs.Class.{newline}
 use Rattle.manifest.specs.Operations.{Operation, nextIds}
 use Rattle.manifest.specs.Lines.{beginLetter, endLetter}
-use Rattle.snapshot.specs.Entries.{shownBy}
+use Rattle.snapshot.specs.Entries.{shown}
 use Rattle.snapshot.specs.Tables.{nameBytes, tableAt, tableRows}
 use Rattle.snapshot.specs.Views.{tablesOf, rowsetsOf, vectorsOf}
 use Rattle.version_state.specs.declared.VersionManagerInner.{VersionManagerInner}
 use Rattle.version_state.specs.State.{stateOf}
+use Rattle.version_state.specs.Sets.{unlocked, setsOf, nextOf}
 use Rattle.frames.specs.Frames.{textsOf}
 use Rattle.frames.proofs.Texts.{frame-is}
 use Rattle.rewrite.specs.Rewritten.{createOf, addOf, addVectorOf, rewriteOf, rewrittenOf, longestRewritten}
 use Rattle.rewrite.proofs.Lines.{texts-both}
 
 -- a lock stands in no line
-creates : (ids shapes lengths names : List ℕ) (k l : List Bool) (n : ℕ) → map createOf (tableRows ids shapes lengths names k n) ≡ map createOf (tableRows ids shapes lengths names l n)
-creates ids shapes lengths names k l n = rows-map (tableAt ids shapes lengths names k) createOf n ∙ sym (rows-map (tableAt ids shapes lengths names l) createOf n)
+creates : (ids shapes lengths names : List ℕ) (k l : List Bool) (n : ℕ) → map createOf (map unlocked (tableRows ids shapes lengths names k n)) ≡ map createOf (tableRows ids shapes lengths names l n)
+creates ids shapes lengths names k l n =
+    map-map createOf unlocked (tableRows ids shapes lengths names k n)
+    ∙ rows-map (tableAt ids shapes lengths names k) createOf n
+    ∙ sym (rows-map (tableAt ids shapes lengths names l) createOf n)
 
 module _ (m : VersionManagerInner) where
   abbrev pub nextLine : List Operation
@@ -35,15 +38,18 @@ module _ (m : VersionManagerInner) where
   tableLines = map createOf (tableRows (m .tables .ids) (m .tables .shapes) (m .tables .lengths) (m .tables .names) [] (m .tables .count))
 
   abbrev pub pairLines : List Operation
-  pairLines = map addOf (keep (shownBy (m .epoch)) (rowsetsOf (m .rowsets)))
+  pairLines = map addOf (shown (m .epoch) (rowsetsOf (m .rowsets)))
 
   abbrev pub vectorLines : List Operation
-  vectorLines = map addVectorOf (keep (shownBy (m .epoch)) (vectorsOf (m .vectors)))
+  vectorLines = map addVectorOf (shown (m .epoch) (vectorsOf (m .vectors)))
 
-  whole-texts : textsOf (rewriteOf (stateOf m)) ≡ textsOf nextLine ++ ((textsOf tableLines ++ textsOf pairLines) ++ textsOf vectorLines)
+  abbrev operations : List Operation
+  operations = rewriteOf (nextOf (stateOf m)) (setsOf (stateOf m))
+
+  whole-texts : textsOf operations ≡ textsOf nextLine ++ ((textsOf tableLines ++ textsOf pairLines) ++ textsOf vectorLines)
   whole-texts =
-      let t : map createOf (tablesOf (m .tables)) ≡ tableLines = creates (m .tables .ids) (m .tables .shapes) (m .tables .lengths) (m .tables .names) (m .tables .locked) [] (m .tables .count) in
-      let e : rewriteOf (stateOf m) ≡ nextLine ++ ((tableLines ++ pairLines) ++ vectorLines) = ap (λ (l : List Operation). nextLine ++ ((l ++ pairLines) ++ vectorLines)) t in
+      let t : map createOf (map unlocked (tablesOf (m .tables))) ≡ tableLines = creates (m .tables .ids) (m .tables .shapes) (m .tables .lengths) (m .tables .names) (m .tables .locked) [] (m .tables .count) in
+      let e : operations ≡ nextLine ++ ((tableLines ++ pairLines) ++ vectorLines) = ap (λ (l : List Operation). nextLine ++ ((l ++ pairLines) ++ vectorLines)) t in
       ap textsOf e
       ∙ texts-both nextLine ((tableLines ++ pairLines) ++ vectorLines)
       ∙ ap (λ (l : List ℕ). textsOf nextLine ++ l) (texts-both (tableLines ++ pairLines) vectorLines ∙ ap (λ (l : List ℕ). l ++ textsOf vectorLines) (texts-both tableLines pairLines))
@@ -70,7 +76,7 @@ module _ (m : VersionManagerInner) where
       let a₅ = wrote-on out 0 (((b ++ n) ++ t) ++ p) t₄ i₄ v t₅ i₅ (omega (arith, a₄ .next)) a₄ w₅ in
       let a₆ = wrote-on out 0 ((((b ++ n) ++ t) ++ p) ++ v) t₅ i₅ e t₆ i₆ (omega (arith, a₅ .next)) a₅ w₆ in
       let f : rewrittenOf (stateOf m) ≡ ((((b ++ n) ++ t) ++ p) ++ v) ++ e =
-      frame-is (rewriteOf (stateOf m)) ∙ ap (λ (l : List ℕ). (beginLetter ∷ newline ∷ l) ++ e) whole-texts ∙ simp append-assoc in
+      frame-is operations ∙ ap (λ (l : List ℕ). (beginLetter ∷ newline ∷ l) ++ e) whole-texts ∙ simp append-assoc in
       (rw f a₆, h)
 
 -- the column of names of a manager that was handed in

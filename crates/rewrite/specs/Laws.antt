@@ -6,11 +6,11 @@ use lib.ListN.{length}
 use Rattle.lists.specs.Keyed.{allOf}
 use Rattle.manifest.specs.Operations.{wellFormed}
 use Rattle.ids.specs.Limits.{mostTables, mostHeld}
-use Rattle.version_state.specs.State.{State}
-use Rattle.rewrite.specs.Rewritten.{rewriteOf, rewrittenOf, longestRewritten}
+use Rattle.version_state.specs.Sets.{Sets, Next}
+use Rattle.rewrite.specs.Rewritten.{rewriteOf, writtenOf, longestRewritten}
 
--- of a state within the limits whose ids and names can be written
+-- of sets within the limits whose ids and names can be written
 abbrev pub RewrittenFits : Type 0
 RewrittenFits =
-    (s : State) → length (s .tables) ≤ mostTables → length (s .pairs) ≤ mostHeld → length (s .vectors) ≤ mostHeld → allOf wellFormed (rewriteOf s) ≡ true
-    → length (rewrittenOf s) ≤ longestRewritten
+    (n : Next) (z : Sets) → length (z .tables) ≤ mostTables → length (z .pairs) ≤ mostHeld → length (z .vectors) ≤ mostHeld → allOf wellFormed (rewriteOf n z) ≡ true
+    → length (writtenOf n z) ≤ longestRewritten

@@ -15,12 +15,11 @@ ghost use mathlib.Core.List.{[], _∷_, map};
 ghost use Prim.Native.Nat.{_+_, _*_, _≤_};
 ghost use lib.ListN.{length};
 ghost use Rattle.lists.specs.Written.{Wrote};
-ghost use Rattle.lists.specs.Keyed.{keep};
 ghost use Rattle.ids.specs.Limits.{mostTables, mostHeld};
 ghost use Rattle.ids.specs.Names.{nameOf};
 ghost use Rattle.manifest.specs.Operations.{createTable, addRowset, addVector, nextIds, operationOf};
 ghost use Rattle.frames.specs.Frames.{textsOf};
-ghost use Rattle.snapshot.specs.Entries.{shownBy, entries};
+ghost use Rattle.snapshot.specs.Entries.{shown, entries};
 ghost use Rattle.snapshot.specs.Tables.{nameBytes, tableRows};
 ghost use Rattle.version_state.specs.State.{stateOf, Fit};
 ghost use Rattle.rewrite.specs.Laws.{RewrittenFits};
@@ -109,7 +108,7 @@ fn put_pairs<'a>(
     epoch: u32,
 ) -> usize
     requires { ⌜ (count ≤ mostHeld) × (at + longestAdd * mostHeld ≤ length (now out)) ⌝ }
-    ensures { λ r. ⌜ Wrote (now (out .entry)) at (textsOf (map addOf (keep (shownBy epoch) (entries (now (tables .entry) ∷ now (rowsets .entry) ∷ []) (now (added .entry)) (now (deleted .entry)) count)))) (now (out .exit)) r × (r ≤ at + longestAdd * mostHeld) ⌝ }
+    ensures { λ r. ⌜ Wrote (now (out .entry)) at (textsOf (map addOf (shown epoch (entries (now (tables .entry) ∷ now (rowsets .entry) ∷ []) (now (added .entry)) (now (deleted .entry)) count)))) (now (out .exit)) r × (r ≤ at + longestAdd * mostHeld) ⌝ }
 {
     let mut j = at;
     let mut i = 0;
@@ -137,7 +136,7 @@ fn put_vectors<'a>(
     epoch: u32,
 ) -> usize
     requires { ⌜ (count ≤ mostHeld) × (at + longestAddVector * mostHeld ≤ length (now out)) ⌝ }
-    ensures { λ r. ⌜ Wrote (now (out .entry)) at (textsOf (map addVectorOf (keep (shownBy epoch) (entries (now (tables .entry) ∷ now (rowsets .entry) ∷ now (vectors .entry) ∷ []) (now (added .entry)) (now (deleted .entry)) count)))) (now (out .exit)) r × (r ≤ at + longestAddVector * mostHeld) ⌝ }
+    ensures { λ r. ⌜ Wrote (now (out .entry)) at (textsOf (map addVectorOf (shown epoch (entries (now (tables .entry) ∷ now (rowsets .entry) ∷ now (vectors .entry) ∷ []) (now (added .entry)) (now (deleted .entry)) count)))) (now (out .exit)) r × (r ≤ at + longestAddVector * mostHeld) ⌝ }
 {
     let mut j = at;
     let mut i = 0;

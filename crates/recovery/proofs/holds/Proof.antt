@@ -1,14 +1,16 @@
 -- `recovery::holds` meets its contract: the laws of a manifest, of what is appended to it, and of a reopened store. Assumes nothing.
-use Rattle.recovery.proofs.Appending.{empty-holds, holds-replayed, torn-replayed, whole-appended, made-replayed}
-use Rattle.recovery.proofs.Sound.{replay-sound, replay-room}
-use Rattle.recovery.proofs.Again.{replay-again}
+use mathlib.Core.Path.{refl}
+use Rattle.recovery.proofs.Appending.{empty-holds, holds-replayed, torn-replayed, whole-appended, made-replayed, rewritten-replayed}
+use Rattle.recovery.proofs.Sound.{replay-sound}
+use Rattle.recovery.proofs.Again.{made-same, rewritten-holds, rewritten-room, manager-rewritable, replay-rewritable, replay-room, replay-again}
 use Rattle.recovery.proofs.holds.Statement.{statement}
 use Rattle.recovery.proofs.holds.Tie as tie
 
 returns : tie.Need-returns
 returns c = (
   record { empty = empty-holds; replayed = holds-replayed; whole = whole-appended; torn = torn-replayed; made = made-replayed },
-  record { sound = replay-sound; room = replay-room; again = replay-again },
+  record { room = rewritten-room; holds = rewritten-holds; replayed = rewritten-replayed; same = λ s. (refl, made-same s); manager = manager-rewritable },
+  record { sound = replay-sound; rewritable = replay-rewritable; room = replay-room; again = replay-again },
 )
 
 pub holds-spec : {M : Type 1} → statement M

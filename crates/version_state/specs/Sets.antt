@@ -1,8 +1,8 @@
--- What a state has committed, whatever its epochs: live tables, and the pairs and vectors that it shows now. Assumes nothing.
+-- What a state has committed, whatever its epochs: live tables, the pairs and vectors that it shows now, and the next ids. Assumes nothing.
 use mathlib.Core.List.{List, map}
 use Prim.Native.Nat.{ℕ}
 use Rattle.snapshot.specs.Tables.{TableEntry, created}
 use Rattle.version_state.specs.State.{State, pairsAt, vectorsAt}
 
 pub record Sets : Type 0 where
   pub tables : List TableEntry
@@ -18,3 +18,12 @@ unlocked t = created (t .table) (t .shape) (t .name)
 
 abbrev pub setsOf : State → Sets
 setsOf s = sets (map unlocked (s .tables)) (pairsAt (s .epoch) s) (vectorsAt (s .epoch) s)
+
+-- the next ids
+pub record Next : Type 0 where
+  pub table : ℕ
+  pub rowset : ℕ
+  pub vector : ℕ
+
+abbrev pub nextOf : State → Next
+nextOf s = record { table = s .nextTable; rowset = s .nextRowset; vector = s .nextVector }
