@@ -11,7 +11,7 @@ use Rattle.version_state.specs.State.{State, withNext}
 use Rattle.pins.specs.declared.PinBook.{PinBook}
 use Rattle.version_manager.specs.declared.VersionManager.{VersionManager}
 use Rattle.version_manager.specs.Managers.{heldBy, badManager, HandsBack}
-use Rattle.recovery.specs.Sets.{unlocked}
+use Rattle.version_state.specs.Sets.{unlocked}
 use Rattle.plain_record.specs.Calls.{quiet}
 use Rattle.plain_record.specs.Plain.{Plain, Record, turn}
 use Rattle.plain_record.specs.Run.{World, isAccepted, onward}
