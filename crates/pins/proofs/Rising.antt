@@ -10,13 +10,13 @@ use Rattle.lists.proofs.Tests.{by-cases, both, past}
 use Rattle.lists.proofs.Order.{lex-last}
 use Rattle.lists.proofs.Views.{seen, seen-end}
 use Rattle.pins.specs.declared.Pin.{Pin}
-use Rattle.pins.specs.Book.{PinEntry, pinEntry, byEpoch, validPin}
+use Rattle.pins.specs.Book.{PinEntry, pinEntry, byPlace, validPin}
 
 -- at epoch c, after epoch p
 abbrev pub soundFrom : ℕ → ℕ → List PinEntry → Bool
-soundFrom c p l = allOf (validPin c) l && above byEpoch (p ∷ []) l
+soundFrom c p l = allOf (validPin c) l && above byPlace (p ∷ []) l
 
-pub sound-start : (c : ℕ) (l : List PinEntry) → allOf (validPin c) l && ascending byEpoch l ≡ soundFrom c 0 l
+pub sound-start : (c : ℕ) (l : List PinEntry) → allOf (validPin c) l && ascending byPlace l ≡ soundFrom c 0 l
 sound-start c [] = refl
 sound-start c (x ∷ l) =
     by-cases (validPin c x)

@@ -11,7 +11,6 @@ pub mod CommitState
 pub mod CommitFile
 pub mod Commit
 pub mod Draw
-pub mod Counts
 pub mod Pin
 pub mod Unpin
 pub mod Vacuum

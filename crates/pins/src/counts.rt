@@ -1,27 +1,26 @@
 // The counts of a book, and a book with one of them changed. All of it is internal: the book's count is within its array.
-use pins::Pin;
-use pins::PinBook;
+use crate::Pin;
+use crate::PinBook;
 ghost use mathlib.Core.Path.{_≡_};
 ghost use mathlib.Core.Bool.{true, false};
-ghost use mathlib.Core.List.{[], _∷_};
 ghost use Prim.Native.Nat.{_+_, _≤_, _<_};
 ghost use lib.ListN.{set};
 ghost use Rattle.lists.specs.Keyed.{put, without, ascending};
 ghost use Rattle.lists.specs.Places.{insertAt};
-ghost use Rattle.pins.specs.Book.{pinEntry, pinsOf, byEpoch, mostPinned, Keeps};
-ghost use Rattle.pinning.specs.Counts.{recounted, epochsFull, Placed};
+ghost use Rattle.pins.specs.Book.{pinEntry, pinsOf, placeOn, placeKey, byPlace, mostPinned, Keeps};
+ghost use Rattle.pins.specs.Counts.{recounted, placesFull, Placed};
 
 // Where an epoch stands among the pinned ones or would, whether it stands there, and its pins.
-pub struct Place {
+pub struct Found {
     pub at: usize,
     pub stands: bool,
     pub pins: u16,
 }
 
 // The epochs are in order.
-pub fn find(book: PinBook, epoch: u32) -> Place
-    requires { ⌜ (book .count ≤ mostPinned) × (ascending byEpoch (pinsOf book) ≡ true) ⌝ }
-    ensures { λ r. ⌜ Placed epoch (pinsOf book) (r .at) (r .stands) (r .pins) ⌝ }
+pub fn find(book: PinBook, epoch: u32) -> Found
+    requires { ⌜ (book .count ≤ mostPinned) × (ascending byPlace (pinsOf book) ≡ true) ⌝ }
+    ensures { λ r. ⌜ Placed (placeOn epoch) (pinsOf book) (r .at) (r .stands) (r .pins) ⌝ }
 {
     let count = book.count;
     let mut i = 0;
@@ -29,13 +28,13 @@ pub fn find(book: PinBook, epoch: u32) -> Place
         let x = book.items[i];
         if !x.before(epoch) {
             if x.is_at(epoch) {
-                return Place {
+                return Found {
                     at: i,
                     stands: true,
                     pins: x.count,
                 };
             }
-            return Place {
+            return Found {
                 at: i,
                 stands: false,
                 pins: 0,
@@ -43,7 +42,7 @@ pub fn find(book: PinBook, epoch: u32) -> Place
         }
         i += 1;
     }
-    Place {
+    Found {
         at: i,
         stands: false,
         pins: 0,
@@ -78,9 +77,9 @@ fn replaced(book: PinBook, at: usize, x: Pin) -> PinBook
 }
 
 // There is a place for the pin.
-fn put(book: PinBook, place: Place, x: Pin) -> PinBook
-    requires { ⌜ (book .count ≤ mostPinned) × (ascending byEpoch (pinsOf book) ≡ true) × (epochsFull (x .epoch) (pinsOf book) ≡ false) × Placed (x .epoch) (pinsOf book) (place .at) (place .stands) (place .pins) ⌝ }
-    ensures { λ r. ⌜ Keeps r (put byEpoch (pinEntry x) (pinsOf book)) ⌝ }
+fn put(book: PinBook, place: Found, x: Pin) -> PinBook
+    requires { ⌜ (book .count ≤ mostPinned) × (ascending byPlace (pinsOf book) ≡ true) × (placesFull (placeOn (x .epoch)) (pinsOf book) ≡ false) × Placed (placeOn (x .epoch)) (pinsOf book) (place .at) (place .stands) (place .pins) ⌝ }
+    ensures { λ r. ⌜ Keeps r (put byPlace (pinEntry x) (pinsOf book)) ⌝ }
 {
     if place.stands {
         return replaced(book, place.at, x);
@@ -90,7 +89,7 @@ fn put(book: PinBook, place: Place, x: Pin) -> PinBook
 
 fn without(book: PinBook, epoch: u32) -> PinBook
     requires { ⌜ book .count ≤ mostPinned ⌝ }
-    ensures { λ r. ⌜ Keeps r (without byEpoch (epoch ∷ []) (pinsOf book)) ⌝ }
+    ensures { λ r. ⌜ Keeps r (without byPlace (placeKey (placeOn epoch)) (pinsOf book)) ⌝ }
 {
     let mut s = book;
     let count = book.count;
@@ -109,9 +108,9 @@ fn without(book: PinBook, epoch: u32) -> PinBook
 }
 
 // The book with so many pins on the epoch, which has that place.
-pub fn recounted(book: PinBook, place: Place, epoch: u32, count: u16) -> PinBook
-    requires { ⌜ (book .count ≤ mostPinned) × (ascending byEpoch (pinsOf book) ≡ true) × (epochsFull epoch (pinsOf book) ≡ false) × Placed epoch (pinsOf book) (place .at) (place .stands) (place .pins) ⌝ }
-    ensures { λ r. ⌜ Keeps r (recounted epoch count (pinsOf book)) ⌝ }
+pub fn recounted(book: PinBook, place: Found, epoch: u32, count: u16) -> PinBook
+    requires { ⌜ (book .count ≤ mostPinned) × (ascending byPlace (pinsOf book) ≡ true) × (placesFull (placeOn epoch) (pinsOf book) ≡ false) × Placed (placeOn epoch) (pinsOf book) (place .at) (place .stands) (place .pins) ⌝ }
+    ensures { λ r. ⌜ Keeps r (recounted (placeOn epoch) count (pinsOf book)) ⌝ }
 {
     if count == 0 {
         return without(book, epoch);
