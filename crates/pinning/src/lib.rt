@@ -6,6 +6,7 @@ use ids::refusal::Verdict;
 use pins::MOST_PINNED;
 use pins::MOST_PINS;
 use pins::PinBook;
+use pins::Place;
 use pins::counts;
 use version_manager::VersionManager;
 ghost use mathlib.Core.Path.{_≡_};
@@ -118,15 +119,16 @@ pub fn after_pin(manager: VersionManager, book: PinBook) -> PinStep
         };
     }
     let epoch = manager.inner.epoch;
-    let place = counts::find(book, epoch);
-    let full = judge_pin(epoch, place.pins, book.count);
+    let place = Place { epoch };
+    let found = counts::find(book, place);
+    let full = judge_pin(epoch, found.pins, book.count);
     if let Verdict::Refused(why) = full {
         return PinStep {
             book,
             answer: PinAnswer::Refused(why),
         };
     }
-    let next = counts::recounted(book, place, epoch, place.pins + 1);
+    let next = counts::recounted(book, found, place, found.pins + 1);
     PinStep {
         book: next,
         answer: PinAnswer::Pinned(epoch),
@@ -166,16 +168,17 @@ pub fn after_unpin(manager: VersionManager, book: PinBook, epoch: u32) -> UnpinS
             answer: UnpinAnswer::Refused(why),
         };
     }
-    let place = counts::find(book, epoch);
-    if place.pins == 0 {
+    let place = Place { epoch };
+    let found = counts::find(book, place);
+    if found.pins == 0 {
         return UnpinStep {
             book,
             answer: UnpinAnswer::Refused(Refusal::EpochNotPinned),
         };
     }
     let current = manager.inner.epoch;
-    let left = place.pins - 1;
-    let next = counts::recounted(book, place, epoch, left);
+    let left = found.pins - 1;
+    let next = counts::recounted(book, found, place, left);
     let due = is_due(epoch, current, left);
     // One column is moved out: lending it from the manager would keep a copy of the whole.
     let rowsets = manager.inner.rowsets;

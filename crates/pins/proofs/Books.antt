@@ -10,7 +10,8 @@ use Rattle.lists.specs.Keyed.{allOf, isAt, put, without, ascending}
 use Rattle.lists.proofs.Tests.{by-cases, both}
 use Rattle.lists.proofs.Keyed.{allOf-all, all-allOf, all-map, all-keep, all-put, ascend-to, ascend-from, ascending-keep, ascending-put}
 use Rattle.pins.specs.declared.PinBook.{PinBook}
-use Rattle.pins.specs.Book.{PinEntry, pinsOf, Place, placeKey, byPlace, validPin, badBook, GoodBook, Keeps}
+use Rattle.pins.specs.declared.Place.{Place}
+use Rattle.pins.specs.Book.{PinEntry, pinsOf, placeKey, byPlace, validPin, badBook, GoodBook, Keeps}
 use Rattle.pins.proofs.Facts.{good-book, book-good}
 use Rattle.pins.specs.Counts.{pinsOn, recounted}
 

@@ -1,17 +1,19 @@
 -- The bound of a vacuum: not above an epoch that may be shown, and what is not blocked is at most the bound. Assumes nothing.
-use mathlib.Core.Path.{_≡_, refl, sym, ap, _∙_}
+use mathlib.Core.Path.{_≡_, refl, sym, ap}
 use mathlib.Core.Bool.{true, not, _&&_}
 use mathlib.Core.List.{List, [], _∷_}
-use Prim.Native.Nat.{ℕ, _≤_, _<_}
+use Prim.Native.Nat.{ℕ, _≤_}
 use native.Mathlib.Omega.{arith}
 use lib.Dec.{leb, ltb, eqb}
 use lib.ListN.{getD}
 use borrow.Author.Tests.{ltb-true, ltb-false, leb-true, leb-false, eqb-true, eq-eqb, le-leb, lt-leb}
+use Rattle.lists.specs.Order.{less}
 use Rattle.lists.specs.Keyed.{allOf, isAt, ascending}
 use Rattle.lists.proofs.Tests.{by-cases, clash, both}
-use Rattle.lists.proofs.Order.{lex-last, same-true}
+use Rattle.lists.proofs.Order.{lex-gt, same-true}
 use Rattle.lists.proofs.Keyed.{All, all-map, all-keep, all-put, After, ascend-to}
-use Rattle.pins.specs.Book.{PinEntry, Place, placeKey, byPlace, validPin, hasPlace, pinned}
+use Rattle.pins.specs.declared.Place.{Place}
+use Rattle.pins.specs.Book.{PinEntry, placeKey, byPlace, validPin, hasPlace, pinned}
 use Rattle.pins.specs.Guards.{Guards, guardsBy, isGuarded, mayShow, blocked, smallest, bound}
 use Rattle.pins.specs.Counts.{pinsOn, recounted}
 
@@ -55,11 +57,16 @@ free-below e w (p ∷ l) k =
 pub free-is : (g : Guards) (w : ℕ) → w ≤ g .current → not (blocked g w) ≡ leb w (bound g)
 free-is g w k = free-below (g .current) w (g .pins) k
 
-above-first : (m e : ℕ) (l : List PinEntry) → m ≤ e → After byPlace (m ∷ []) l → m ≤ smallest e l
-above-first m e [] h a = h
-above-first m e (q ∷ l) h a =
-    let t : m < q .epoch = ltb-true _ _ (sym (lex-last m (q .epoch)) ∙ a .0) in
-    omega (arith, above-first m e l h (a .1))
+-- a later place has no smaller epoch
+later-epoch : (p q : PinEntry) → less (byPlace p) (byPlace q) ≡ true → p .epoch ≤ q .epoch
+later-epoch p q h =
+    by-cases (leb (p .epoch) (q .epoch))
+    (λ t. leb-true (p .epoch) (q .epoch) t)
+    (λ t. clash h (lex-gt (p .epoch) (q .epoch) _ (leb-false (p .epoch) (q .epoch) t)))
+
+above-first : (e : ℕ) (p : PinEntry) (l : List PinEntry) → p .epoch ≤ e → After byPlace (byPlace p) l → p .epoch ≤ smallest e l
+above-first e p [] h a = h
+above-first e p (q ∷ l) h a = let t = later-epoch p q (a .0) in omega (arith, above-first e p l h (a .1))
 
 -- of an ascending book whose epochs are not above the current one the bound is the first
 bound-first : (e : ℕ) (p : PinEntry) (l : List PinEntry) → allOf (validPin e) (p ∷ l) ≡ true → ascending byPlace (p ∷ l) ≡ true → bound (guardsBy e (p ∷ l)) ≡ p .epoch
@@ -68,7 +75,7 @@ bound-first e p l v o =
     let b = both (ltb 0 (p .count)) (ltb 0 (p .epoch) && leb (p .epoch) e) (a .0) in
     let d = both (ltb 0 (p .epoch)) (leb (p .epoch) e) (b .1) in
     let s = ascend-to byPlace (p ∷ l) o in
-    omega (arith, above-first (p .epoch) e l (leb-true _ _ (d .1)) (s .0))
+    omega (arith, above-first e p l (leb-true _ _ (d .1)) (s .0))
 
 -- the same of a book as it is read: p is its first entry
 pub bound-read : (e : ℕ) (b : List PinEntry) (p : PinEntry) (l : List PinEntry) → b ≡ p ∷ l → allOf (validPin e) b ≡ true → ascending byPlace b ≡ true → p .epoch ≡ bound (guardsBy e b)

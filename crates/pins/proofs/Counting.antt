@@ -15,7 +15,8 @@ use Rattle.lists.proofs.Keyed.{all-map, none-anyOf, kept-all, ascend-to, has-pu
 use Rattle.lists.proofs.Places.{has-end, has-here}
 use Rattle.lists.proofs.Views.{seen, seen-end, view-length, view-at, rank-here, rank-next}
 use Rattle.pins.specs.declared.Pin.{Pin}
-use Rattle.pins.specs.Book.{PinEntry, pinEntry, Place, placeOn, placeKey, byPlace, mostPinned, validPin, hasPlace, pinned}
+use Rattle.pins.specs.declared.Place.{Place}
+use Rattle.pins.specs.Book.{PinEntry, pinEntry, placeOn, placeKey, byPlace, mostPinned, validPin, hasPlace, pinned}
 use Rattle.pins.specs.Counts.{pinsOn, pinsAt, recounted, placesFull, Placed}
 use Rattle.pins.proofs.Bound.{held-pinned}
 

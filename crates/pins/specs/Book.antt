@@ -8,6 +8,7 @@ use lib.ListN.{take}
 use Rattle.lists.specs.Keyed.{allOf, anyOf, has, ascending}
 use Rattle.pins.specs.declared.Pin.{Pin}
 use Rattle.pins.specs.declared.PinBook.{PinBook}
+use Rattle.pins.specs.declared.Place.{Place}
 
 pub record PinEntry : Type 0 where
   pub epoch : ℕ
@@ -19,10 +20,7 @@ pinEntry p = record { epoch = p .epoch; count = p .count }
 abbrev pub pinsOf : PinBook → List PinEntry
 pinsOf b = map pinEntry (take (b .count) (b .items))
 
--- a place of a book: for the pins on one epoch
-pub record Place : Type 0 where
-  pub epoch : ℕ
-
+-- the place of a book for the pins on an epoch
 abbrev pub placeOn : ℕ → Place
 placeOn e = record { epoch = e }
 

@@ -6,7 +6,8 @@ use Prim.Native.Nat.{ℕ, _+_, _-_, _≤_}
 use lib.Dec.{leb, ltb, eqb}
 use lib.ListN.{length, getD}
 use Rattle.lists.specs.Keyed.{isAt, put, without, rank}
-use Rattle.pins.specs.Book.{PinEntry, Place, placeKey, byPlace, mostPinned, mostPins, hasPlace}
+use Rattle.pins.specs.declared.Place.{Place}
+use Rattle.pins.specs.Book.{PinEntry, placeKey, byPlace, mostPinned, mostPins, hasPlace}
 
 -- n pins at a place
 abbrev pub pinsOn : Place → ℕ → PinEntry

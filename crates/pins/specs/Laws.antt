@@ -6,7 +6,8 @@ use Prim.Native.Nat.{ℕ, _≤_}
 use lib.Dec.{leb}
 use Rattle.lists.specs.Order.{same}
 use Rattle.pins.specs.declared.PinBook.{PinBook}
-use Rattle.pins.specs.Book.{PinEntry, Place, placeKey, badBook}
+use Rattle.pins.specs.declared.Place.{Place}
+use Rattle.pins.specs.Book.{PinEntry, placeKey, badBook}
 use Rattle.pins.specs.Guards.{Guards, mayShow, blocked, bound}
 use Rattle.pins.specs.Counts.{pinsAt, recounted}
 

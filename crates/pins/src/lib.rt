@@ -3,10 +3,9 @@ ghost use mathlib.Core.Path.{_≡_};
 ghost use mathlib.Core.Bool.{_&&_};
 ghost use mathlib.Core.List.{[]};
 ghost use Prim.Native.Nat.{_≤_};
-ghost use lib.Dec.{ltb};
 ghost use Rattle.lists.specs.Order.{less};
 ghost use Rattle.lists.specs.Keyed.{allOf, isAt, ascending};
-ghost use Rattle.pins.specs.Book.{pinEntry, pinsOf, placeOn, placeKey, byPlace, mostPinned, validPin, badBook, GoodBook, pinned};
+ghost use Rattle.pins.specs.Book.{pinEntry, pinsOf, placeKey, byPlace, mostPinned, validPin, badBook, GoodBook, pinned};
 ghost use Rattle.pins.specs.Guards.{guardsBy, mayShow, bound};
 ghost use Rattle.pins.specs.Laws.{BookLaws};
 
@@ -23,6 +22,11 @@ pub struct Pin {
     pub count: u16,
 }
 
+// The place of a book for the pins on an epoch.
+pub struct Place {
+    pub epoch: u32,
+}
+
 // Pinned epochs with their counts, ascending.
 #[repr(C)]
 pub struct PinBook {
@@ -36,26 +40,26 @@ pub fn holds()
 {}
 
 impl Pin {
-    pub fn is_at(self, epoch: u32) -> bool
-        ensures { λ r. ⌜ r ≡ isAt byPlace (placeKey (placeOn epoch)) (pinEntry self) ⌝ }
+    pub fn is_at(self, place: Place) -> bool
+        ensures { λ r. ⌜ r ≡ isAt byPlace (placeKey place) (pinEntry self) ⌝ }
     {
-        self.epoch == epoch
+        self.epoch == place.epoch
     }
 
-    pub fn before(self, epoch: u32) -> bool
-        ensures { λ r. ⌜ r ≡ less (byPlace (pinEntry self)) (placeKey (placeOn epoch)) ⌝ }
+    pub fn before(self, place: Place) -> bool
+        ensures { λ r. ⌜ r ≡ less (byPlace (pinEntry self)) (placeKey place) ⌝ }
     {
-        self.epoch < epoch
+        self.epoch < place.epoch
     }
 
-    // A count that is not 0, and an epoch after the last one and not above the current one.
-    fn follows(self, last: u32, current: u32) -> bool
-        ensures { λ r. ⌜ r ≡ validPin current (pinEntry self) && ltb last (self .epoch) ⌝ }
+    // A count that is not 0, a place after the last one, and an epoch that is neither 0 nor above the current one.
+    fn follows(self, last: Place, current: u32) -> bool
+        ensures { λ r. ⌜ r ≡ validPin current (pinEntry self) && less (placeKey last) (byPlace (pinEntry self)) ⌝ }
     {
         if self.count == 0 {
             return false;
         }
-        if self.epoch <= last {
+        if self.epoch <= last.epoch {
             return false;
         }
         self.epoch <= current
@@ -80,14 +84,14 @@ impl PinBook {
         ensures { λ r. ⌜ r ≡ allOf (validPin current) (pinsOf self) && ascending byPlace (pinsOf self) ⌝ }
     {
         let count = self.count;
-        let mut last = 0;
+        let mut last = Place { epoch: 0 };
         let mut i = 0;
         while i < count {
             let x = self.items[i];
             if !x.follows(last, current) {
                 return false;
             }
-            last = x.epoch;
+            last = Place { epoch: x.epoch };
             i += 1;
         }
         true

@@ -7,16 +7,16 @@ use borrow.Author.Tests.{not-true, not-false}
 use lib.ListN.{length}
 use Rattle.lists.specs.Keyed.{ascending}
 use Rattle.lists.proofs.Places.{known}
-use Rattle.pins.specs.Book.{pinsOf, placeOn, byPlace, mostPinned}
+use Rattle.pins.specs.Book.{pinsOf, byPlace, mostPinned}
 use Rattle.pins.proofs.Counting.{Finding, find-start, find-more, find-here, find-other, find-end}
 use Rattle.pins.proofs.counts.find.Statement.{statement}
 use Rattle.pins.proofs.counts.find.Tie as tie
 
 abbrev Inv-loop : tie.InvT-loop
-Inv-loop epoch book count i₀ i = (i ≤ count) × (count ≤ length (book .items)) × (ascending byPlace (pinsOf book) ≡ true) × Finding (book .items) (book .count) (placeOn epoch) i
+Inv-loop place book count i₀ i = (i ≤ count) × (count ≤ length (book .items)) × (ascending byPlace (pinsOf book) ≡ true) × Finding (book .items) (book .count) place i
 
 abbrev μ-loop : tie.MeasureT-loop
-μ-loop epoch book count i₀ i = count - i
+μ-loop place book count i₀ i = count - i
 
 loop-holds : tie.Need-loop-holds Inv-loop μ-loop
 loop-holds c =

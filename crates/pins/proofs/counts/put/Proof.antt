@@ -18,7 +18,7 @@ replaced-requires : tie.Need-replaced-requires
 replaced-requires c κs =
     let a = c .before .args in
     let pre = c .before .pre in
-    let at = a .place .at in
+    let at = a .found .at in
     let full : length (a .book .items) ≡ mostPinned = search known in
     let b = both (ltb at (length (pinsOf (a .book)))) (isAt byPlace (placeKey (placeOn (a .x .epoch))) (getD (pinsOf (a .book)) at (pinsOn (placeOn (a .x .epoch)) 0))) (sym (pre .3 .there) ∙ c .if1 .taken) in
     (omega (arith, ltb-true at (length (pinsOf (a .book))) (b .0), view-length pinEntry (a .book .items) (a .book .count) (omega (arith, pre .0))), pre .0)
@@ -27,7 +27,7 @@ returns : tie.Need-returns
 returns c =
     let a = c .before .before .args in
     let pre = c .before .before .pre in
-    let at = a .place .at in
+    let at = a .found .at in
     let so = pre .3 .place in
     let b = both (ltb at (length (pinsOf (a .book)))) (isAt byPlace (placeKey (placeOn (a .x .epoch))) (getD (pinsOf (a .book)) at (pinsOn (placeOn (a .x .epoch)) 0))) (sym (pre .3 .there) ∙ c .before .if1 .taken) in
     record {
