@@ -12,9 +12,11 @@ use Rattle.lists.specs.Keyed.{allOf, isAt, ascending}
 use Rattle.lists.proofs.Tests.{by-cases, clash, both}
 use Rattle.lists.proofs.Order.{lex-gt, same-true}
 use Rattle.lists.proofs.Keyed.{All, all-map, all-keep, all-put, After, ascend-to}
+use Rattle.version_state.specs.State.{State}
+use Rattle.pins.specs.declared.PinBook.{PinBook}
 use Rattle.pins.specs.declared.Place.{Place}
-use Rattle.pins.specs.Book.{PinEntry, placeKey, byPlace, validPin, hasPlace, pinned}
-use Rattle.pins.specs.Guards.{Guards, guardsBy, isGuarded, mayShow, blocked, smallest, bound}
+use Rattle.pins.specs.Book.{PinEntry, pinsOf, placeKey, byPlace, validPin, Keeps, hasPlace, pinned}
+use Rattle.pins.specs.Guards.{Guards, guardsBy, guardsOf, isGuarded, mayShow, blocked, smallest, bound}
 use Rattle.pins.specs.Counts.{pinsOn, recounted}
 
 smallest-le : (e : ℕ) (l : List PinEntry) → smallest e l ≤ e
@@ -82,23 +84,29 @@ pub bound-read : (e : ℕ) (b : List PinEntry) (p : PinEntry) (l : List PinEntry
 bound-read e b p l s v o = rw s (sym (bound-first e p l (rw s at v) (rw s at o)))
 
 -- the bound does not fall when the epoch rises
-pub bound-rises : (e d : ℕ) (l : List PinEntry) → e ≤ d → bound (guardsBy e l) ≤ bound (guardsBy d l)
-bound-rises e d [] h = h
-bound-rises e d (p ∷ l) h = omega (arith, bound-rises e d l h)
+smallest-rises : (e d : ℕ) (l : List PinEntry) → e ≤ d → smallest e l ≤ smallest d l
+smallest-rises e d [] h = h
+smallest-rises e d (p ∷ l) h = omega (arith, smallest-rises e d l h)
+
+pub bound-rises : (s t : State) (b : PinBook) → s .epoch ≤ t .epoch → bound (guardsOf s b) ≤ bound (guardsOf t b)
+bound-rises s t b h = smallest-rises (s .epoch) (t .epoch) (pinsOf b) h
 
 -- it is the greatest number that is above no pinned epoch and not above the current one
-bound-all : (e : ℕ) (l : List PinEntry) → All (λ (p : PinEntry). smallest e l ≤ p .epoch) l
-bound-all e [] = tt
-bound-all e (p ∷ l) = (omega arith, all-map l (λ q h. omega arith) (bound-all e l))
+smallest-all : (e : ℕ) (l : List PinEntry) → All (λ (p : PinEntry). smallest e l ≤ p .epoch) l
+smallest-all e [] = tt
+smallest-all e (p ∷ l) = (omega arith, all-map l (λ q h. omega arith) (smallest-all e l))
 
-bound-least : (m e : ℕ) (l : List PinEntry) → m ≤ e → All (λ (p : PinEntry). m ≤ p .epoch) l → m ≤ smallest e l
-bound-least m e [] h a = h
-bound-least m e (p ∷ l) h a = let k = a .0 in omega (arith, bound-least m e l h (a .1))
+smallest-least : (m e : ℕ) (l : List PinEntry) → m ≤ e → All (λ (p : PinEntry). m ≤ p .epoch) l → m ≤ smallest e l
+smallest-least m e [] h a = h
+smallest-least m e (p ∷ l) h a = let k = a .0 in omega (arith, smallest-least m e l h (a .1))
 
--- a new count on an epoch that is not below the bound does not lower it
-pub bound-recounted : (e : ℕ) (k : Place) (n : ℕ) (l : List PinEntry) → bound (guardsBy e l) ≤ k .epoch → bound (guardsBy e l) ≤ bound (guardsBy e (recounted k n l))
-bound-recounted e k n l h =
-    bound-least (smallest e l) e (recounted k n l) (smallest-le e l)
+smallest-recounted : (e : ℕ) (k : Place) (n : ℕ) (l : List PinEntry) → smallest e l ≤ k .epoch → smallest e l ≤ smallest e (recounted k n l)
+smallest-recounted e k n l h =
+    smallest-least (smallest e l) e (recounted k n l) (smallest-le e l)
     (by-cases (eqb n 0)
-    (λ t. rw t (all-keep (λ (p : PinEntry). smallest e l ≤ p .epoch) (λ y. not (isAt byPlace (placeKey k) y)) l (bound-all e l)))
-    (λ t. rw t (all-put byPlace (λ (p : PinEntry). smallest e l ≤ p .epoch) (pinsOn k n) l h (bound-all e l))))
+    (λ t. rw t (all-keep (λ (p : PinEntry). smallest e l ≤ p .epoch) (λ y. not (isAt byPlace (placeKey k) y)) l (smallest-all e l)))
+    (λ t. rw t (all-put byPlace (λ (p : PinEntry). smallest e l ≤ p .epoch) (pinsOn k n) l h (smallest-all e l))))
+
+-- a book with a new count on an epoch that is not below the bound does not lower it
+pub bound-recounted : (s : State) (b b′ : PinBook) (k : Place) (n : ℕ) → Keeps b′ (recounted k n (pinsOf b)) → bound (guardsOf s b) ≤ k .epoch → bound (guardsOf s b) ≤ bound (guardsOf s b′)
+bound-recounted s b b′ k n h m = rw (h .pins) (smallest-recounted (s .epoch) k n (pinsOf b) m)

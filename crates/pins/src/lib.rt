@@ -108,7 +108,7 @@ impl PinBook {
     }
 
     // Internal, as is what follows: the count is within the array. Whether the epoch is pinned.
-    pub fn holds(self, epoch: u32) -> bool
+    pub fn is_pinned(self, epoch: u32) -> bool
         requires { ⌜ self .count ≤ mostPinned ⌝ }
         ensures { λ r. ⌜ r ≡ pinned epoch (pinsOf self) ⌝ }
     {
@@ -132,7 +132,7 @@ impl PinBook {
         if epoch == current {
             return true;
         }
-        self.holds(epoch)
+        self.is_pinned(epoch)
     }
 
     // The book has passed 28. The epoch up to which a vacuum lets go: the first of an ascending book is the smallest.

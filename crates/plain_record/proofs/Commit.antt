@@ -15,9 +15,8 @@ use Rattle.ids.specs.Results.{Result, refused, given}
 use Rattle.manifest.specs.Operations.{Operation}
 use Rattle.frames.specs.Frames.{frameOf}
 use Rattle.version_state.specs.State.{State, pairsAt, vectorsAt}
-use Rattle.pins.specs.Book.{pinsOf}
 use Rattle.pins.specs.Guards.{guardsOf, bound}
-use Rattle.pins.proofs.Bound.{bound-le}
+use Rattle.pins.proofs.Bound.{bound-le, bound-rises}
 use Rattle.pins.proofs.Books.{book-later}
 use Rattle.commit.specs.Commit.{commitOf}
 use Rattle.commit.proofs.Sounds.{commit-sound}
@@ -73,17 +72,26 @@ module _ (w : World) (r : Record) (i : Inv w r) (z : ℕ) (os : List Operation) 
   vectors-late : (d : ℕ) → w .manager .inner .epoch + 1 ≤ d → vectorsAt d (heldBy n) ≡ vectorsAt (w .manager .inner .epoch + 1) (heldBy n)
   vectors-late d = subst (λ (e : ℕ). e ≤ d → vectorsAt d (heldBy n) ≡ vectorsAt e (heldBy n)) epoch-after (later-vectors (n .inner) d sound-after)
 
-  pairs-after : (d : ℕ) → bound (guardsOf (heldBy n) (w .book)) ≤ d → pairsAt d (heldBy n) ≡ setsAt d (counted (r .place) os (r .whole)) .pairs
+  abbrev low : ℕ
+  low = bound (guardsOf (heldBy (w .manager)) (w .book))
+
+  abbrev high : ℕ
+  high = bound (guardsOf (heldBy n) (w .book))
+
+  rises : low ≤ high
+  rises = bound-rises (heldBy (w .manager)) (heldBy n) (w .book) (omega (arith, epoch-after))
+
+  pairs-after : (d : ℕ) → high ≤ d → pairsAt d (heldBy n) ≡ setsAt d (counted (r .place) os (r .whole)) .pairs
   pairs-after d q =
       shows-on (λ d. pairsAt d (heldBy (w .manager))) (λ d. pairsAt d (heldBy n)) (λ (z : Sets). z .pairs)
-      (r .whole .past) (r .whole .now) (applyAll os (r .whole .now)) (w .manager .inner .epoch) (pinsOf (w .book))
-      (i .epoch) (i .pairs) pairs-old pairs-late (ap (λ (z : Sets). z .pairs) sets-after) d (rw epoch-after at q)
+      (r .whole .past) (r .whole .now) (applyAll os (r .whole .now)) (w .manager .inner .epoch) low high
+      rises (i .epoch) (i .pairs) pairs-old pairs-late (ap (λ (z : Sets). z .pairs) sets-after) d q
 
-  vectors-after : (d : ℕ) → bound (guardsOf (heldBy n) (w .book)) ≤ d → vectorsAt d (heldBy n) ≡ setsAt d (counted (r .place) os (r .whole)) .vectors
+  vectors-after : (d : ℕ) → high ≤ d → vectorsAt d (heldBy n) ≡ setsAt d (counted (r .place) os (r .whole)) .vectors
   vectors-after d q =
       shows-on (λ d. vectorsAt d (heldBy (w .manager))) (λ d. vectorsAt d (heldBy n)) (λ (z : Sets). z .vectors)
-      (r .whole .past) (r .whole .now) (applyAll os (r .whole .now)) (w .manager .inner .epoch) (pinsOf (w .book))
-      (i .epoch) (i .vectors) vectors-old vectors-late (ap (λ (z : Sets). z .vectors) sets-after) d (rw epoch-after at q)
+      (r .whole .past) (r .whole .now) (applyAll os (r .whole .now)) (w .manager .inner .epoch) low high
+      rises (i .epoch) (i .vectors) vectors-old vectors-late (ap (λ (z : Sets). z .vectors) sets-after) d q
 
   waiting-after : waitingIn (heldBy n) ≡ waitingOf (counted (r .place) os (r .whole))
   waiting-after =

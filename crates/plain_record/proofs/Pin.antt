@@ -54,8 +54,7 @@ module _ (w : World) (r : Record) (t : Told) (l : List (List ℕ)) (v : World) (
   stands-pinned k =
       let s = heldBy (w .manager) in
       let e : pinsOf (d .book) ≡ onePin (epochOf (r .whole)) (r .whole .pinned) = k .pins ∙ with-pin epoch (pinsOf (w .book)) ∙ ap₂ onePin (i .epoch) (i .pins) in
-      let h : bound (guardsOf s (w .book)) ≤ bound (guardsOf s (d .book)) =
-      rw (k .pins) (bound-recounted epoch (placeOn epoch) (pinsAt (placeOn epoch) (pinsOf (w .book)) + 1) (pinsOf (w .book)) (bound-le (guardsOf s (w .book)))) in
+      let h = bound-recounted s (w .book) (d .book) (placeOn epoch) (pinsAt (placeOn epoch) (pinsOf (w .book)) + 1) k (bound-le (guardsOf s (w .book))) in
       stands-pins (heldBy (w .manager)) (w .book) (d .book) (w .file) (onePin (epochOf (r .whole)) (r .whole .pinned)) (r .whole) (stands-of w r i)
       (pin-laws .pin (w .manager) (w .book) (d .answer) (d .book) (d .says) (i .book)) e h
 

@@ -2,7 +2,7 @@
 use mathlib.Core.Path.{_≡_, refl, sym, ap, subst, _∙_}
 use mathlib.Core.Bool.{true, cond}
 use mathlib.Core.List.{List, [], _∷_}
-use Prim.Native.Nat.{ℕ, _+_, _-_, _≤_}
+use Prim.Native.Nat.{ℕ, _+_, _-_}
 use native.Mathlib.Omega.{arith}
 use lib.Dec.{leb}
 use borrow.Author.Tests.{eq-eqb, ne-eqb, leb-true, leb-false, not-false}
@@ -12,7 +12,7 @@ use Rattle.ids.specs.declared.refusal.Verdict.the-variants.{Accepted}
 use Rattle.ids.specs.Answers.{Told}
 use Rattle.ids.proofs.Verdicts.{none-judged}
 use Rattle.pins.specs.Book.{PinEntry, pinsOf, placeOn, Keeps, hasPlace}
-use Rattle.pins.specs.Guards.{guardsOf, bound}
+use Rattle.pins.specs.Guards.{guardsOf}
 use Rattle.pins.specs.Counts.{pinsAt, leftOn, withoutPin}
 use Rattle.pins.proofs.Bound.{bound-guarded, held-pinned, bound-recounted}
 use Rattle.version_manager.specs.Managers.{heldBy}
@@ -44,8 +44,7 @@ module _ (w : World) (r : Record) (t : Told) (l : List (List ℕ)) (v : World) (
   stands-unpinned on k =
       let s = heldBy (w .manager) in
       let q : pinsOf (d .book) ≡ oneLess e (r .whole .pinned) = k .pins ∙ without-pin e pinsHeld ∙ ap (oneLess e) (i .pins) in
-      let h : bound (guardsOf s (w .book)) ≤ bound (guardsOf s (d .book)) =
-      rw (k .pins) (bound-recounted epoch (placeOn e) (leftOn (placeOn e) pinsHeld) pinsHeld (bound-guarded (guardsOf s (w .book)) e (held-pinned (placeOn e) pinsHeld on))) in
+      let h = bound-recounted s (w .book) (d .book) (placeOn e) (leftOn (placeOn e) pinsHeld) k (bound-guarded (guardsOf s (w .book)) e (held-pinned (placeOn e) pinsHeld on)) in
       stands-pins (heldBy (w .manager)) (w .book) (d .book) (w .file) (oneLess e (r .whole .pinned)) (r .whole) (stands-of w r i)
       (pin-laws .unpin (w .manager) e (w .book) (d .answer) (d .book) (d .says) (i .book)) q h
 

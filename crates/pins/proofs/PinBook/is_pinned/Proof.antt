@@ -1,4 +1,4 @@
--- `pins::PinBook::holds` meets its contract. Assumes nothing.
+-- `pins::PinBook::is_pinned` meets its contract. Assumes nothing.
 use mathlib.Core.Path.{_≡_, refl, sym, ap, _∙_}
 use mathlib.Core.Bool.{Bool}
 use mathlib.Core.List.{[]}
@@ -11,8 +11,8 @@ use Rattle.lists.specs.Keyed.{anyOf}
 use Rattle.lists.proofs.Places.{known}
 use Rattle.lists.proofs.Views.{seen-end, any-here, any-next}
 use Rattle.pins.specs.Book.{PinEntry, mostPinned, pinEntry, pinsOf, pinned}
-use Rattle.pins.proofs.PinBook.holds.Statement.{statement}
-use Rattle.pins.proofs.PinBook.holds.Tie as tie
+use Rattle.pins.proofs.PinBook.is_pinned.Statement.{statement}
+use Rattle.pins.proofs.PinBook.is_pinned.Tie as tie
 
 abbrev isOn : ℕ → PinEntry → Bool
 isOn e p = eqb (p .epoch) e
@@ -61,8 +61,8 @@ returns-2 c =
     let e : drop (c .before .loop .i) (pinsOf (a .t1)) ≡ [] = seen-end pinEntry (a .t1 .items) (a .t1 .count) (c .before .loop .i) (c .loop-test .left) (inv .1) in
     sym (inv .2 ∙ ap (anyOf (isOn (a .epoch))) e)
 
-pub holds-spec : {M : Type 1} → statement M
-holds-spec =
+pub is-pinned-spec : {M : Type 1} → statement M
+is-pinned-spec =
     tie.close
     (tie.spec
     Inv-loop
