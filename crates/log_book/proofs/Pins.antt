@@ -9,7 +9,7 @@ use Rattle.ids.specs.declared.refusal.Verdict.{Verdict}
 use Rattle.ids.specs.declared.refusal.Verdict.the-variants.{Refused}
 use Rattle.ids.specs.Answers.{told}
 use Rattle.version_state.specs.State.{State}
-use Rattle.pins.specs.Book.{PinEntry, byEpoch, validPin}
+use Rattle.pins.specs.Book.{PinEntry, byPlace, validPin}
 use Rattle.pins.proofs.Facts.{book-good}
 use Rattle.version_manager.specs.declared.Opened.{Opened}
 use Rattle.version_manager.specs.Managers.{FreshSays}
@@ -27,7 +27,7 @@ fresh-refused r f =
     (record {
       fits = f .book .fits;
       valid = subst (λ (l : List PinEntry). allOf (validPin (current (r .manager))) l ≡ true) q refl;
-      ordered = subst (λ (l : List PinEntry). ascending byEpoch l ≡ true) q refl;
+      ordered = subst (λ (l : List PinEntry). ascending byPlace l ≡ true) q refl;
     }))
     (eq-eqb (current (r .manager)) 0 (ap (λ (t : State). t .epoch) (f .manager .state))))
 

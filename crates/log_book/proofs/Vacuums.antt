@@ -18,7 +18,8 @@ use Rattle.version_state.specs.Sound.{leftBehind}
 use Rattle.version_state.proofs.Facts.{Ordered, of-sound}
 use Rattle.operations.specs.Steps.{stepOf}
 use Rattle.pins.specs.declared.PinBook.{PinBook}
-use Rattle.pins.specs.Book.{PinEntry, byEpoch, validPin, Keeps, badBook, bound}
+use Rattle.pins.specs.Book.{PinEntry, byPlace, validPin, Keeps, badBook}
+use Rattle.pins.specs.Guards.{guardsBy, bound}
 use Rattle.pins.proofs.Facts.{book-good}
 use Rattle.vacuum.specs.LetGo.{vacuumList, vacuumed}
 use Rattle.vacuum.specs.Says.{boundOf, listOf}
@@ -40,10 +41,10 @@ record Good (s : State) : Type 0 where
 record Computed (s : State) (l : List PinEntry) (es : List Entry) (t : State) : Type 0 where
   good : Good s
   valid : allOf (validPin (s .epoch)) l ≡ true
-  rising : ascending byEpoch l ≡ true
-  list : vacuumList (bound (s .epoch) l) s ≡ es
+  rising : ascending byPlace l ≡ true
+  list : vacuumList (bound (guardsBy (s .epoch) l)) s ≡ es
   fewer : ltb 1 (length es) ≡ false
-  leaves : vacuumed (bound (s .epoch) l) s ≡ t
+  leaves : vacuumed (bound (guardsBy (s .epoch) l)) s ≡ t
 
 module _ (s : State) (m : VersionManager) (h : Manages m s) where
   passes : Good s → badManager m ≡ false
@@ -53,20 +54,20 @@ module _ (s : State) (m : VersionManager) (h : Manages m s) where
       (record { fits = h .fits; manifest = k .manifest; names = k .names; ordered = k .ordered; below = k .below; pairs = k .pairs; vectors = k .vectors; whole = k .whole })
 
   module _ (l : List PinEntry) (b : PinBook) (k : Keeps b l) where
-    good-pins : allOf (validPin (s .epoch)) l ≡ true → ascending byEpoch l ≡ true → badBook (heldBy m .epoch) b ≡ false
+    good-pins : allOf (validPin (s .epoch)) l ≡ true → ascending byPlace l ≡ true → badBook (heldBy m .epoch) b ≡ false
     good-pins v r =
         book-good (heldBy m .epoch) b
         (record {
           fits = k .fits;
           valid = ap₂ (λ (t : State) (p : List PinEntry). allOf (validPin (t .epoch)) p) (h .state) (k .pins) ∙ v;
-          ordered = ap (λ (p : List PinEntry). ascending byEpoch p) (k .pins) ∙ r;
+          ordered = ap (λ (p : List PinEntry). ascending byPlace p) (k .pins) ∙ r;
         })
 
-    is-list : listOf (heldBy m) b ≡ vacuumList (bound (s .epoch) l) s
-    is-list = ap₂ (λ (t : State) (p : List PinEntry). vacuumList (bound (t .epoch) p) t) (h .state) (k .pins)
+    is-list : listOf (heldBy m) b ≡ vacuumList (bound (guardsBy (s .epoch) l)) s
+    is-list = ap₂ (λ (t : State) (p : List PinEntry). vacuumList (bound (guardsBy (t .epoch) p)) t) (h .state) (k .pins)
 
-    is-left : vacuumed (boundOf (heldBy m) b) (heldBy m) ≡ vacuumed (bound (s .epoch) l) s
-    is-left = ap₂ (λ (t : State) (p : List PinEntry). vacuumed (bound (t .epoch) p) t) (h .state) (k .pins)
+    is-left : vacuumed (boundOf (heldBy m) b) (heldBy m) ≡ vacuumed (bound (guardsBy (s .epoch) l)) s
+    is-left = ap₂ (λ (t : State) (p : List PinEntry). vacuumed (bound (guardsBy (t .epoch) p)) t) (h .state) (k .pins)
 
     lists : (es : List Entry) (t : State) → Computed s l es t → Lists m b es t
     lists es t c =

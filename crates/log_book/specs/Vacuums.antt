@@ -9,14 +9,14 @@ use Rattle.snapshot.specs.Entries.{Entry}
 use Rattle.version_state.specs.State.{State, start}
 use Rattle.commit.specs.Commit.{commitOf}
 use Rattle.pins.specs.declared.PinBook.{PinBook}
-use Rattle.pins.specs.Book.{PinEntry, Keeps}
+use Rattle.pins.specs.Book.{PinEntry, placeOn, Keeps}
+use Rattle.pins.specs.Counts.{withPin, withoutPin}
 use Rattle.vacuum.specs.LetGo.{vacuumed}
 use Rattle.vacuum.specs.Says.{boundOf, listOf}
 use Rattle.version_manager.specs.declared.VersionManager.{VersionManager}
 use Rattle.version_manager.specs.Managers.{heldBy, badManager, Manages}
 use Rattle.version_manager.specs.Draw.{rowsetDrawn}
 use Rattle.version_manager.specs.Vacuum.{vacuumVerdict}
-use Rattle.pinning.specs.Counts.{withPin, withoutPin}
 use Rattle.log_book.specs.Manifests.{slots, table}
 
 -- the pair (0, 0), added at epoch 1, and then deleted at 2
@@ -57,13 +57,13 @@ Vacuum s l es t = (m : VersionManager) (b : PinBook) → Manages m s → Keeps b
 pub record VacuumCases : Type 0 where
   -- "Pair at epoch 1 pinned, deleted at 2": a rowset id is drawn, and a pin stands between two commits
   pub adds : commitOf (rowsetDrawn start) 2 (createTable 0 7 slots ∷ addRowset 0 0 ∷ []) 22 ≡ given one
-  pub pins : withPin 1 [] ≡ on1
+  pub pins : withPin (placeOn 1) [] ≡ on1
   pub deletes : commitOf one 1 (deleteRowset 0 0 ∷ []) 10 ≡ given two
   -- "vacuum lists none; after unpin it, then none."
   pub pinned : Vacuum two on1 [] two
-  pub unpins : withoutPin 1 on1 ≡ []
+  pub unpins : withoutPin (placeOn 1) on1 ≡ []
   pub unpinned : Vacuum two [] (pair ∷ []) cleared
   pub then : Vacuum cleared [] [] cleared
   -- "Pinned at 2 only: listed."
-  pub pinsLater : withPin 2 [] ≡ on2
+  pub pinsLater : withPin (placeOn 2) [] ≡ on2
   pub ownEpoch : Vacuum two on2 (pair ∷ []) cleared

@@ -1,4 +1,3 @@
 -- The definitions that this crate's contracts cite. Assumes nothing.
-pub mod Counts
 pub mod Says
 pub mod Laws

@@ -11,7 +11,8 @@ use Rattle.ids.specs.declared.refusal.Verdict.the-variants.{Accepted, Refused}
 use Rattle.ids.specs.Verdicts.{Rule, _⇒_, judged}
 use Rattle.ids.specs.Answers.{Told, told}
 use Rattle.pins.specs.declared.PinBook.{PinBook}
-use Rattle.pins.specs.Book.{PinEntry, pinsOf, Keeps, badBook, pinned}
+use Rattle.pins.specs.Book.{PinEntry, pinsOf, placeOn, Keeps, badBook, hasPlace, pinned}
+use Rattle.pins.specs.Counts.{pinsFull, placesFull, withPin, withoutPin}
 use Rattle.vacuum.specs.Says.{listOf}
 use Rattle.version_manager.specs.declared.VersionManager.{VersionManager}
 use Rattle.version_manager.specs.Managers.{heldBy, badManager}
@@ -19,7 +20,6 @@ use Rattle.pinning.specs.declared.PinAnswer.{PinAnswer}
 use Rattle.pinning.specs.declared.PinAnswer.the-variants as pin
 use Rattle.pinning.specs.declared.UnpinAnswer.{UnpinAnswer}
 use Rattle.pinning.specs.declared.UnpinAnswer.the-variants as unpin
-use Rattle.pinning.specs.Counts.{pinsFull, epochsFull, withPin, leftOn, withoutPin}
 
 -- the current epoch
 abbrev pub current : VersionManager → ℕ
@@ -36,8 +36,8 @@ pinRules m b =
     (badManager m ⇒ BadManager)
     ∷ (badBook (current m) b ⇒ BadPinBook)
     ∷ (eqb (current m) 0 ⇒ PinAtEpochZero)
-    ∷ (pinsFull (current m) (pinsOf b) ⇒ PinsFull)
-    ∷ (epochsFull (current m) (pinsOf b) ⇒ PinnedEpochsFull)
+    ∷ (pinsFull (placeOn (current m)) (pinsOf b) ⇒ PinsFull)
+    ∷ (placesFull (placeOn (current m)) (pinsOf b) ⇒ PinnedEpochsFull)
     ∷ []
 
 abbrev pub pinVerdict : VersionManager → PinBook → Verdict
@@ -50,22 +50,22 @@ pinTold (pin.Refused k) = told (Refused k) []
 -- pin of m, lent the book b, answers a and leaves b′ there
 pub record PinSays (m : VersionManager) (b : PinBook) (a : PinAnswer) (b′ : PinBook) : Type 0 where
   pub answer : pinTold a ≡ told (pinVerdict m b) (current m ∷ [])
-  pub book : BookAfter (pinVerdict m b) b (withPin (current m) (pinsOf b)) b′
+  pub book : BookAfter (pinVerdict m b) b (withPin (placeOn (current m)) (pinsOf b)) b′
 
 -- 29, 28, 24
 abbrev pub unpinRules : VersionManager → ℕ → PinBook → List Rule
 unpinRules m e b =
     (badManager m ⇒ BadManager)
     ∷ (badBook (current m) b ⇒ BadPinBook)
-    ∷ (not (pinned e (pinsOf b)) ⇒ EpochNotPinned)
+    ∷ (not (hasPlace (placeOn e) (pinsOf b)) ⇒ EpochNotPinned)
     ∷ []
 
 abbrev pub unpinVerdict : VersionManager → ℕ → PinBook → Verdict
 unpinVerdict m e b = judged (unpinRules m e b)
 
--- a vacuum is due: the count of epoch e reached zero, and e is not the current one
+-- a vacuum is due: epoch e is pinned no more, and not the current one
 abbrev pub isDue : VersionManager → ℕ → PinBook → Bool
-isDue m e b = eqb (leftOn e (pinsOf b)) 0 && not (eqb e (current m))
+isDue m e b = not (pinned e (withoutPin (placeOn e) (pinsOf b))) && not (eqb e (current m))
 
 -- 1 for yes, 0 for no
 abbrev pub flag : Bool → ℕ
@@ -86,4 +86,4 @@ readyOf (unpin.Refused k) = 0
 pub record UnpinSays (m : VersionManager) (e : ℕ) (b : PinBook) (a : UnpinAnswer) (b′ : PinBook) : Type 0 where
   pub answer : unpinTold a ≡ told (unpinVerdict m e b) (flag (isDue m e b) ∷ readyOf a ∷ [])
   pub ready : readyOf a ≤ length (listOf (heldBy m) b′)
-  pub book : BookAfter (unpinVerdict m e b) b (withoutPin e (pinsOf b)) b′
+  pub book : BookAfter (unpinVerdict m e b) b (withoutPin (placeOn e) (pinsOf b)) b′

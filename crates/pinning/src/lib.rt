@@ -4,7 +4,10 @@ use ids::limits::MOST_HELD;
 use ids::refusal::Refusal;
 use ids::refusal::Verdict;
 use pins::MOST_PINNED;
+use pins::MOST_PINS;
 use pins::PinBook;
+use pins::Place;
+use pins::counts;
 use version_manager::VersionManager;
 ghost use mathlib.Core.Path.{_≡_};
 ghost use mathlib.Core.Bool.{cond, not, _&&_};
@@ -18,16 +21,11 @@ ghost use Rattle.ids.specs.declared.refusal.Refusal.the-variants.{BadManager, B
 ghost use Rattle.ids.specs.Verdicts.{_⇒_, judged};
 ghost use Rattle.columns.specs.Rows.{rows, column};
 ghost use Rattle.snapshot.specs.Entries.{goneAt};
-ghost use Rattle.pins.specs.Book.{pinsOf, mostPinned, badBook, GoodBook, bound};
+ghost use Rattle.pins.specs.Book.{pinsOf, mostPinned, mostPins, badBook, GoodBook};
+ghost use Rattle.pins.specs.Guards.{guardsBy, bound};
 ghost use Rattle.version_manager.specs.Managers.{badManager};
-ghost use Rattle.pinning.specs.Counts.{mostPins};
 ghost use Rattle.pinning.specs.Says.{current, PinSays, UnpinSays};
 ghost use Rattle.pinning.specs.Laws.{PinLaws};
-
-mod counts;
-
-// The pins that an epoch may have.
-const MOST_PINS: u16 = 65535;
 
 pub enum PinAnswer {
     // The epoch that is pinned.
@@ -51,7 +49,7 @@ pub struct UnpinStep {
     pub answer: UnpinAnswer,
 }
 
-// A pin and an unpin change one epoch's count; a book that passes 28 passes it after them, and when the epoch rises.
+// A book that passes 28 passes it after a pin or an unpin.
 pub fn holds()
     ensures { λ _. ⌜ PinLaws ⌝ }
 {}
@@ -121,15 +119,16 @@ pub fn after_pin(manager: VersionManager, book: PinBook) -> PinStep
         };
     }
     let epoch = manager.inner.epoch;
-    let place = counts::find(book, epoch);
-    let full = judge_pin(epoch, place.pins, book.count);
+    let place = Place { epoch };
+    let found = counts::find(book, place);
+    let full = judge_pin(epoch, found.pins, book.count);
     if let Verdict::Refused(why) = full {
         return PinStep {
             book,
             answer: PinAnswer::Refused(why),
         };
     }
-    let next = counts::recounted(book, place, epoch, place.pins + 1);
+    let next = counts::recounted(book, found, place, found.pins + 1);
     PinStep {
         book: next,
         answer: PinAnswer::Pinned(epoch),
@@ -140,7 +139,7 @@ pub fn after_pin(manager: VersionManager, book: PinBook) -> PinStep
 // and else 0.
 fn ready(deleted: &[u32; MOST_HELD], count: usize, current: u32, book: PinBook, due: bool) -> usize
     requires { ⌜ (count ≤ mostHeld) × GoodBook current book ⌝ }
-    ensures { λ r. ⌜ r ≡ cond due (length (keep (goneAt (bound current (pinsOf book))) (rows (column (now (deleted .entry))) count))) 0 ⌝ }
+    ensures { λ r. ⌜ r ≡ cond due (length (keep (goneAt (bound (guardsBy current (pinsOf book)))) (rows (column (now (deleted .entry))) count))) 0 ⌝ }
 {
     if !due {
         return 0;
@@ -169,16 +168,17 @@ pub fn after_unpin(manager: VersionManager, book: PinBook, epoch: u32) -> UnpinS
             answer: UnpinAnswer::Refused(why),
         };
     }
-    let place = counts::find(book, epoch);
-    if place.pins == 0 {
+    let place = Place { epoch };
+    let found = counts::find(book, place);
+    if found.pins == 0 {
         return UnpinStep {
             book,
             answer: UnpinAnswer::Refused(Refusal::EpochNotPinned),
         };
     }
     let current = manager.inner.epoch;
-    let left = place.pins - 1;
-    let next = counts::recounted(book, place, epoch, left);
+    let left = found.pins - 1;
+    let next = counts::recounted(book, found, place, left);
     let due = is_due(epoch, current, left);
     // One column is moved out: lending it from the manager would keep a copy of the whole.
     let rowsets = manager.inner.rowsets;

@@ -2,3 +2,5 @@
 pub mod Bound
 pub mod Facts
 pub mod Rising
+pub mod Counting
+pub mod Books

@@ -1,13 +1,14 @@
--- The pin book: pinned epochs with their counts. Assumes nothing.
+-- The pin book: places for pins, each with its count. Assumes nothing.
 use mathlib.Core.Path.{_≡_}
 use mathlib.Core.Bool.{Bool, true, not, _&&_, _||_}
 use mathlib.Core.List.{List, [], _∷_, map}
-use Prim.Native.Nat.{ℕ, min, _≤_}
+use Prim.Native.Nat.{ℕ, _≤_}
 use lib.Dec.{leb, ltb, eqb}
 use lib.ListN.{take}
 use Rattle.lists.specs.Keyed.{allOf, anyOf, has, ascending}
 use Rattle.pins.specs.declared.Pin.{Pin}
 use Rattle.pins.specs.declared.PinBook.{PinBook}
+use Rattle.pins.specs.declared.Place.{Place}
 
 pub record PinEntry : Type 0 where
   pub epoch : ℕ
@@ -19,11 +20,23 @@ pinEntry p = record { epoch = p .epoch; count = p .count }
 abbrev pub pinsOf : PinBook → List PinEntry
 pinsOf b = map pinEntry (take (b .count) (b .items))
 
-abbrev pub byEpoch : PinEntry → List ℕ
-byEpoch p = p .epoch ∷ []
+-- the place of a book for the pins on an epoch
+abbrev pub placeOn : ℕ → Place
+placeOn e = record { epoch = e }
 
+-- what tells places apart, and their order
+abbrev pub placeKey : Place → List ℕ
+placeKey k = k .epoch ∷ []
+
+abbrev pub byPlace : PinEntry → List ℕ
+byPlace p = placeKey (placeOn (p .epoch))
+
+-- document 01's limits: places at a time, and pins of a place
 abbrev pub mostPinned : ℕ
 mostPinned = 64
+
+abbrev pub mostPins : ℕ
+mostPins = 65535
 
 -- a place of a book at epoch e: a count that is not 0, an epoch that is neither 0 nor above e
 abbrev pub validPin : ℕ → PinEntry → Bool
@@ -31,36 +44,23 @@ validPin e p = ltb 0 (p .count) && (ltb 0 (p .epoch) && leb (p .epoch) e)
 
 -- 28
 abbrev pub badBook : ℕ → PinBook → Bool
-badBook e b = ltb mostPinned (b .count) || not (allOf (validPin e) (pinsOf b) && ascending byEpoch (pinsOf b))
+badBook e b = ltb mostPinned (b .count) || not (allOf (validPin e) (pinsOf b) && ascending byPlace (pinsOf b))
 
 -- the same, as facts: a book that 28 lets pass at epoch e
 pub record GoodBook (e : ℕ) (b : PinBook) : Type 0 where
   pub fits : b .count ≤ mostPinned
   pub valid : allOf (validPin e) (pinsOf b) ≡ true
-  pub ordered : ascending byEpoch (pinsOf b) ≡ true
+  pub ordered : ascending byPlace (pinsOf b) ≡ true
 
 -- the book stands for the pins l
 pub record Keeps (b : PinBook) (l : List PinEntry) : Type 0 where
   pub fits : b .count ≤ mostPinned
   pub pins : pinsOf b ≡ l
 
--- the epoch is pinned
+-- the place is held: the list has this very one
+abbrev pub hasPlace : Place → List PinEntry → Bool
+hasPlace k l = has byPlace (placeKey k) l
+
+-- the epoch is pinned: some place has it
 abbrev pub pinned : ℕ → List PinEntry → Bool
-pinned e l = has byEpoch (e ∷ []) l
-
--- an epoch that keeps later deletions from being let go
-abbrev pub guards : ℕ → List PinEntry → Bool
-guards e l = pinned e l
-
--- pairs and vectors may be shown of the current epoch e and of those that are guarded
-abbrev pub mayShow : ℕ → List PinEntry → ℕ → Bool
-mayShow e l d = eqb d e || guards d l
-
--- a deletion at epoch w is kept: a guarded epoch is below w
-abbrev pub blocked : ℕ → List PinEntry → Bool
-blocked w l = anyOf (λ p. ltb (p .epoch) w) l
-
--- the epoch up to which a vacuum lets go: the smallest pinned one, or the current one e
-abbrev pub bound : ℕ → List PinEntry → ℕ
-bound e [] = e
-bound e (p ∷ l) = min (p .epoch) (bound e l)
+pinned e l = anyOf (λ p. eqb (p .epoch) e) l

@@ -21,18 +21,19 @@ use Rattle.snapshot.specs.Entries.{Entry, byIds, byDeletion, waits}
 use Rattle.snapshot.specs.Tables.{TableEntry}
 use Rattle.version_state.specs.State.{State, pairsAt, vectorsAt}
 use Rattle.version_state.proofs.Facts.{sound-of}
-use Rattle.pins.specs.Book.{pinsOf, badBook, mayShow, bound}
+use Rattle.pins.specs.Book.{badBook}
+use Rattle.pins.specs.Guards.{Guards, guardsOf, mayShow, bound}
 use Rattle.pins.proofs.Bound.{bound-shows}
 use Rattle.show.specs.Names.{padded, namesRun}
 use Rattle.show.specs.Says.{shownField, showRules, unseen, notCurrent, showTablesRules}
 use Rattle.version_manager.specs.Managers.{heldBy, badManager}
 use Rattle.version_manager.specs.Show.{showVerdict}
 use Rattle.plain_record.specs.Sets.{Table}
-use Rattle.plain_record.specs.Plain.{Waiting, Plain, epochOf, Record}
+use Rattle.plain_record.specs.Plain.{Waiting, Plain, epochOf, guardsIn, Record}
 use Rattle.plain_record.specs.Run.{port, World}
 use Rattle.plain_record.specs.Shows.{nineAlone, namesOf, ShowsPairs, ShowsVectors, ShowsTables}
 use Rattle.plain_record.specs.Claim.{waitingIn, waitingOf, pairsOf, differ, Agrees}
-use Rattle.plain_record.proofs.Invariant.{plainTable, Inv}
+use Rattle.plain_record.proofs.Invariant.{plainTable, Inv, guards-alike}
 
 -- three rules that do not hold are passed over
 past-three : (a b c : Bool) (i j k : Refusal) (s : Bool) (q : Refusal) → a ≡ false → b ≡ false → c ≡ false
@@ -43,7 +44,7 @@ module _ (w : World) (good : badManager (w .manager) ≡ false) (book : badBook 
   nine : (u s : Bool) → u ≡ false → showVerdict (w .manager) (showRules (heldBy (w .manager)) (w .book) u s) ≡ nineAlone s
   nine u s h = past-three (badManager (w .manager)) (badBook (w .manager .inner .epoch) (w .book)) u _ _ _ s _ good book h
 
-  module _ (d : ℕ) (seen : mayShow (w .manager .inner .epoch) (pinsOf (w .book)) d ≡ true) where
+  module _ (d : ℕ) (seen : mayShow (guardsOf (heldBy (w .manager)) (w .book)) d ≡ true) where
     seen-not : unseen (heldBy (w .manager)) (w .book) d ≡ false
     seen-not = ap not seen
 
@@ -177,8 +178,8 @@ agree w r i =
       next = i .next;
     }
   where
-    shows : (d : ℕ) → mayShow (epochOf (r .whole)) (pinsOf (w .book)) d ≡ true → mayShow (w .manager .inner .epoch) (pinsOf (w .book)) d ≡ true
-    shows d h = ap (λ (e : ℕ). mayShow e (pinsOf (w .book)) d) (i .epoch) ∙ h
+    shows : (d : ℕ) → mayShow (guardsIn (r .whole)) d ≡ true → mayShow (guardsOf (heldBy (w .manager)) (w .book)) d ≡ true
+    shows d h = ap (λ (g : Guards). mayShow g d) (guards-alike w r i) ∙ h
 
-    seen : (d : ℕ) → mayShow (epochOf (r .whole)) (pinsOf (w .book)) d ≡ true → bound (w .manager .inner .epoch) (pinsOf (w .book)) ≤ d
-    seen d h = bound-shows (w .manager .inner .epoch) d (pinsOf (w .book)) (shows d h)
+    seen : (d : ℕ) → mayShow (guardsIn (r .whole)) d ≡ true → bound (guardsOf (heldBy (w .manager)) (w .book)) ≤ d
+    seen d h = bound-shows (guardsOf (heldBy (w .manager)) (w .book)) d (shows d h)

@@ -13,8 +13,9 @@ use Rattle.ids.specs.Results.{Result, refused, given}
 use Rattle.manifest.specs.Operations.{Operation}
 use Rattle.frames.specs.Frames.{frameOf}
 use Rattle.version_state.specs.State.{State, pairsAt, vectorsAt}
-use Rattle.pins.specs.Book.{pinsOf, bound}
-use Rattle.pins.proofs.Bound.{bound-le}
+use Rattle.pins.specs.Guards.{guardsOf, bound}
+use Rattle.pins.proofs.Bound.{bound-le, bound-rises}
+use Rattle.pins.proofs.Books.{book-later}
 use Rattle.commit.specs.Commit.{commitOf}
 use Rattle.commit.proofs.Sounds.{commit-sound}
 use Rattle.commit.proofs.Older.{older-pairs, older-vectors}
@@ -22,7 +23,6 @@ use Rattle.version_manager.specs.declared.VersionManager.{VersionManager}
 use Rattle.version_manager.specs.declared.Committed.{Committed}
 use Rattle.version_manager.specs.Managers.{heldBy, badManager, Manages}
 use Rattle.version_manager.specs.Commit.{outcomeOf, commitTold, CommitEnds}
-use Rattle.pinning.proofs.Laws.{pin-laws}
 use Rattle.plain_record.specs.Sets.{Sets, applyAll}
 use Rattle.plain_record.specs.Calls.{asCommit}
 use Rattle.plain_record.specs.Plain.{byEpochAndPair, deletions, await, setsAt, counted, idsOf, Record, counts, turn}
@@ -39,7 +39,7 @@ use Rattle.plain_record.proofs.CommitFile.{append-taken, filed-after, t
 -- what the manager shows from now on is the record's last sets
 now-at : (w : World) (r : Record) → Inv w r → (d : ℕ) → w .manager .inner .epoch ≤ d → plainAt d (heldBy (w .manager)) ≡ r .whole .now
 now-at w r i d h =
-    let k = bound-le (w .manager .inner .epoch) (pinsOf (w .book)) in
+    let k = bound-le (guardsOf (heldBy (w .manager)) (w .book)) in
     let q : setsAt d (r .whole) ≡ r .whole .now = shows-now (r .whole .past) (r .whole .now) d (omega (arith, i .epoch)) in
     let p : pairsAt d (heldBy (w .manager)) ≡ r .whole .now .pairs = i .pairs d (omega arith) ∙ ap (λ (z : Sets). z .pairs) q in
     let v : vectorsAt d (heldBy (w .manager)) ≡ r .whole .now .vectors = i .vectors d (omega arith) ∙ ap (λ (z : Sets). z .vectors) q in
@@ -70,17 +70,26 @@ module _ (w : World) (r : Record) (i : Inv w r) (z : ℕ) (os : List Operation) 
   vectors-late : (d : ℕ) → w .manager .inner .epoch + 1 ≤ d → vectorsAt d (heldBy n) ≡ vectorsAt (w .manager .inner .epoch + 1) (heldBy n)
   vectors-late d = subst (λ (e : ℕ). e ≤ d → vectorsAt d (heldBy n) ≡ vectorsAt e (heldBy n)) epoch-after (later-vectors (n .inner) d sound-after)
 
-  pairs-after : (d : ℕ) → bound (n .inner .epoch) (pinsOf (w .book)) ≤ d → pairsAt d (heldBy n) ≡ setsAt d (counted (r .place) os (r .whole)) .pairs
+  abbrev low : ℕ
+  low = bound (guardsOf (heldBy (w .manager)) (w .book))
+
+  abbrev high : ℕ
+  high = bound (guardsOf (heldBy n) (w .book))
+
+  rises : low ≤ high
+  rises = bound-rises (heldBy (w .manager)) (heldBy n) (w .book) (omega (arith, epoch-after))
+
+  pairs-after : (d : ℕ) → high ≤ d → pairsAt d (heldBy n) ≡ setsAt d (counted (r .place) os (r .whole)) .pairs
   pairs-after d q =
       shows-on (λ d. pairsAt d (heldBy (w .manager))) (λ d. pairsAt d (heldBy n)) (λ (z : Sets). z .pairs)
-      (r .whole .past) (r .whole .now) (applyAll os (r .whole .now)) (w .manager .inner .epoch) (pinsOf (w .book))
-      (i .epoch) (i .pairs) pairs-old pairs-late (ap (λ (z : Sets). z .pairs) sets-after) d (rw epoch-after at q)
+      (r .whole .past) (r .whole .now) (applyAll os (r .whole .now)) (w .manager .inner .epoch) low high
+      rises (i .epoch) (i .pairs) pairs-old pairs-late (ap (λ (z : Sets). z .pairs) sets-after) d q
 
-  vectors-after : (d : ℕ) → bound (n .inner .epoch) (pinsOf (w .book)) ≤ d → vectorsAt d (heldBy n) ≡ setsAt d (counted (r .place) os (r .whole)) .vectors
+  vectors-after : (d : ℕ) → high ≤ d → vectorsAt d (heldBy n) ≡ setsAt d (counted (r .place) os (r .whole)) .vectors
   vectors-after d q =
       shows-on (λ d. vectorsAt d (heldBy (w .manager))) (λ d. vectorsAt d (heldBy n)) (λ (z : Sets). z .vectors)
-      (r .whole .past) (r .whole .now) (applyAll os (r .whole .now)) (w .manager .inner .epoch) (pinsOf (w .book))
-      (i .epoch) (i .vectors) vectors-old vectors-late (ap (λ (z : Sets). z .vectors) sets-after) d (rw epoch-after at q)
+      (r .whole .past) (r .whole .now) (applyAll os (r .whole .now)) (w .manager .inner .epoch) low high
+      rises (i .epoch) (i .vectors) vectors-old vectors-late (ap (λ (z : Sets). z .vectors) sets-after) d q
 
   waiting-after : waitingIn (heldBy n) ≡ waitingOf (counted (r .place) os (r .whole))
   waiting-after =
@@ -97,7 +106,7 @@ module _ (w : World) (r : Record) (i : Inv w r) (z : ℕ) (os : List Operation) 
       let m = w .manager .inner in
       record {
         sound = sound-after;
-        book = pin-laws .later (m .epoch) (n .inner .epoch) (w .book) (omega (arith, epoch-after)) (i .book);
+        book = book-later (m .epoch) (n .inner .epoch) (w .book) (omega (arith, epoch-after)) (i .book);
         epoch = omega (arith, epoch-after, i .epoch, length-append (p .past) (p .now ∷ []));
         tables = ap (λ (z : Sets). z .tables) sets-after;
         pairs = pairs-after;

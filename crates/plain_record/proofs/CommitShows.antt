@@ -16,7 +16,6 @@ use Rattle.version_state.specs.State.{stateOf, pairsAt, vectorsAt}
 use Rattle.version_state.specs.Sound.{badInner}
 use Rattle.version_state.proofs.Within.{Within, within-of}
 use Rattle.version_state.proofs.Facts.{sound-of}
-use Rattle.pins.specs.Book.{PinEntry, bound}
 use Rattle.plain_record.specs.Sets.{Sets}
 
 -- The record's past, with one more epoch.
@@ -31,11 +30,6 @@ pub shows-now : (l : List Sets) (y : Sets) (d : ℕ) → length l ≤ d → getD
 shows-now [] y d h = refl
 shows-now (z ∷ l) y zero h = absurd (not-suc-le-zero h)
 shows-now (z ∷ l) y (suc d) h = shows-now l y d (le-of-suc-le-suc h)
-
--- the bound does not fall when the epoch rises
-bound-rise : (e d : ℕ) (l : List PinEntry) → e ≤ d → bound e l ≤ bound d l
-bound-rise e d [] h = h
-bound-rise e d (p ∷ l) h = omega (arith, bound-rise e d l h)
 
 -- an epoch that nothing reaches shows what an earlier one does
 still-shown : (e d : ℕ) (ns : List ℕ) (x : Entry) → e ≤ d → Within e ns x → shownBy d x ≡ shownBy e x
@@ -52,13 +46,13 @@ later-pairs m d g h = still-shows (m .epoch) d _ (stateOf m .pairs) h (all-map (
 pub later-vectors : (m : VersionManagerInner) (d : ℕ) → badInner m ≡ false → m .epoch ≤ d → vectorsAt d (stateOf m) ≡ vectorsAt (m .epoch) (stateOf m)
 later-vectors m d g h = still-shows (m .epoch) d _ (stateOf m .vectors) h (all-map (stateOf m .vectors) (within-of (m .epoch) _) (allOf-all _ (stateOf m .vectors) (sound-of m g .vectors)))
 
--- what a manager shows of each epoch before and after a commit that makes the epoch e + 1, beside g of the record's sets
-module _ {X : Type 0} (was is : ℕ → X) (g : Sets → X) (past : List Sets) (now new : Sets) (e : ℕ) (pins : List PinEntry) where
-  pub shows-on : e ≡ length past → ((d : ℕ) → bound e pins ≤ d → was d ≡ g (getD past d now))
+-- what a manager shows of each epoch before and after a commit that makes the epoch e + 1, beside g of the record's sets: from an epoch
+-- `low` on before it, and so from a later one, `high`, after it
+module _ {X : Type 0} (was is : ℕ → X) (g : Sets → X) (past : List Sets) (now new : Sets) (e low high : ℕ) where
+  pub shows-on : low ≤ high → e ≡ length past → ((d : ℕ) → low ≤ d → was d ≡ g (getD past d now))
       → ((d : ℕ) → d ≤ e → is d ≡ was d) → ((d : ℕ) → e + 1 ≤ d → is d ≡ is (e + 1)) → is (e + 1) ≡ g new
-      → (d : ℕ) → bound (e + 1) pins ≤ d → is d ≡ g (getD (past ++ (now ∷ [])) d new)
-  shows-on q h old late top d b =
-      let r = bound-rise e (e + 1) pins (omega arith) in
+      → (d : ℕ) → high ≤ d → is d ≡ g (getD (past ++ (now ∷ [])) d new)
+  shows-on r q h old late top d b =
       by-cases (leb d e)
       (λ t.
       let k : d ≤ e = leb-true d e t in

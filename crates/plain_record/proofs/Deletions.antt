@@ -1,7 +1,7 @@
 -- Which vacuum lists a deletion: while it waits, the first that meets no pin before its epoch, and afterwards none. Assumes nothing.
 use mathlib.Core.Path.{_≡_, refl, sym, ap, _∙_}
 use mathlib.Core.Bool.{Bool, true, false, cond, not, _&&_, _||_}
-use mathlib.Core.List.{List, [], _∷_, map}
+use mathlib.Core.List.{List, [], _∷_}
 use Prim.Native.Nat.{ℕ, _+_, _<_, _≤_}
 use native.Mathlib.Omega.{arith}
 use lib.Dec.{eqb}
@@ -12,20 +12,21 @@ use Rattle.lists.proofs.Tests.{by-cases, clash, both, join, neither}
 use Rattle.lists.proofs.Order.{same-refl, same-true}
 use Rattle.lists.proofs.Keyed.{All, all-map, all-placed, all-keep, anyOf-placed, none-anyOf}
 use Rattle.manifest.specs.Operations.{Operation, createTable, dropTable, addRowset, deleteRowset, addVector, deleteVector, nextIds}
-use Rattle.pins.specs.Book.{pinsOf}
+use Rattle.pins.specs.Guards.{Guards, guardsOf, blocked}
+use Rattle.version_manager.specs.Managers.{heldBy}
 use Rattle.plain_record.specs.Calls.{Kind, quiet, asCommit, asPin, asUnpin, asVacuum, asReopen, kindOf}
-use Rattle.plain_record.specs.Plain.{Waiting, byEpochAndPair, epochOf, deletions, await, counted, blocked, listed, Record, atStart, turn}
+use Rattle.plain_record.specs.Plain.{Waiting, byEpochAndPair, epochOf, deletions, await, counted, guardsIn, listed, Record, atStart, turn}
 use Rattle.plain_record.specs.Run.{Event, isAccepted, value}
-use Rattle.plain_record.specs.Claim.{pinsIn, pairsOf, differ, AnswerBy, nextRecord, isVacuum, isReopen, vacuums, frees, isIt, another, removes, lists, Listing, NeverListed, ListedFirst, deletionsBy, EachListed, Deletions}
+use Rattle.plain_record.specs.Claim.{pairsOf, differ, AnswerBy, nextRecord, isVacuum, isReopen, vacuums, frees, isIt, another, removes, lists, Listing, NeverListed, ListedFirst, deletionsBy, EachListed, Deletions}
 
 -- every waiting entry comes from a commit before the next call
 pub record Below (r : Record) : Type 0 where
   pub whole : All (λ (x : Waiting). x .commit < r .place) (r .whole .waiting)
   pub torn : All (λ (x : Waiting). x .commit < r .place) (r .torn .waiting)
 
--- at each call the book's pins are the record's, no two deletions that wait have one pair, and a vacuum lists the record's list
+-- at each call the epochs that are kept are the record's, no two deletions that wait have one pair, and a vacuum lists the record's list
 pub record Seen (r : Record) (e : Event) : Type 0 where
-  pub book : map pinsIn (pinsOf (e .before .book)) ≡ r .whole .pinned
+  pub guards : guardsOf (heldBy (e .before .manager)) (e .before .book) ≡ guardsIn (r .whole)
   pub apart : differ (pairsOf (r .whole .waiting)) ≡ true
   pub list : vacuums e ≡ true → e .listed ≡ pairsOf (listed (r .whole))
 
@@ -121,7 +122,7 @@ below-turn (asCommit made missing) true id r b =
 below-turn asPin true id r b = let h = later (r .place) (r .whole .waiting) (b .whole) in record { whole = h; torn = h }
 below-turn (asUnpin e) true id r b = let h = later (r .place) (r .whole .waiting) (b .whole) in record { whole = h; torn = h }
 below-turn asVacuum true id r b =
-    let h = all-keep (λ (x : Waiting). x .commit < r .place + 1) (λ w. blocked (r .whole .pinned) (w .epoch)) (r .whole .waiting) (later (r .place) (r .whole .waiting) (b .whole)) in
+    let h = all-keep (λ (x : Waiting). x .commit < r .place + 1) (λ w. blocked (guardsIn (r .whole)) (w .epoch)) (r .whole .waiting) (later (r .place) (r .whole .waiting) (b .whole)) in
     record { whole = h; torn = h }
 below-turn (asReopen lent) true id r b = record { whole = tt; torn = tt }
 below-turn k false id r b = record { whole = later (r .place) (r .whole .waiting) (b .whole); torn = later (r .place) (r .torn .waiting) (b .torn) }
@@ -173,13 +174,13 @@ module _ (d : Waiting) where
   tagged-turn (asUnpin e) true id r t = let h = t .earlier in record { earlier = omega arith; alike = t .alike }
   tagged-turn asVacuum true id r t =
       let h = t .earlier in
-      record { earlier = omega arith; alike = all-keep (Alike d) (λ w. blocked (r .whole .pinned) (w .epoch)) (r .whole .waiting) (t .alike) }
+      record { earlier = omega arith; alike = all-keep (Alike d) (λ w. blocked (guardsIn (r .whole)) (w .epoch)) (r .whole .waiting) (t .alike) }
   tagged-turn (asReopen lent) true id r t = let h = t .earlier in record { earlier = omega arith; alike = tt }
   tagged-turn k false id r t = let h = t .earlier in record { earlier = omega arith; alike = t .alike }
 
   -- whether it waits after a turn
   waits-turn : (k : Kind) (a : Bool) (id : ℕ) (r : Record) → Tagged d r
-      → waitsIn d (turn k a id r) ≡ cond (isReopen k && a) false (cond (isVacuum k && a) (blocked (r .whole .pinned) (d .epoch) && waitsIn d r) (waitsIn d r))
+      → waitsIn d (turn k a id r) ≡ cond (isReopen k && a) false (cond (isVacuum k && a) (blocked (guardsIn (r .whole)) (d .epoch) && waitsIn d r) (waitsIn d r))
   waits-turn quiet true id r t = refl
   waits-turn (asCommit made missing) true id r t =
       let new = deletions (r .place) (epochOf (r .whole) + 1) 0 (made id (r .whole .now)) in
@@ -187,7 +188,7 @@ module _ (d : Waiting) where
       ∙ ap (λ (b : Bool). b || waitsIn d r) (none-anyOf (isIt d) new (new-other (r .place) (epochOf (r .whole) + 1) (made id (r .whole .now)) (t .earlier)))
   waits-turn asPin true id r t = refl
   waits-turn (asUnpin e) true id r t = refl
-  waits-turn asVacuum true id r t = kept-tag (blocked (r .whole .pinned)) (r .whole .waiting) (t .alike)
+  waits-turn asVacuum true id r t = kept-tag (blocked (guardsIn (r .whole))) (r .whole .waiting) (t .alike)
   waits-turn (asReopen lent) true id r t = refl
   waits-turn quiet false id r t = refl
   waits-turn (asCommit made missing) false id r t = refl
@@ -250,18 +251,18 @@ module _ (d : Waiting) where
 
   -- an event lists it if it waits and the event frees it, in the record and by its own list
   module _ (r : Record) (e : Event) (t : Tagged d r) (s : Seen r e) where
-    frees-and : vacuums e && (not (blocked (r .whole .pinned) (d .epoch)) && waitsIn d r) ≡ frees d e && waitsIn d r
+    frees-and : vacuums e && (not (blocked (guardsIn (r .whole)) (d .epoch)) && waitsIn d r) ≡ frees d e && waitsIn d r
     frees-and =
-        and-move (vacuums e) (not (blocked (r .whole .pinned) (d .epoch))) (waitsIn d r)
-        ∙ ap (λ l. (vacuums e && not (blocked l (d .epoch))) && waitsIn d r) (sym (s .book))
+        and-move (vacuums e) (not (blocked (guardsIn (r .whole)) (d .epoch))) (waitsIn d r)
+        ∙ ap (λ (g : Guards). (vacuums e && not (blocked g (d .epoch))) && waitsIn d r) (sym (s .guards))
 
     removes-is : removes d r e ≡ frees d e && waitsIn d r
-    removes-is = ap (λ (x : Bool). vacuums e && x) (kept-tag (λ n. not (blocked (r .whole .pinned) n)) (r .whole .waiting) (t .alike)) ∙ frees-and
+    removes-is = ap (λ (x : Bool). vacuums e && x) (kept-tag (λ n. not (blocked (guardsIn (r .whole)) n)) (r .whole .waiting) (t .alike)) ∙ frees-and
 
     lists-is : lists d r e ≡ frees d e && waitsIn d r
     lists-is = by-cases (vacuums e)
         (λ v. ap (λ l. vacuums e && (anyOf (same (d .pair)) l && not (another d r))) (s .list v)
-        ∙ ap (λ (x : Bool). vacuums e && x) (listed-tag (λ n. not (blocked (r .whole .pinned) n)) (r .whole .waiting) (t .alike) (s .apart)) ∙ frees-and)
+        ∙ ap (λ (x : Bool). vacuums e && x) (listed-tag (λ n. not (blocked (guardsIn (r .whole)) n)) (r .whole .waiting) (t .alike) (s .apart)) ∙ frees-and)
         (λ v. rw v)
 
     listing : (b : Bool) → frees d e && waitsIn d r ≡ b → Listing b d r e
@@ -288,7 +289,7 @@ module _ (d : Waiting) where
 
   module _ (r : Record) (e : Event) (t : Tagged d r) where
     abbrev keeps : Bool
-    keeps = blocked (r .whole .pinned) (d .epoch)
+    keeps = blocked (guardsIn (r .whole)) (d .epoch)
 
     turned : waitsIn d (nextRecord r e) ≡ cond (reopens e) false (cond (vacuums e) (keeps && waitsIn d r) (waitsIn d r))
     turned = waits-turn (kindOf (e .call)) (isAccepted (e .told)) (value 0 (e .told)) r t
@@ -299,9 +300,9 @@ module _ (d : Waiting) where
     gone-next : waitsIn d r ≡ false → waitsIn d (nextRecord r e) ≡ false
     gone-next h = turned ∙ after-gone (reopens e) (vacuums e) keeps (waitsIn d r) h
 
-    module _ (b : map pinsIn (pinsOf (e .before .book)) ≡ r .whole .pinned) where
+    module _ (b : guardsOf (heldBy (e .before .manager)) (e .before .book) ≡ guardsIn (r .whole)) where
       frees-by : frees d e ≡ vacuums e && not keeps
-      frees-by = ap (λ l. vacuums e && not (blocked l (d .epoch))) b
+      frees-by = ap (λ (g : Guards). vacuums e && not (blocked g (d .epoch))) b
 
       freed-next : frees d e ≡ true → waitsIn d (nextRecord r e) ≡ false
       freed-next f = turned ∙ after-freed (reopens e) (vacuums e) keeps (waitsIn d r) (sym frees-by ∙ f)
@@ -320,8 +321,8 @@ module _ (d : Waiting) where
   first r (e ∷ es) t b n h =
       let m = neither (reopens e) (anyOf reopens es) n in
       let l = listing r e t (b .0) in (
-        λ f. (l true (join f h), never (nextRecord r e) es (tagged-next r e t) (b .1) (freed-next r e t (b .0 .book) f)),
-        λ f. (l false (ap (λ (x : Bool). x && waitsIn d r) f), first (nextRecord r e) es (tagged-next r e t) (b .1) (m .1) (stayed-next r e t (b .0 .book) (m .0) f h)),
+        λ f. (l true (join f h), never (nextRecord r e) es (tagged-next r e t) (b .1) (freed-next r e t (b .0 .guards) f)),
+        λ f. (l false (ap (λ (x : Bool). x && waitsIn d r) f), first (nextRecord r e) es (tagged-next r e t) (b .1) (m .1) (stayed-next r e t (b .0 .guards) (m .0) f h)),
       )
 
 -- a deletion that has just begun to wait

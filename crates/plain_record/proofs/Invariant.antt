@@ -1,5 +1,5 @@
 -- What holds between two calls of every run: the manager, the book and the files beside the record. Assumes nothing.
-use mathlib.Core.Path.{_≡_}
+use mathlib.Core.Path.{_≡_, ap₂}
 use mathlib.Core.Bool.{true, false}
 use mathlib.Core.List.{List, map}
 use Prim.Native.Nat.{ℕ, _≤_}
@@ -9,15 +9,16 @@ use Rattle.ids.specs.Results.{given}
 use Rattle.snapshot.specs.Tables.{TableEntry}
 use Rattle.version_state.specs.State.{State, pairsAt, vectorsAt}
 use Rattle.version_state.specs.Sets.{setsOf}
-use Rattle.pins.specs.Book.{pinsOf, badBook, bound}
+use Rattle.pins.specs.Book.{pinsOf, badBook}
+use Rattle.pins.specs.Guards.{guardsBy, guardsOf, bound}
 use Rattle.version_manager.specs.Managers.{heldBy, badManager}
 use Rattle.replay.specs.Replay.{replayOf}
 use Rattle.recovery.specs.Holds as manifest
 use Rattle.plain_record.specs.Sets.{Table, table, Sets, sets}
 use Rattle.plain_record.specs.Calls.{Kind}
-use Rattle.plain_record.specs.Plain.{Plain, epochOf, setsAt, Record, turn}
+use Rattle.plain_record.specs.Plain.{Plain, epochOf, setsAt, guardsIn, Record, turn}
 use Rattle.plain_record.specs.Run.{World, Event, isAccepted, value}
-use Rattle.plain_record.specs.Claim.{pinsIn, waitingIn, waitingOf, belowNext, AnswerBy}
+use Rattle.plain_record.specs.Claim.{waitingIn, waitingOf, belowNext, AnswerBy}
 
 abbrev pub plainTable : TableEntry → Table
 plainTable t = table (t .table) (t .shape) (t .name)
@@ -47,13 +48,17 @@ pub record Inv (w : World) (r : Record) : Type 0 where
   pub epoch : w .manager .inner .epoch ≡ epochOf (r .whole)
   pub tables : map plainTable (heldBy (w .manager) .tables) ≡ r .whole .now .tables
   -- every epoch from the vacuum's bound on, those to come too
-  pub pairs : (d : ℕ) → bound (w .manager .inner .epoch) (pinsOf (w .book)) ≤ d → pairsAt d (heldBy (w .manager)) ≡ setsAt d (r .whole) .pairs
-  pub vectors : (d : ℕ) → bound (w .manager .inner .epoch) (pinsOf (w .book)) ≤ d → vectorsAt d (heldBy (w .manager)) ≡ setsAt d (r .whole) .vectors
-  pub pins : map pinsIn (pinsOf (w .book)) ≡ r .whole .pinned
+  pub pairs : (d : ℕ) → bound (guardsOf (heldBy (w .manager)) (w .book)) ≤ d → pairsAt d (heldBy (w .manager)) ≡ setsAt d (r .whole) .pairs
+  pub vectors : (d : ℕ) → bound (guardsOf (heldBy (w .manager)) (w .book)) ≤ d → vectorsAt d (heldBy (w .manager)) ≡ setsAt d (r .whole) .vectors
+  pub pins : pinsOf (w .book) ≡ r .whole .pinned
   pub waiting : waitingIn (heldBy (w .manager)) ≡ waitingOf (r .whole)
   pub next : allOf (belowNext (heldBy (w .manager))) (r .whole .added) ≡ true
   pub file : Filed (w .file) (heldBy (w .manager)) (r .whole)
   pub torn : Torn (w .torn) (r .torn)
+
+-- the epochs that are kept are the record's
+pub guards-alike : (w : World) (r : Record) → Inv w r → guardsOf (heldBy (w .manager)) (w .book) ≡ guardsIn (r .whole)
+guards-alike w r i = ap₂ guardsBy (i .epoch) (i .pins)
 
 -- a turn keeps it, and its answer is as claimed; k is the call's kind
 pub record Kept (r : Record) (e : Event) (k : Kind) : Type 0 where

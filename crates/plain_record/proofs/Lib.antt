@@ -12,7 +12,6 @@ pub mod CommitFile
 pub mod Commit
 pub mod Quiet
 pub mod Draw
-pub mod Counts
 pub mod Pin
 pub mod Unpin
 pub mod Vacuum

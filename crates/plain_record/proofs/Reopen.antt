@@ -19,7 +19,8 @@ use Rattle.snapshot.specs.Entries.{Entry, byDeletion}
 use Rattle.version_state.specs.State.{State, stateOf, withEpoch, Hands, pairsAt, vectorsAt}
 use Rattle.version_state.specs.Sets.{setsOf}
 use Rattle.pins.specs.declared.PinBook.{PinBook}
-use Rattle.pins.specs.Book.{pinsOf, badBook, bound, Keeps}
+use Rattle.pins.specs.Book.{badBook, Keeps}
+use Rattle.pins.specs.Guards.{guardsOf, bound}
 use Rattle.version_manager.specs.declared.VersionManager.{VersionManager}
 use Rattle.rewrite.specs.Rewritten.{rewrittenOf, longestRewritten}
 use Rattle.replay.specs.Replay.{stands, replayOf}
@@ -107,7 +108,7 @@ module _ (w : World) (r : Record) (i : Inv w r) (m : VersionManager) (b : PinBoo
   handed-on stale place k e =
       let z = k .state in
       let one : m .inner .epoch ≡ 1 = ap (λ (u : State). u .epoch) z ∙ at-one (w .torn) s (t .replayed) in
-      let low : bound (m .inner .epoch) (pinsOf b) ≡ 1 = rw (e .pins) one in
+      let low : bound (guardsOf (stateOf (m .inner)) b) ≡ 1 = rw (e .pins) one in
       record {
         sound = replay-sound (w .torn) s (m .inner) n (t .replayed) (omega (arith, room)) k;
         book = empty-book (m .inner .epoch) b e;
@@ -119,7 +120,7 @@ module _ (w : World) (r : Record) (i : Inv w r) (m : VersionManager) (b : PinBoo
         vectors = λ d h.
             let g : 1 ≤ d = omega (arith, low, h) in
             ap (vectorsAt d) z ∙ vectors-at (w .torn) s (t .replayed) d g ∙ ap (λ (u : Sets). u .vectors) (t .sets) ∙ sym (ap (λ (u : Sets). u .vectors) (later-sets d (r .torn) g));
-        pins = rw (e .pins);
+        pins = e .pins;
         waiting = ap waitingIn z ∙ nothing-waits (w .torn) s (t .replayed);
         next = next-rise s (stateOf (m .inner)) (r .torn .added) (rw z (record { table = omega arith; rowset = omega arith; vector = omega arith })) (t .next);
         file =

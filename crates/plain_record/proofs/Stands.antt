@@ -13,7 +13,8 @@ use Rattle.ids.specs.Answers.{Told, told}
 use Rattle.version_state.specs.State.{State, pairsAt, vectorsAt}
 use Rattle.version_state.proofs.Facts.{sound-of}
 use Rattle.pins.specs.declared.PinBook.{PinBook}
-use Rattle.pins.specs.Book.{pinsOf, badBook, bound}
+use Rattle.pins.specs.Book.{pinsOf, badBook}
+use Rattle.pins.specs.Guards.{guardsOf, bound}
 use Rattle.pins.proofs.Bound.{bound-le}
 use Rattle.version_manager.specs.declared.VersionManager.{VersionManager}
 use Rattle.version_manager.specs.Managers.{heldBy, badManager}
@@ -21,7 +22,7 @@ use Rattle.plain_record.specs.Sets.{Sets, sets}
 use Rattle.plain_record.specs.Calls.{Kind}
 use Rattle.plain_record.specs.Plain.{Plain, epochOf, setsAt, Record, recorded, accepts, turn}
 use Rattle.plain_record.specs.Run.{World, world, isAccepted, onward}
-use Rattle.plain_record.specs.Claim.{pinsIn, waitingIn, waitingOf, belowNext}
+use Rattle.plain_record.specs.Claim.{waitingIn, waitingOf, belowNext}
 use Rattle.plain_record.proofs.Invariant.{plainTable, plainSets, Filed, Torn, Inv}
 use Rattle.plain_record.proofs.Landed.{landed}
 use Rattle.plain_record.proofs.Refused.{refused-number}
@@ -31,9 +32,9 @@ pub record Stands (s : State) (b : PinBook) (f : List ℕ) (p : Plain) : Type 0 
   pub book : badBook (s .epoch) b ≡ false
   pub epoch : s .epoch ≡ epochOf p
   pub tables : map plainTable (s .tables) ≡ p .now .tables
-  pub pairs : (d : ℕ) → bound (s .epoch) (pinsOf b) ≤ d → pairsAt d s ≡ setsAt d p .pairs
-  pub vectors : (d : ℕ) → bound (s .epoch) (pinsOf b) ≤ d → vectorsAt d s ≡ setsAt d p .vectors
-  pub pins : map pinsIn (pinsOf b) ≡ p .pinned
+  pub pairs : (d : ℕ) → bound (guardsOf s b) ≤ d → pairsAt d s ≡ setsAt d p .pairs
+  pub vectors : (d : ℕ) → bound (guardsOf s b) ≤ d → vectorsAt d s ≡ setsAt d p .vectors
+  pub pins : pinsOf b ≡ p .pinned
   pub waiting : waitingIn s ≡ waitingOf p
   pub next : allOf (belowNext s) (p .added) ≡ true
   pub file : Filed f s p
@@ -54,8 +55,8 @@ sets-now p = List·getD-eq-default (p .past) (p .now) (omega arith)
 pub shows-now : (s : State) (b : PinBook) (f : List ℕ) (p : Plain) → Stands s b f p → plainSets s ≡ p .now
 shows-now s b f p k =
     let e : setsAt (s .epoch) p ≡ p .now = ap (λ (d : ℕ). setsAt d p) (k .epoch) ∙ sets-now p in
-    let x = k .pairs (s .epoch) (bound-le (s .epoch) (pinsOf b)) ∙ ap (λ (z : Sets). z .pairs) e in
-    let y = k .vectors (s .epoch) (bound-le (s .epoch) (pinsOf b)) ∙ ap (λ (z : Sets). z .vectors) e in
+    let x = k .pairs (s .epoch) (bound-le (guardsOf s b)) ∙ ap (λ (z : Sets). z .pairs) e in
+    let y = k .vectors (s .epoch) (bound-le (guardsOf s b)) ∙ ap (λ (z : Sets). z .vectors) e in
     λ i. sets (k .tables i) (x i) (y i)
 
 -- an accepted call that hands on a manager in the state s

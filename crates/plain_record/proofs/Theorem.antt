@@ -14,7 +14,7 @@ use Rattle.plain_record.specs.Calls.{Call, drawRowset, drawVector, commi
 use Rattle.plain_record.specs.Plain.{Record, atStart}
 use Rattle.plain_record.specs.Plain.{start as plain-start}
 use Rattle.plain_record.specs.Run.{World, world, Event, value, port, LinkBy, Starts}
-use Rattle.plain_record.specs.Claim.{pinsIn, waitingIn, Claim}
+use Rattle.plain_record.specs.Claim.{waitingIn, Claim}
 use Rattle.plain_record.proofs.Invariant.{plainTable, Torn, Inv, Kept}
 use Rattle.plain_record.proofs.CommitShows.{shows-now}
 use Rattle.plain_record.proofs.Draw.{draw-rowset-kept, draw-vector-kept}
@@ -40,7 +40,7 @@ start-inv o f =
       tables = ap (λ (s : State). map plainTable (s .tables)) z;
       pairs = λ d h. ap (pairsAt d) z ∙ sym (ap (λ (s : Sets). s .pairs) (shows-now [] none d (omega arith)));
       vectors = λ d h. ap (vectorsAt d) z ∙ sym (ap (λ (s : Sets). s .vectors) (shows-now [] none d (omega arith)));
-      pins = ap (map pinsIn) (f .book .pins);
+      pins = f .book .pins;
       waiting = ap waitingIn z;
       next = refl;
       file =

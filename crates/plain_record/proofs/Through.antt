@@ -5,7 +5,7 @@ use Rattle.plain_record.specs.Calls.{kindOf}
 use Rattle.plain_record.specs.Plain.{Record, atStart}
 use Rattle.plain_record.specs.Run.{World, Event, port, Link, Chain, lastOf, Starts}
 use Rattle.plain_record.specs.Claim.{nextRecord, Answers, recordOf, Claim}
-use Rattle.plain_record.proofs.Invariant.{Inv, Kept}
+use Rattle.plain_record.proofs.Invariant.{Inv, guards-alike, Kept}
 use Rattle.plain_record.proofs.Deletions.{below-start, Seen, AllSeen, answer-lists, deletions-hold}
 use Rattle.plain_record.proofs.Agree.{agree}
 
@@ -21,7 +21,7 @@ module _ (step : (e : Event) (r : Record) → Inv (e .before) r → Link port e 
       let j : Inv (e .before) r = subst (λ (x : World). Inv x r) (sym (k .0)) i in
       let n = step e r j (k .1) in
       let t = through (e .after) (nextRecord r e) es (n .inv) (k .2) in
-      let s : Seen r e = record { book = j .pins; apart = agree (e .before) r j .apart; list = answer-lists r e (kindOf (e .call)) (n .answer) } in
+      let s : Seen r e = record { guards = guards-alike (e .before) r j; apart = agree (e .before) r j .apart; list = answer-lists r e (kindOf (e .call)) (n .answer) } in
       record { last = t .last; answers = (n .answer, t .answers); seen = (s, t .seen) }
 
   pub claimed : Claim port

@@ -4,14 +4,14 @@ use mathlib.Core.Bool.{Bool, true, false, not, _&&_}
 use mathlib.Core.List.{List, [], _∷_, map}
 use Prim.Native.Nat.{ℕ, _+_, _≤_}
 use native.Mathlib.Omega.{arith}
-use lib.Dec.{leb, ltb}
+use lib.Dec.{leb}
 use lib.ListN.{length, drop, getD, length-map}
 use lib.Seq.{take-at}
 use borrow.Author.Tests.{leb-true}
 use Rattle.lists.specs.Keyed.{keep, placed, arranged}
 use Rattle.lists.specs.Written.{over}
 use Rattle.lists.proofs.Tests.{by-cases, clash, both}
-use Rattle.lists.proofs.Keyed.{All, all-map, all-any, allOf-all, all-keep, all-placed, keep-same, keep-keep, keep-map, anyOf-map, sorted-arranged, keep-placed, keep-placed-out}
+use Rattle.lists.proofs.Keyed.{All, all-map, all-any, allOf-all, all-keep, all-placed, keep-same, keep-keep, keep-map, sorted-arranged, keep-placed, keep-placed-out}
 use Rattle.columns.proofs.Rows.{rows-all}
 use Rattle.ids.specs.declared.refusal.Verdict.{Verdict}
 use Rattle.ids.specs.declared.refusal.Verdict.the-variants.{Accepted, Refused}
@@ -22,8 +22,7 @@ use Rattle.version_state.specs.declared.VersionManagerInner.{VersionManagerInne
 use Rattle.version_state.specs.State.{State, stateOf}
 use Rattle.version_state.specs.Sets.{setsOf}
 use Rattle.version_state.proofs.Facts.{sound-of}
-use Rattle.pins.specs.Book.{PinEntry, pinsOf, bound}
-use Rattle.pins.specs.Book as pins
+use Rattle.pins.specs.Guards.{Guards, guardsOf, blocked, bound}
 use Rattle.pins.proofs.Bound.{bound-le, free-is}
 use Rattle.vacuum.specs.LetGo.{vacuumList, staysBy, vacuumed}
 use Rattle.vacuum.specs.Says.{boundOf, listOf}
@@ -31,10 +30,10 @@ use Rattle.vacuum.proofs.Laws.{pairs-after, vectors-after, vacuum-sound}
 use Rattle.version_manager.specs.Managers.{heldBy, HandsBack}
 use Rattle.version_manager.specs.Vacuum.{vacuumVerdict}
 use Rattle.plain_record.specs.Calls.{asVacuum}
-use Rattle.plain_record.specs.Plain.{Pins, Waiting, byEpochAndPair, Plain, blocked, listed, swept, Record, turn}
+use Rattle.plain_record.specs.Plain.{Waiting, byEpochAndPair, Plain, guardsIn, listed, swept, Record, turn}
 use Rattle.plain_record.specs.Run.{port, World, isAccepted, value, paired, pairsIn, listedIf, DidVacuum}
-use Rattle.plain_record.specs.Claim.{pinsIn, waitingIn, waitingOf, pairsOf}
-use Rattle.plain_record.proofs.Invariant.{Inv}
+use Rattle.plain_record.specs.Claim.{waitingIn, waitingOf, pairsOf}
+use Rattle.plain_record.proofs.Invariant.{Inv, guards-alike}
 use Rattle.plain_record.proofs.Refused.{refused-number}
 use Rattle.plain_record.proofs.Stands.{Stands, accepted-stands, onward-kept}
 use Rattle.plain_record.proofs.CommitIds.{next-rise}
@@ -55,81 +54,77 @@ map-map : {A B C : Type 0} (f : A → B) (g : B → C) (l : List A) → map g (m
 map-map f g [] = refl
 map-map f g (x ∷ l) = ap (λ k. g (f x) ∷ k) (map-map f g l)
 
--- the record's pins keep what the book's keep
-blocked-alike : (l : List PinEntry) (p : List Pins) (w : ℕ) → map pinsIn l ≡ p → blocked p w ≡ pins.blocked w l
-blocked-alike l p w e = rw (← e) (anyOf-map pinsIn (λ (x : Pins). ltb (x .epoch) w) l)
+-- whether a deletion is kept, by its key; and whether it is not
+abbrev held : Guards → List ℕ → Bool
+held g k = blocked g (getD k 0 0)
 
--- whether no pin keeps a deletion, by its key; and whether one does
-abbrev free : List PinEntry → List ℕ → Bool
-free l k = not (pins.blocked (getD k 0 0) l)
-
-abbrev held : List PinEntry → List ℕ → Bool
-held l k = pins.blocked (getD k 0 0) l
+abbrev free : Guards → List ℕ → Bool
+free g k = not (held g k)
 
 -- a key without its epoch
 abbrev rest : List ℕ → List ℕ
 rest [] = []
 rest (x ∷ k) = k
 
-module _ (e : ℕ) (l : List PinEntry) where
-  gone-free : (x : Entry) → x .deleted ≤ e → goneBy (bound e l) x ≡ waits x && free l (byDeletion x)
+module _ (g : Guards) where
+  gone-free : (x : Entry) → x .deleted ≤ g .current → goneBy (bound g) x ≡ waits x && free g (byDeletion x)
   unfolding goneAt
-  gone-free x h = rw (free-is e (x .deleted) l h)
+  gone-free x h = rw (free-is g (x .deleted) h)
 
   not-not : (b : Bool) → not (not b) ≡ b
   not-not true = refl
   not-not false = refl
 
-  stays-held : (x : Entry) → x .deleted ≤ e → staysBy (bound e l) x && waits x ≡ waits x && held l (byDeletion x)
+  stays-held : (x : Entry) → x .deleted ≤ g .current → staysBy (bound g) x && waits x ≡ waits x && held g (byDeletion x)
   stays-held x h =
       rw (gone-free x h) (by-cases (waits x)
-      (λ f. by-cases (held l (byDeletion x)) (λ g. rw (f, g)) (λ g. rw (f, g)))
+      (λ f. by-cases (held g (byDeletion x)) (λ t. rw (f, t)) (λ t. rw (f, t)))
       (λ f. rw f))
 
-  module _ (s : State) (below : All (λ (x : Entry). x .deleted ≤ e) (s .pairs)) where
-    list-kept : vacuumList (bound e l) s ≡ keep (λ (x : Entry). free l (byDeletion x)) (arranged byDeletion (keep waits (s .pairs)))
+  module _ (s : State) (below : All (λ (x : Entry). x .deleted ≤ g .current) (s .pairs)) where
+    list-kept : vacuumList (bound g) s ≡ keep (λ (x : Entry). free g (byDeletion x)) (arranged byDeletion (keep waits (s .pairs)))
     list-kept =
         ap (arranged byDeletion)
-        (keep-same (goneBy (bound e l)) (λ (x : Entry). waits x && free l (byDeletion x)) (s .pairs) (all-map (s .pairs) gone-free below)
-        ∙ sym (keep-keep (λ (x : Entry). free l (byDeletion x)) waits (s .pairs)))
-        ∙ sym (keep-arranged byDeletion (λ (x : Entry). free l (byDeletion x)) (keep waits (s .pairs)))
+        (keep-same (goneBy (bound g)) (λ (x : Entry). waits x && free g (byDeletion x)) (s .pairs) (all-map (s .pairs) gone-free below)
+        ∙ sym (keep-keep (λ (x : Entry). free g (byDeletion x)) waits (s .pairs)))
+        ∙ sym (keep-arranged byDeletion (λ (x : Entry). free g (byDeletion x)) (keep waits (s .pairs)))
 
-    left-kept : arranged byDeletion (keep waits (keep (staysBy (bound e l)) (s .pairs))) ≡ keep (λ (x : Entry). held l (byDeletion x)) (arranged byDeletion (keep waits (s .pairs)))
+    left-kept : arranged byDeletion (keep waits (keep (staysBy (bound g)) (s .pairs))) ≡ keep (λ (x : Entry). held g (byDeletion x)) (arranged byDeletion (keep waits (s .pairs)))
     left-kept =
         ap (arranged byDeletion)
-        (keep-keep waits (staysBy (bound e l)) (s .pairs)
-        ∙ keep-same (λ (x : Entry). staysBy (bound e l) x && waits x) (λ (x : Entry). waits x && held l (byDeletion x)) (s .pairs) (all-map (s .pairs) stays-held below)
-        ∙ sym (keep-keep (λ (x : Entry). held l (byDeletion x)) waits (s .pairs)))
-        ∙ sym (keep-arranged byDeletion (λ (x : Entry). held l (byDeletion x)) (keep waits (s .pairs)))
+        (keep-keep waits (staysBy (bound g)) (s .pairs)
+        ∙ keep-same (λ (x : Entry). staysBy (bound g) x && waits x) (λ (x : Entry). waits x && held g (byDeletion x)) (s .pairs) (all-map (s .pairs) stays-held below)
+        ∙ sym (keep-keep (λ (x : Entry). held g (byDeletion x)) waits (s .pairs)))
+        ∙ sym (keep-arranged byDeletion (λ (x : Entry). held g (byDeletion x)) (keep waits (s .pairs)))
 
-    module _ (p : Plain) (book : map pinsIn l ≡ p .pinned) (waiting : waitingIn s ≡ waitingOf p) where
-      free-alike : (w : Waiting) → free l (byEpochAndPair w) ≡ not (blocked (p .pinned) (w .epoch))
-      free-alike w = ap not (sym (blocked-alike l (p .pinned) (w .epoch) book))
+    module _ (p : Plain) (alike : g ≡ guardsIn p) (waiting : waitingIn s ≡ waitingOf p) where
+      held-alike : (w : Waiting) → held g (byEpochAndPair w) ≡ blocked (guardsIn p) (w .epoch)
+      held-alike w = ap (λ (h : Guards). blocked h (w .epoch)) alike
 
-      held-alike : (w : Waiting) → held l (byEpochAndPair w) ≡ blocked (p .pinned) (w .epoch)
-      held-alike w = sym (blocked-alike l (p .pinned) (w .epoch) book)
+      free-alike : (w : Waiting) → free g (byEpochAndPair w) ≡ not (blocked (guardsIn p) (w .epoch))
+      free-alike w = ap not (held-alike w)
 
       -- the list is the record's
-      pub list-keys : map byDeletion (vacuumList (bound e l) s) ≡ map byEpochAndPair (listed p)
+      pub list-keys : map byDeletion (vacuumList (bound g) s) ≡ map byEpochAndPair (listed p)
       list-keys =
           ap (map byDeletion) list-kept
-          ∙ sym (keep-map byDeletion (free l) (arranged byDeletion (keep waits (s .pairs))))
-          ∙ ap (keep (free l)) waiting
-          ∙ keep-map byEpochAndPair (free l) (p .waiting)
-          ∙ ap (map byEpochAndPair) (keep-same (λ (w : Waiting). free l (byEpochAndPair w)) (λ (w : Waiting). not (blocked (p .pinned) (w .epoch))) (p .waiting) (all-any (p .waiting) free-alike))
+          ∙ sym (keep-map byDeletion (free g) (arranged byDeletion (keep waits (s .pairs))))
+          ∙ ap (keep (free g)) waiting
+          ∙ keep-map byEpochAndPair (free g) (p .waiting)
+          ∙ ap (map byEpochAndPair) (keep-same (λ (w : Waiting). free g (byEpochAndPair w)) (λ (w : Waiting). not (blocked (guardsIn p) (w .epoch))) (p .waiting) (all-any (p .waiting) free-alike))
 
-      pub list-pairs : map (λ (x : Entry). x .ids) (vacuumList (bound e l) s) ≡ pairsOf (listed p)
+      pub list-pairs : map (λ (x : Entry). x .ids) (vacuumList (bound g) s) ≡ pairsOf (listed p)
       list-pairs =
-          sym (map-map byDeletion rest (vacuumList (bound e l) s)) ∙ ap (map rest) list-keys ∙ map-map byEpochAndPair rest (listed p)
+          sym (map-map byDeletion rest (vacuumList (bound g) s)) ∙ ap (map rest) list-keys ∙ map-map byEpochAndPair rest (listed p)
 
       -- what waits afterwards is what still waits in the record
-      pub still-waiting : waitingIn (vacuumed (bound e l) s) ≡ waitingOf (swept p)
+      pub still-waiting : waitingIn (vacuumed (bound g) s) ≡ waitingOf (swept p)
       still-waiting =
           ap (map byDeletion) left-kept
-          ∙ sym (keep-map byDeletion (held l) (arranged byDeletion (keep waits (s .pairs))))
-          ∙ ap (keep (held l)) waiting
-          ∙ keep-map byEpochAndPair (held l) (p .waiting)
-          ∙ ap (map byEpochAndPair) (keep-same (λ (w : Waiting). held l (byEpochAndPair w)) (λ (w : Waiting). blocked (p .pinned) (w .epoch)) (p .waiting) (all-any (p .waiting) held-alike))
+          ∙ sym (keep-map byDeletion (held g) (arranged byDeletion (keep waits (s .pairs))))
+          ∙ ap (keep (held g)) waiting
+          ∙ keep-map byEpochAndPair (held g) (p .waiting)
+          ∙ ap (map byEpochAndPair) (keep-same (λ (w : Waiting). held g (byEpochAndPair w)) (λ (w : Waiting). blocked (guardsIn p) (w .epoch)) (p .waiting) (all-any (p .waiting) held-alike))
 
 -- an entry of two ids
 abbrev TwoIds : Entry → Type 0
@@ -177,7 +172,7 @@ module _ (w : World) (r : Record) (t : Told) (l : List (List ℕ)) (v : World) (
 
   sets-stay : setsOf swept-state ≡ setsOf (stateOf inner)
   sets-stay =
-      let k = bound-le (inner .epoch) (pinsOf (w .book)) in
+      let k = bound-le (guardsOf (stateOf inner) (w .book)) in
       rw (pairs-after to (inner .epoch) (stateOf inner) k, vectors-after to (inner .epoch) (stateOf inner) k)
 
   stands-swept : Stands swept-state (w .book) (w .file) (swept (r .whole))
@@ -189,7 +184,7 @@ module _ (w : World) (r : Record) (t : Told) (l : List (List ℕ)) (v : World) (
         pairs = λ e k. pairs-after to e (stateOf inner) k ∙ i .pairs e k;
         vectors = λ e k. vectors-after to e (stateOf inner) k ∙ i .vectors e k;
         pins = i .pins;
-        waiting = still-waiting (inner .epoch) (pinsOf (w .book)) (stateOf inner) deletions-below (r .whole) (i .pins) (i .waiting);
+        waiting = still-waiting (guardsOf (stateOf inner) (w .book)) (stateOf inner) deletions-below (r .whole) (guards-alike w r i) (i .waiting);
         next = next-rise (stateOf inner) swept-state (r .whole .added) (record { table = omega arith; rowset = omega arith; vector = omega arith }) (i .next);
         file = record { state = i .file .state; holds = i .file .holds; same = sets-stay ∙ i .file .same; long = i .file .long; next = i .file .next };
       }
@@ -202,7 +197,7 @@ module _ (w : World) (r : Record) (t : Told) (l : List (List ℕ)) (v : World) (
       onward-kept asVacuum id w r (d .result .manager) (w .book) verdict (length (listOf (heldBy (w .manager)) (w .book)) ∷ []) t v i (d .after) tells
       (λ a. let h = subst Handed a (d .says .manager) in
       accepted-stands (d .result .manager) (w .book) (w .file) swept-state (swept (r .whole)) (r .place + 1)
-      (vacuum-sound inner (d .result .manager .inner) to (bound-le (inner .epoch) (pinsOf (w .book))) (i .sound) h) (h .state) stands-swept)
+      (vacuum-sound inner (d .result .manager .inner) to (bound-le (guardsOf (stateOf inner) (w .book))) (i .sound) h) (h .state) stands-swept)
       (λ k a. (subst Handed a (d .says .manager), refl))
 
   abbrev list : List Entry
@@ -218,4 +213,4 @@ module _ (w : World) (r : Record) (t : Told) (l : List (List ℕ)) (v : World) (
   vacuum-lists a =
       let h = lists-by verdict (d .tables) (d .rowsets) tells (d .says .tables) (d .says .rowsets) a in
       let e = d .listed ∙ h .0 in
-      (e ∙ list-pairs (inner .epoch) (pinsOf (w .book)) (stateOf inner) deletions-below (r .whole) (i .pins) (i .waiting), h .1 ∙ sym (ap length e ∙ length-map list (λ (x : Entry). x .ids)))
+      (e ∙ list-pairs (guardsOf (stateOf inner) (w .book)) (stateOf inner) deletions-below (r .whole) (guards-alike w r i) (i .waiting), h .1 ∙ sym (ap length e ∙ length-map list (λ (x : Entry). x .ids)))

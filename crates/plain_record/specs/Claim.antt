@@ -9,18 +9,16 @@ use Rattle.lists.specs.Order.{same}
 use Rattle.lists.specs.Keyed.{keep, allOf, anyOf, arranged}
 use Rattle.snapshot.specs.Entries.{byDeletion, waits}
 use Rattle.version_state.specs.State.{State}
-use Rattle.pins.specs.Book.{PinEntry, pinsOf, mayShow}
+use Rattle.pins.specs.Book.{pinsOf}
+use Rattle.pins.specs.Guards.{guardsOf, mayShow, blocked}
 use Rattle.version_manager.specs.Managers.{heldBy}
 use Rattle.rewrite.specs.Rewritten.{longestRewritten}
 use Rattle.plain_record.specs.Calls.{Kind, quiet, asCommit, asPin, asUnpin, asVacuum, asReopen, kindOf}
-use Rattle.plain_record.specs.Plain.{Pins, pins, Waiting, Id, tableId, rowsetId, vectorId, Plain, epochOf, setsAt, deletions, blocked, listed, Record, atStart, turn}
+use Rattle.plain_record.specs.Plain.{Waiting, Id, tableId, rowsetId, vectorId, Plain, epochOf, setsAt, deletions, guardsIn, listed, Record, atStart, turn}
 use Rattle.plain_record.specs.Run.{Steps, World, Event, isAccepted, value, Chain, lastOf, Starts}
 use Rattle.plain_record.specs.Shows.{ShowsTables, ShowsPairs, ShowsVectors}
 
--- What the manager and the book hold, in the record's terms.
-
-abbrev pub pinsIn : PinEntry → Pins
-pinsIn p = pins (p .epoch) (p .count)
+-- What the manager holds, in the record's terms.
 
 -- the waiting deletions, by epoch, table, rowset: (epoch, table, rowset)
 abbrev pub waitingIn : State → List (List ℕ)
@@ -46,10 +44,10 @@ belowNext s (vectorId v) = ltb v (s .nextVector)
 pub record Agrees (S : Steps) (w : World) (p : Plain) : Type 0 where
   pub epoch : heldBy (w .manager) .epoch ≡ epochOf p
   pub tables : ShowsTables S w (epochOf p) (p .now .tables)
-  -- of the current epoch and of each pinned one
-  pub pairs : (d : ℕ) → mayShow (epochOf p) (pinsOf (w .book)) d ≡ true → ShowsPairs S w d (setsAt d p .pairs)
-  pub vectors : (d : ℕ) → mayShow (epochOf p) (pinsOf (w .book)) d ≡ true → ShowsVectors S w d (setsAt d p .vectors)
-  pub book : map pinsIn (pinsOf (w .book)) ≡ p .pinned
+  -- of the current epoch and of each guarded one
+  pub pairs : (d : ℕ) → mayShow (guardsIn p) d ≡ true → ShowsPairs S w d (setsAt d p .pairs)
+  pub vectors : (d : ℕ) → mayShow (guardsIn p) d ≡ true → ShowsVectors S w d (setsAt d p .vectors)
+  pub book : pinsOf (w .book) ≡ p .pinned
   pub waiting : waitingIn (heldBy (w .manager)) ≡ waitingOf p
   pub apart : differ (pairsOf (p .waiting)) ≡ true
   -- next ids exceed every id that a counted commit added
@@ -97,12 +95,12 @@ isReopen (asUnpin e) = false
 isReopen asVacuum = false
 isReopen (asReopen lent) = true
 
--- an accepted vacuum, and one that meets no pin on an epoch before w's
+-- an accepted vacuum, and one that meets no guarded epoch before w's
 abbrev pub vacuums : Event → Bool
 vacuums e = isVacuum (kindOf (e .call)) && isAccepted (e .told)
 
 abbrev pub frees : Waiting → Event → Bool
-frees w e = vacuums e && not (blocked (map pinsIn (pinsOf (e .before .book))) (w .epoch))
+frees w e = vacuums e && not (blocked (guardsOf (heldBy (e .before .manager)) (e .before .book)) (w .epoch))
 
 -- w is told apart by its commit and its operation
 abbrev pub isIt : Waiting → Waiting → Bool

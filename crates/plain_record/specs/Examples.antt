@@ -8,9 +8,12 @@ use Rattle.lists.specs.Keyed.{put, without, arranged}
 use Rattle.manifest.specs.Operations.{addRowset, deleteRowset, createTable, operation, bad}
 use Rattle.manifest.specs.Lines.{lineOf}
 use Rattle.manifest.specs.Split.{lines}
+use Rattle.pins.specs.Book.{placeOn}
+use Rattle.pins.specs.Guards.{guardsBy, blocked}
+use Rattle.pins.specs.Counts.{pinsOn}
 use Rattle.plain_record.specs.Sets.{none, itself, table, sets}
 use Rattle.plain_record.specs.Calls.{Call, commit, pin, reopen, kindOf}
-use Rattle.plain_record.specs.Plain.{pins, waitingAs, byEpochAndPair, plain, tableId, rowsetId, listed, Record, atStart, turn}
+use Rattle.plain_record.specs.Plain.{waitingAs, byEpochAndPair, plain, tableId, rowsetId, onePin, oneLess, listed, Record, atStart, turn}
 
 -- the record after accepted calls, none of them a create
 abbrev pub recordAfter : List Call → Record → Record
@@ -45,11 +48,17 @@ pub record Examples : Type 0 where
   pub out : without itself (0 ∷ 1 ∷ []) ((0 ∷ 1 ∷ []) ∷ (1 ∷ 0 ∷ []) ∷ []) ≡ (1 ∷ 0 ∷ []) ∷ []
   pub inOrder : arranged byEpochAndPair (waitingAs 3 (0 ∷ 0 ∷ []) 5 0 ∷ waitingAs 2 (1 ∷ 0 ∷ []) 4 0 ∷ waitingAs 2 (0 ∷ 1 ∷ []) 4 1 ∷ [])
       ≡ waitingAs 2 (0 ∷ 1 ∷ []) 4 1 ∷ waitingAs 2 (1 ∷ 0 ∷ []) 4 0 ∷ waitingAs 3 (0 ∷ 0 ∷ []) 5 0 ∷ []
+  -- pins: one on epoch 1, two on 2; then one less on each
+  pub pinned : onePin 2 (onePin 1 (onePin 2 [])) ≡ pinsOn (placeOn 1) 1 ∷ pinsOn (placeOn 2) 2 ∷ []
+  pub unpinned : oneLess 2 (oneLess 1 (pinsOn (placeOn 1) 1 ∷ pinsOn (placeOn 2) 2 ∷ [])) ≡ pinsOn (placeOn 2) 1 ∷ []
+  -- a pin on epoch 2 keeps a deletion at 3, and not one at 2
+  pub blocks : blocked (guardsBy 3 (pinsOn (placeOn 2) 1 ∷ [])) 3 ≡ true
+  pub ownEpoch : blocked (guardsBy 3 (pinsOn (placeOn 2) 1 ∷ [])) 2 ≡ false
   -- `B`, a newline, `E`: one line. `A,0,12`; `A,0,01`.
   pub oneLine : lines (66 ∷ 10 ∷ 69 ∷ []) ≡ (66 ∷ []) ∷ []
   pub added : lineOf (65 ∷ 44 ∷ 48 ∷ 44 ∷ 49 ∷ 50 ∷ []) ≡ operation (addRowset 0 12)
   pub zero : lineOf (65 ∷ 44 ∷ 48 ∷ 44 ∷ 48 ∷ 49 ∷ []) ≡ bad
   -- the deletion at epoch 2 that came again is the fifth call's, kept by the pin on epoch 1; a vacuum would list none
   pub told : recordAfter again atStart .whole
-      ≡ plain (none ∷ sets (table 0 7 name ∷ []) (pair ∷ []) [] ∷ []) (sets (table 0 7 name ∷ []) [] []) (pins 1 1 ∷ []) (waitingAs 2 pair 4 0 ∷ []) (tableId 0 ∷ rowsetId 0 ∷ [])
+      ≡ plain (none ∷ sets (table 0 7 name ∷ []) (pair ∷ []) [] ∷ []) (sets (table 0 7 name ∷ []) [] []) (pinsOn (placeOn 1) 1 ∷ []) (waitingAs 2 pair 4 0 ∷ []) (tableId 0 ∷ rowsetId 0 ∷ [])
   pub kept : listed (recordAfter again atStart .whole) ≡ []

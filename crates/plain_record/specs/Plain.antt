@@ -2,20 +2,15 @@
 use mathlib.Core.Bool.{Bool, true, false, cond, not}
 use mathlib.Core.List.{List, [], _∷_, _++_}
 use Prim.Native.Nat.{ℕ, _+_, _-_}
-use lib.Dec.{eqb, ltb, leb}
+use lib.Dec.{eqb, leb}
 use lib.ListN.{length, getD}
-use Rattle.lists.specs.Keyed.{keep, anyOf, placed}
+use Rattle.lists.specs.Keyed.{keep, placed, put, without}
 use Rattle.manifest.specs.Operations.{Operation, createTable, dropTable, addRowset, deleteRowset, addVector, deleteVector, nextIds}
+use Rattle.pins.specs.Book.{PinEntry, placeOn, placeKey, byPlace}
+use Rattle.pins.specs.Guards.{Guards, guardsBy, blocked}
+use Rattle.pins.specs.Counts.{pinsOn, pinsAt}
 use Rattle.plain_record.specs.Sets.{Sets, none, applyAll}
 use Rattle.plain_record.specs.Calls.{Kind, quiet, asCommit, asPin, asUnpin, asVacuum, asReopen}
-
--- the pins of an epoch
-pub record Pins : Type 0 where
-  pub epoch : ℕ
-  pub count : ℕ
-
-abbrev pub pins : ℕ → ℕ → Pins
-pins e n = record { epoch = e; count = n }
 
 -- a deletion that waits, told apart from every other by the place of its commit in the list and of its operation in the commit
 pub record Waiting : Type 0 where
@@ -42,12 +37,12 @@ pub record Plain : Type 0 where
   pub past : List Sets
   pub now : Sets
   -- pinned epochs, and the deletions that wait
-  pub pinned : List Pins
+  pub pinned : List PinEntry
   pub waiting : List Waiting
   -- every id that a counted commit added
   pub added : List Id
 
-abbrev pub plain : List Sets → Sets → List Pins → List Waiting → List Id → Plain
+abbrev pub plain : List Sets → Sets → List PinEntry → List Waiting → List Id → Plain
 plain p n b w a = record { past = p; now = n; pinned = b; waiting = w; added = a }
 
 -- epoch 0 shows nothing
@@ -92,28 +87,26 @@ abbrev pub counted : ℕ → List Operation → Plain → Plain
 counted c os p =
     plain (p .past ++ (p .now ∷ [])) (applyAll os (p .now)) (p .pinned) (await (deletions c (epochOf p + 1) 0 os) (p .waiting)) (p .added ++ idsOf os)
 
--- a pin adds one at the current epoch, an unpin takes one off the epoch it names
-abbrev pub onePin : ℕ → List Pins → List Pins
-onePin e [] = pins e 1 ∷ []
-onePin e (p ∷ l) = cond (eqb (p .epoch) e) (pins e (p .count + 1) ∷ l) (p ∷ onePin e l)
+-- a pin adds one at the current epoch, an unpin takes one off the epoch it names; an epoch with pins left is pinned
+abbrev pub onePin : ℕ → List PinEntry → List PinEntry
+onePin e l = let k = placeOn e in put byPlace (pinsOn k (pinsAt k l + 1)) l
 
-abbrev pub oneLess : ℕ → List Pins → List Pins
-oneLess e [] = []
-oneLess e (p ∷ l) = cond (eqb (p .epoch) e) (cond (leb (p .count) 1) l (pins e (p .count - 1) ∷ l)) (p ∷ oneLess e l)
+abbrev pub oneLess : ℕ → List PinEntry → List PinEntry
+oneLess e l = let k = placeOn e in cond (leb (pinsAt k l) 1) (without byPlace (placeKey k) l) (put byPlace (pinsOn k (pinsAt k l - 1)) l)
 
-abbrev pub withPins : List Pins → Plain → Plain
+abbrev pub withPins : List PinEntry → Plain → Plain
 withPins l p = plain (p .past) (p .now) l (p .waiting) (p .added)
 
--- a guarded epoch below w keeps what was deleted at w
-abbrev pub blocked : List Pins → ℕ → Bool
-blocked l w = anyOf (λ p. ltb (p .epoch) w) l
+-- what keeps epochs
+abbrev pub guardsIn : Plain → Guards
+guardsIn p = guardsBy (epochOf p) (p .pinned)
 
 -- what a vacuum lists and removes, and what is left
 abbrev pub listed : Plain → List Waiting
-listed p = keep (λ w. not (blocked (p .pinned) (w .epoch))) (p .waiting)
+listed p = keep (λ w. not (blocked (guardsIn p) (w .epoch))) (p .waiting)
 
 abbrev pub swept : Plain → Plain
-swept p = plain (p .past) (p .now) (p .pinned) (keep (λ w. blocked (p .pinned) (w .epoch)) (p .waiting)) (p .added)
+swept p = plain (p .past) (p .now) (p .pinned) (keep (λ w. blocked (guardsIn p) (w .epoch)) (p .waiting)) (p .added)
 
 -- a reopen keeps the last sets as epoch 1 and forgets older epochs, pins and waiting deletions
 abbrev pub kept : Plain → Plain

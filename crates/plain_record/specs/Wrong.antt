@@ -19,7 +19,9 @@ use Rattle.manifest.specs.Split.{restOn, lines, joined}
 use Rattle.snapshot.specs.Entries.{Entry, field, waits}
 use Rattle.version_state.specs.State.{State, withTables, withPairs, withVectors, withNext, withEpoch}
 use Rattle.pins.specs.declared.PinBook.{PinBook}
-use Rattle.pins.specs.Book.{PinEntry, pinsOf, bound, Keeps}
+use Rattle.pins.specs.Book.{PinEntry, pinsOf, placeOn, Keeps}
+use Rattle.pins.specs.Guards.{guardsBy, bound}
+use Rattle.pins.specs.Counts.{withPin}
 use Rattle.operations.specs.Effect.{applied}
 use Rattle.operations.specs.Steps.{stepOf}
 use Rattle.commit.specs.Commit.{appendOf, firstRules, finishOf, commitOf}
@@ -36,7 +38,6 @@ use Rattle.version_manager.specs.Vacuum.{vacuumTold, vacuumVerdict}
 use Rattle.version_manager.specs.Show.{ShowPairsSays, ShowVectorsSays}
 use Rattle.pinning.specs.declared.PinAnswer.{PinAnswer}
 use Rattle.pinning.specs.declared.UnpinAnswer.{UnpinAnswer}
-use Rattle.pinning.specs.Counts.{withPin}
 use Rattle.pinning.specs.Says.{current, BookAfter, pinVerdict, pinTold, unpinVerdict, isDue, flag, unpinTold, readyOf}
 use Rattle.replay.specs.Replay.{stands, replayOf}
 use Rattle.rewrite.specs.Rewritten.{rewrittenOf}
@@ -191,7 +192,7 @@ leavesPart = committing (λ m n os out r out′. CommitLeaves (outcomeOf m n os 
 -- a pin answers the next epoch
 pub record PinsNext (m : VersionManager) (b : PinBook) (a : PinAnswer) (b′ : PinBook) : Type 0 where
   pub answer : pinTold a ≡ told (pinVerdict m b) ((current m + 1) ∷ [])
-  pub book : BookAfter (pinVerdict m b) b (withPin (current m) (pinsOf b)) b′
+  pub book : BookAfter (pinVerdict m b) b (withPin (placeOn (current m)) (pinsOf b)) b′
 
 abbrev pub answersNext : Steps
 answersNext = pinning PinsNext
@@ -255,7 +256,7 @@ abbrev pub lowered : PinEntry → PinEntry
 lowered p = record { epoch = p .epoch - 1; count = p .count }
 
 abbrev pub loweredBound : VersionManager → PinBook → ℕ
-loweredBound m b = bound (current m) (map lowered (pinsOf b))
+loweredBound m b = bound (guardsBy (current m) (map lowered (pinsOf b)))
 
 abbrev pub keepsOwnEpoch : Steps
 keepsOwnEpoch = vacuuming (VacuumsTo 0 loweredBound loweredBound loweredBound)

@@ -15,7 +15,8 @@ use Rattle.ids.specs.Answers.{Told, told, after}
 use Rattle.snapshot.specs.Tables.{TableEntry}
 use Rattle.version_state.specs.State.{State, pairsAt, vectorsAt}
 use Rattle.pins.specs.declared.PinBook.{PinBook}
-use Rattle.pins.specs.Book.{pinsOf, badBook, mayShow}
+use Rattle.pins.specs.Book.{badBook}
+use Rattle.pins.specs.Guards.{guardsOf, mayShow}
 use Rattle.show.specs.declared.ShowAnswer.{ShowAnswer}
 use Rattle.show.specs.declared.ShowAnswer.the-variants.{Shown, Refused as NotShown}
 use Rattle.show.specs.Names.{namesRun}
@@ -34,9 +35,9 @@ module _ (s : State) (b : PinBook) where
   abbrev pub showRules : Bool → Bool → List Rule
   showRules unseen short = (badBook (s .epoch) b ⇒ BadPinBook) ∷ (unseen ⇒ EpochNotPinned) ∷ (short ⇒ OutputTooShort) ∷ []
 
-  -- 24: pairs and vectors are shown of the current epoch or a pinned one
+  -- 24: pairs and vectors are shown of the current epoch or a guarded one
   abbrev pub unseen : ℕ → Bool
-  unseen e = not (mayShow (s .epoch) (pinsOf b) e)
+  unseen e = not (mayShow (guardsOf s b) e)
 
   -- 24: tables are shown of the current epoch
   abbrev pub notCurrent : ℕ → Bool

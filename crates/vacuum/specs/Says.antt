@@ -13,14 +13,15 @@ use Rattle.ids.specs.Answers.{after}
 use Rattle.snapshot.specs.Entries.{Entry, field}
 use Rattle.version_state.specs.State.{State, Hands}
 use Rattle.pins.specs.declared.PinBook.{PinBook}
-use Rattle.pins.specs.Book.{pinsOf, badBook, bound}
+use Rattle.pins.specs.Book.{badBook}
+use Rattle.pins.specs.Guards.{guardsOf, bound}
 use Rattle.vacuum.specs.declared.Released.{Released}
 use Rattle.vacuum.specs.LetGo.{vacuumList, vacuumed}
 
 module _ (s : State) (b : PinBook) where
   -- the epoch up to which this vacuum lets go
   abbrev pub boundOf : ℕ
-  boundOf = bound (s .epoch) (pinsOf b)
+  boundOf = bound (guardsOf s b)
 
   -- the deletions that it lists
   abbrev pub listOf : List Entry

@@ -1,7 +1,8 @@
 -- `pinning::after_unpin` meets its contract. Assumes nothing.
 use mathlib.Core.Path.{_≡_, sym, ap, _∙_}
-use mathlib.Core.Bool.{cond}
-use Prim.Native.Nat.{ℕ}
+use mathlib.Core.Bool.{Bool, true, false, cond}
+use Prim.Native.Nat.{ℕ, _≤_}
+use native.Mathlib.Omega.{arith}
 use Rattle.ids.specs.declared.refusal.Verdict.the-variants.{Accepted}
 use Rattle.ids.specs.Verdicts.{judged}
 use Rattle.vacuum.proofs.Laws.{counted-list}
@@ -10,7 +11,6 @@ use Rattle.pins.specs.declared.PinBook.{PinBook}
 use Rattle.version_manager.specs.declared.VersionManager.{VersionManager}
 use Rattle.pinning.specs.Says.{unpinVerdict}
 use Rattle.pinning.proofs.Says.{first-two, two-passed, unpin-early, unpin-24, unpin-passes, Unpinnable, unpinnable, unpin-refuses, unpin-accepts}
-use Rattle.pinning.proofs.Counting.{at-most}
 use Rattle.pinning.proofs.Laws.{unpinned-good}
 use Rattle.pinning.proofs.after_unpin.Statement.{statement}
 use Rattle.pinning.proofs.after_unpin.Tie as tie
@@ -37,6 +37,11 @@ accepted f = let e = came f in unpin-passes (manager e) (book e) (epoch e) _ (f 
 
 known-then : (f : tie.Else1) → Unpinnable (manager (came f)) (book (came f)) (epoch (came f))
 known-then f = unpinnable (manager (came f)) (book (came f)) (epoch (came f)) (accepted f)
+
+-- a number that is one or none is not above the one
+at-most : (y : Bool) (n k : ℕ) → n ≡ cond y k 0 → n ≤ k
+at-most true n k e = omega arith
+at-most false n k e = omega arith
 
 judge-requires : tie.Need-judge-requires
 judge-requires c κs = search known

@@ -7,13 +7,13 @@ use borrow.Author.Tests.{not-true, not-false}
 use lib.ListN.{length, drop}
 use Rattle.lists.specs.Keyed.{allOf, ascending}
 use Rattle.lists.proofs.Places.{known}
-use Rattle.pins.specs.Book.{mostPinned, pinsOf, byEpoch, validPin}
+use Rattle.pins.specs.Book.{mostPinned, pinsOf, placeKey, byPlace, validPin}
 use Rattle.pins.proofs.Rising.{soundFrom, sound-start, sound-fails, sound-next, sound-end}
 use Rattle.pins.proofs.PinBook.sound.Statement.{statement}
 use Rattle.pins.proofs.PinBook.sound.Tie as tie
 
 abbrev Inv-loop : tie.InvT-loop
-Inv-loop current self count last₀ i₀ last i = (i ≤ count) × (count ≤ length (self .items)) × (allOf (validPin current) (pinsOf self) && ascending byEpoch (pinsOf self) ≡ soundFrom current last (drop i (pinsOf self)))
+Inv-loop current self count last₀ i₀ last i = (i ≤ count) × (count ≤ length (self .items)) × (allOf (validPin current) (pinsOf self) && ascending byPlace (pinsOf self) ≡ soundFrom current (placeKey last) (drop i (pinsOf self)))
 
 abbrev μ-loop : tie.MeasureT-loop
 μ-loop current self count last₀ i₀ last i = count - i

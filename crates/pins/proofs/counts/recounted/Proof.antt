@@ -1,7 +1,7 @@
--- `pinning::counts::recounted` meets its contract. Assumes nothing.
+-- `pins::counts::recounted` meets its contract. Assumes nothing.
 use borrow.Author.Tests.{ne-eqb}
-use Rattle.pinning.proofs.counts.recounted.Statement.{statement}
-use Rattle.pinning.proofs.counts.recounted.Tie as tie
+use Rattle.pins.proofs.counts.recounted.Statement.{statement}
+use Rattle.pins.proofs.counts.recounted.Tie as tie
 
 without-requires : tie.Need-without-requires
 without-requires c κs = c .before .pre .0

@@ -1,41 +1,41 @@
 // The counts of a book, and a book with one of them changed. All of it is internal: the book's count is within its array.
-use pins::Pin;
-use pins::PinBook;
+use crate::Pin;
+use crate::PinBook;
+use crate::Place;
 ghost use mathlib.Core.Path.{_≡_};
 ghost use mathlib.Core.Bool.{true, false};
-ghost use mathlib.Core.List.{[], _∷_};
 ghost use Prim.Native.Nat.{_+_, _≤_, _<_};
 ghost use lib.ListN.{set};
 ghost use Rattle.lists.specs.Keyed.{put, without, ascending};
 ghost use Rattle.lists.specs.Places.{insertAt};
-ghost use Rattle.pins.specs.Book.{pinEntry, pinsOf, byEpoch, mostPinned, Keeps};
-ghost use Rattle.pinning.specs.Counts.{recounted, epochsFull, Placed};
+ghost use Rattle.pins.specs.Book.{pinEntry, pinsOf, placeOn, placeKey, byPlace, mostPinned, Keeps};
+ghost use Rattle.pins.specs.Counts.{recounted, placesFull, Placed};
 
-// Where an epoch stands among the pinned ones or would, whether it stands there, and its pins.
-pub struct Place {
+// Where a place stands in a book or would, whether it stands there, and its pins.
+pub struct Found {
     pub at: usize,
     pub stands: bool,
     pub pins: u16,
 }
 
-// The epochs are in order.
-pub fn find(book: PinBook, epoch: u32) -> Place
-    requires { ⌜ (book .count ≤ mostPinned) × (ascending byEpoch (pinsOf book) ≡ true) ⌝ }
-    ensures { λ r. ⌜ Placed epoch (pinsOf book) (r .at) (r .stands) (r .pins) ⌝ }
+// The places are in order.
+pub fn find(book: PinBook, place: Place) -> Found
+    requires { ⌜ (book .count ≤ mostPinned) × (ascending byPlace (pinsOf book) ≡ true) ⌝ }
+    ensures { λ r. ⌜ Placed place (pinsOf book) (r .at) (r .stands) (r .pins) ⌝ }
 {
     let count = book.count;
     let mut i = 0;
     while i < count {
         let x = book.items[i];
-        if !x.before(epoch) {
-            if x.is_at(epoch) {
-                return Place {
+        if !x.before(place) {
+            if x.is_at(place) {
+                return Found {
                     at: i,
                     stands: true,
                     pins: x.count,
                 };
             }
-            return Place {
+            return Found {
                 at: i,
                 stands: false,
                 pins: 0,
@@ -43,7 +43,7 @@ pub fn find(book: PinBook, epoch: u32) -> Place
         }
         i += 1;
     }
-    Place {
+    Found {
         at: i,
         stands: false,
         pins: 0,
@@ -77,20 +77,20 @@ fn replaced(book: PinBook, at: usize, x: Pin) -> PinBook
     s
 }
 
-// There is a place for the pin.
-fn put(book: PinBook, place: Place, x: Pin) -> PinBook
-    requires { ⌜ (book .count ≤ mostPinned) × (ascending byEpoch (pinsOf book) ≡ true) × (epochsFull (x .epoch) (pinsOf book) ≡ false) × Placed (x .epoch) (pinsOf book) (place .at) (place .stands) (place .pins) ⌝ }
-    ensures { λ r. ⌜ Keeps r (put byEpoch (pinEntry x) (pinsOf book)) ⌝ }
+// There is room for the pin.
+fn put(book: PinBook, found: Found, x: Pin) -> PinBook
+    requires { ⌜ (book .count ≤ mostPinned) × (ascending byPlace (pinsOf book) ≡ true) × (placesFull (placeOn (x .epoch)) (pinsOf book) ≡ false) × Placed (placeOn (x .epoch)) (pinsOf book) (found .at) (found .stands) (found .pins) ⌝ }
+    ensures { λ r. ⌜ Keeps r (put byPlace (pinEntry x) (pinsOf book)) ⌝ }
 {
-    if place.stands {
-        return replaced(book, place.at, x);
+    if found.stands {
+        return replaced(book, found.at, x);
     }
-    inserted(book, place.at, x)
+    inserted(book, found.at, x)
 }
 
-fn without(book: PinBook, epoch: u32) -> PinBook
+fn without(book: PinBook, place: Place) -> PinBook
     requires { ⌜ book .count ≤ mostPinned ⌝ }
-    ensures { λ r. ⌜ Keeps r (without byEpoch (epoch ∷ []) (pinsOf book)) ⌝ }
+    ensures { λ r. ⌜ Keeps r (without byPlace (placeKey place) (pinsOf book)) ⌝ }
 {
     let mut s = book;
     let count = book.count;
@@ -98,7 +98,7 @@ fn without(book: PinBook, epoch: u32) -> PinBook
     let mut i = 0;
     while i < count {
         let x = book.items[i];
-        if !x.is_at(epoch) {
+        if !x.is_at(place) {
             s.items[k] = x;
             k += 1;
         }
@@ -108,13 +108,20 @@ fn without(book: PinBook, epoch: u32) -> PinBook
     s
 }
 
-// The book with so many pins on the epoch, which has that place.
-pub fn recounted(book: PinBook, place: Place, epoch: u32, count: u16) -> PinBook
-    requires { ⌜ (book .count ≤ mostPinned) × (ascending byEpoch (pinsOf book) ≡ true) × (epochsFull epoch (pinsOf book) ≡ false) × Placed epoch (pinsOf book) (place .at) (place .stands) (place .pins) ⌝ }
-    ensures { λ r. ⌜ Keeps r (recounted epoch count (pinsOf book)) ⌝ }
+// The book with so many pins at the place, which was found so.
+pub fn recounted(book: PinBook, found: Found, place: Place, count: u16) -> PinBook
+    requires { ⌜ (book .count ≤ mostPinned) × (ascending byPlace (pinsOf book) ≡ true) × (placesFull place (pinsOf book) ≡ false) × Placed place (pinsOf book) (found .at) (found .stands) (found .pins) ⌝ }
+    ensures { λ r. ⌜ Keeps r (recounted place count (pinsOf book)) ⌝ }
 {
     if count == 0 {
-        return without(book, epoch);
+        return without(book, place);
     }
-    put(book, place, Pin { epoch, count })
+    put(
+        book,
+        found,
+        Pin {
+            epoch: place.epoch,
+            count,
+        },
+    )
 }

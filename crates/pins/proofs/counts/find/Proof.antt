@@ -1,4 +1,4 @@
--- `pinning::counts::find` meets its contract. Assumes nothing.
+-- `pins::counts::find` meets its contract. Assumes nothing.
 use mathlib.Core.Path.{_≡_, sym, _∙_}
 use mathlib.Core.Bool.{true}
 use Prim.Native.Nat.{_-_, _≤_}
@@ -7,16 +7,16 @@ use borrow.Author.Tests.{not-true, not-false}
 use lib.ListN.{length}
 use Rattle.lists.specs.Keyed.{ascending}
 use Rattle.lists.proofs.Places.{known}
-use Rattle.pins.specs.Book.{pinsOf, byEpoch, mostPinned}
-use Rattle.pinning.proofs.Counting.{Finding, find-start, find-more, find-here, find-other, find-end}
-use Rattle.pinning.proofs.counts.find.Statement.{statement}
-use Rattle.pinning.proofs.counts.find.Tie as tie
+use Rattle.pins.specs.Book.{pinsOf, byPlace, mostPinned}
+use Rattle.pins.proofs.Counting.{Finding, find-start, find-more, find-here, find-other, find-end}
+use Rattle.pins.proofs.counts.find.Statement.{statement}
+use Rattle.pins.proofs.counts.find.Tie as tie
 
 abbrev Inv-loop : tie.InvT-loop
-Inv-loop epoch book count i₀ i = (i ≤ count) × (count ≤ length (book .items)) × (ascending byEpoch (pinsOf book) ≡ true) × Finding (book .items) (book .count) epoch i
+Inv-loop place book count i₀ i = (i ≤ count) × (count ≤ length (book .items)) × (ascending byPlace (pinsOf book) ≡ true) × Finding (book .items) (book .count) place i
 
 abbrev μ-loop : tie.MeasureT-loop
-μ-loop epoch book count i₀ i = count - i
+μ-loop place book count i₀ i = count - i
 
 loop-holds : tie.Need-loop-holds Inv-loop μ-loop
 loop-holds c =

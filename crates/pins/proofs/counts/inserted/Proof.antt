@@ -1,4 +1,4 @@
--- `pinning::counts::inserted` meets its contract. Assumes nothing.
+-- `pins::counts::inserted` meets its contract. Assumes nothing.
 use mathlib.Core.Path.{_≡_, refl, ap, _∙_}
 use mathlib.Core.List.{map}
 use Prim.Native.Nat.{_+_, _-_}
@@ -6,9 +6,9 @@ use lib.ListN.{length, take}
 use Rattle.lists.proofs.Places.{known}
 use Rattle.lists.proofs.Loops.{Shifting, shift-start, shift-more, shift-done}
 use Rattle.lists.proofs.Views.{map-insert}
 use Rattle.pins.specs.Book.{pinEntry, mostPinned}
-use Rattle.pinning.proofs.counts.inserted.Statement.{statement}
-use Rattle.pinning.proofs.counts.inserted.Tie as tie
+use Rattle.pins.proofs.counts.inserted.Statement.{statement}
+use Rattle.pins.proofs.counts.inserted.Tie as tie
 
 abbrev Inv-loop : tie.InvT-loop
 Inv-loop at s₀ count carry₀ i₀ s carry i = Shifting mostPinned count i at carry₀ (s₀ .items) carry (s .items)

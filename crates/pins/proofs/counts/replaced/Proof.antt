@@ -1,13 +1,13 @@
--- `pinning::counts::replaced` meets its contract. Assumes nothing.
+-- `pins::counts::replaced` meets its contract. Assumes nothing.
 use mathlib.Core.Path.{refl, ap, _∙_}
 use mathlib.Core.List.{map}
 use lib.ListN.{take}
 use lib.Seq.{take-set-lt}
 use Rattle.lists.proofs.Places.{known}
 use Rattle.lists.proofs.Views.{map-set}
 use Rattle.pins.specs.Book.{pinEntry}
-use Rattle.pinning.proofs.counts.replaced.Statement.{statement}
-use Rattle.pinning.proofs.counts.replaced.Tie as tie
+use Rattle.pins.proofs.counts.replaced.Statement.{statement}
+use Rattle.pins.proofs.counts.replaced.Tie as tie
 
 mul-x : tie.Need-mul-x
 mul-x c = search known
