@@ -13,7 +13,8 @@ use Rattle.version_manager.specs.Managers.{heldBy, badManager}
 use Rattle.replay.specs.Replay.{replayOf}
 use Rattle.recovery.specs.Sets.{setsOf}
 use Rattle.recovery.specs.Holds as manifest
-use Rattle.plain_record.specs.Sets.{Table, table, Sets, sets}
+use Rattle.manifest.specs.Edits.{Table, table}
+use Rattle.plain_record.specs.Sets.{Sets, sets}
 use Rattle.plain_record.specs.Plain.{Plain, epochOf, setsAt, Record}
 use Rattle.plain_record.specs.Run.{World, Event}
 use Rattle.plain_record.specs.Claim.{pinsIn, waitingIn, waitingOf, belowNext, AnswerBy, nextRecord}

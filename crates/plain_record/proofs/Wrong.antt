@@ -16,6 +16,7 @@ use Rattle.text.specs.Class.{isDigit, isLower}
 use Rattle.text.specs.Name.{isNameByte, isName}
 use Rattle.text.specs.Decimal.{digitsBy, digits, readOn, readIn, readAt}
 use Rattle.manifest.specs.Operations.{Operation, createTable, addRowset, deleteRowset, addVector, deleteVector}
+use Rattle.manifest.specs.Edits.{Table, table}
 use Rattle.manifest.specs.Lines.{fieldAt, named as namedAt, threeFields, tableFields, lineBy, lineOf, fieldsText, textOf}
 use Rattle.manifest.specs.Split.{linesOn, restOn, lines}
 use Rattle.snapshot.specs.declared.rowsets.Rowsets.{Rowsets}
@@ -50,7 +51,6 @@ use Rattle.storage.specs.declared.Reopened.{Reopened}
 use Rattle.rewrite.specs.Rewritten.{longestRewritten}
 use Rattle.storage.specs.declared.ReopenAnswer.the-variants.{Rewritten, Refused as NotOpened}
 use Rattle.storage.specs.Reopen.{reopenOf, ReopenIs, ReopenSays}
-use Rattle.plain_record.specs.Sets as plain
 use Rattle.plain_record.specs.Calls.{drawRowset, drawVector, commit, pin, unpin, vacuum, reopen}
 use Rattle.plain_record.specs.Run.{Steps, World, world, Event, onward, afterCommit, afterReopen, pairsIn, Starts, Link, Chain}
 use Rattle.plain_record.specs.Claim.{Claim, Holds}
@@ -740,14 +740,14 @@ keeps-pin claim =
     not-empty (sym (h .agrees .book))
 
 -- a manager without tables, where the record has one; and one with a table, where it has none
-no-table : (S : Steps) (w : World) (d : ℕ) (t : plain.Table) → S .showTables (w .manager) (w .book) d [] [] [] [] (Shown 0) [] [] [] [] → ShowsTables S w d (t ∷ []) → ⊥
+no-table : (S : Steps) (w : World) (d : ℕ) (t : Table) → S .showTables (w .manager) (w .book) d [] [] [] [] (Shown 0) [] [] [] [] → ShowsTables S w d (t ∷ []) → ⊥
 no-table S w d t says h = apart (ap (λ (x : Told). x .number) (h [] [] [] [] (Shown 0) [] [] [] [] says .0)) refl
 
 a-table : (S : Steps) (w : World) (d : ℕ) → S .showTables (w .manager) (w .book) d [] [] [] [] (NotShown OutputTooShort) [] [] [] [] → ShowsTables S w d [] → ⊥
 a-table S w d says h = apart (ap (λ (x : Told). x .number) (h [] [] [] [] (NotShown OutputTooShort) [] [] [] [] says .0)) refl
 
-abbrev recorded : plain.Table
-recorded = plain.table 0 7 name
+abbrev recorded : Table
+recorded = table 0 7 name
 
 -- a commit keeps the old sets
 unchanged-T : CommitEnds (unchanged afterNone (length opsT) opsT 12) afterNone opsT frameT (appended (afterT noTables) 2 12) frameT

@@ -8,7 +8,8 @@ use Rattle.lists.specs.Keyed.{put, without, arranged}
 use Rattle.manifest.specs.Operations.{addRowset, deleteRowset, createTable, operation, bad}
 use Rattle.manifest.specs.Lines.{lineOf}
 use Rattle.manifest.specs.Split.{lines}
-use Rattle.plain_record.specs.Sets.{none, itself, table, sets}
+use Rattle.manifest.specs.Edits.{table}
+use Rattle.plain_record.specs.Sets.{none, itself, sets}
 use Rattle.plain_record.specs.Calls.{Call, commit, pin, reopen}
 use Rattle.plain_record.specs.Plain.{pins, waitingAs, byEpochAndPair, plain, tableId, rowsetId, listed, Record, atStart, turn}
 
