@@ -1,6 +1,6 @@
 -- Operations lent as lines: one after another, and the frame of those that are accepted. Assumes nothing.
 use mathlib.Core.Path.{_≡_, refl, sym, ap, ap₂, _∙_}
-use mathlib.Core.Bool.{Bool, true, false}
+use mathlib.Core.Bool.{true}
 use mathlib.Core.List.{List, [], _∷_, _++_, map, append-nil, append-assoc}
 use Prim.Native.Nat.{ℕ, _+_, _-_, _*_, _<_, _≤_}
 use native.Mathlib.Omega.{arith}
@@ -16,7 +16,7 @@ use Rattle.ids.specs.Results.{Result, refused, given, andThen}
 use Rattle.ids.proofs.Verdicts.{none-judged}
 use Rattle.text.specs.Class.{newline}
 use Rattle.manifest.specs.declared.reader.LineAt.the-variants as found
-use Rattle.manifest.specs.Operations.{Operation, createTable, dropTable, addRowset, deleteRowset, addVector, deleteVector, nextIds, Line, begin, end, operation, bad, wellFormed}
+use Rattle.manifest.specs.Operations.{Operation, nextIds, Line, begin, end, operation, bad, wellFormed}
 use Rattle.manifest.specs.Lines.{lineOf, textOf, lineText}
 use Rattle.manifest.specs.Split.{lines, linesOn, linesFrom, restOn, joined, lineAt}
 use Rattle.manifest.proofs.Fields.{drop-past}
@@ -83,24 +83,12 @@ lent-rest s at w h =
     let r : restOn [] (drop at s) ≡ drop at s = rw none at (joined-lines [] (drop at s)) in
     rw (none, r, drop-cons s at 0 w, lent-end s (length s) (omega arith))
 
--- A commit accepts no `N`.
-abbrev isOperation : Operation → Bool
-isOperation (createTable t h n) = true
-isOperation (dropTable t) = true
-isOperation (addRowset t r) = true
-isOperation (deleteRowset t r) = true
-isOperation (addVector t r v) = true
-isOperation (deleteVector t r v) = true
-isOperation (nextIds t r v) = false
+-- A commit accepts no `N`, so no operation that stands for what is no operation.
+abbrev Whole : Operation → Type 0
+Whole o = o ≡ nextIds 0 0 0 → ⊥
 
-accepted-operation : (i e : ℕ) (o : Operation) (s : State) → judged (opRules i e o s) ≡ Accepted → isOperation o ≡ true
-accepted-operation i e (createTable t h n) s a = refl
-accepted-operation i e (dropTable t) s a = refl
-accepted-operation i e (addRowset t r) s a = refl
-accepted-operation i e (deleteRowset t r) s a = refl
-accepted-operation i e (addVector t r v) s a = refl
-accepted-operation i e (deleteVector t r v) s a = refl
-accepted-operation i e (nextIds t r v) s a = clash refl (none-judged (opRules i e (nextIds t r v) s) a .1 .0)
+accepted-whole : (i e : ℕ) (o : Operation) (s : State) → judged (opRules i e o s) ≡ Accepted → Whole o
+accepted-whole i e o s a h = clash refl (none-judged (opRules i e (nextIds 0 0 0) s) (rw h at a) .1 .0)
 
 -- what holds of each operation that is accepted holds of all
 pub accepted-all : (P : Operation → Type 0) → ((i e : ℕ) (o : Operation) (s : State) → judged (opRules i e o s) ≡ Accepted → P o)
@@ -122,17 +110,17 @@ module _ (P : Operation → Type 0) where
   all-last [] m a = a
   all-last (x ∷ l) m a = all-last l m (a .1)
 
-whole-rest : (r : List ℕ) → All (λ o. isOperation o ≡ true) (unended r) → r ≡ []
+whole-rest : (r : List ℕ) → All Whole (unended r) → r ≡ []
 whole-rest [] a = refl
-whole-rest (b ∷ r) a = clash (a .0) refl
+whole-rest (b ∷ r) a = absurd (a .0 refl)
 
-whole-line : (x : Line) → isOperation (operationSaid x) ≡ true → x ≡ operation (operationSaid x)
-whole-line begin a = clash a refl
-whole-line end a = clash a refl
+whole-line : (x : Line) → Whole (operationSaid x) → x ≡ operation (operationSaid x)
+whole-line begin a = absurd (a refl)
+whole-line end a = absurd (a refl)
 whole-line (operation o) a = refl
-whole-line bad a = clash a refl
+whole-line bad a = absurd (a refl)
 
-texts : (ls : List (List ℕ)) → All (λ o. isOperation o ≡ true) (map (λ l. operationSaid (lineOf l)) ls) → map textOf (map (λ l. operationSaid (lineOf l)) ls) ≡ ls
+texts : (ls : List (List ℕ)) → All Whole (map (λ l. operationSaid (lineOf l)) ls) → map textOf (map (λ l. operationSaid (lineOf l)) ls) ≡ ls
 texts [] a = refl
 texts (l ∷ ls) a = ap₂ _∷_ (sym (text-parse l (operationSaid (lineOf l)) (whole-line (lineOf l) (a .0)) .1)) (texts ls (a .1))
 
@@ -144,7 +132,7 @@ pub frame-lent : (s : List ℕ) (e : ℕ) (u t : State) → stepsOf 0 e (operati
 unfolding operationsIn lines
 frame-lent s e u t h =
     let said = map (λ l. operationSaid (lineOf l)) (lines s) in
-    let a = accepted-all (λ o. isOperation o ≡ true) accepted-operation 0 e (said ++ unended (restOn [] s)) u t h in
+    let a = accepted-all Whole accepted-whole 0 e (said ++ unended (restOn [] s)) u t h in
     let r = whole-rest (restOn [] s) (all-last _ said (unended (restOn [] s)) a) in
     let whole : joined (lines s) ≡ s = sym (append-nil (joined (lines s))) ∙ (rw r at (joined-lines [] s)) in
     rw (r, append-nil said) (ap (λ (x : List ℕ). 66 ∷ 10 ∷ x)

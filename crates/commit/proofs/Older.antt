@@ -5,7 +5,7 @@ use mathlib.Core.List.{List, [], _∷_, map}
 use Prim.Native.Nat.{ℕ, _+_, _<_, _≤_}
 use native.Mathlib.Omega.{arith}
 use lib.Dec.{leb, eqb}
-use borrow.Author.Tests.{leb-false, lt-leb, ne-eqb, not-false}
+use borrow.Author.Tests.{leb-false, lt-leb, ne-eqb}
 use Rattle.lists.specs.Keyed.{keep, isAt, has, put, changed}
 use Rattle.lists.proofs.Tests.{by-cases, clash, neither}
 use Rattle.lists.proofs.Order.{same-true}
@@ -13,18 +13,18 @@ use Rattle.lists.proofs.Keyed.{All, Ascending, ascend-to, after-absent, put-new
 use Rattle.ids.specs.declared.refusal.Verdict.the-variants.{Accepted}
 use Rattle.ids.specs.Verdicts.{judged}
 use Rattle.ids.specs.Results.{given}
-use Rattle.ids.proofs.Verdicts.{none-judged}
-use Rattle.manifest.specs.Operations.{Operation, createTable, dropTable, addRowset, deleteRowset, addVector, deleteVector, nextIds}
+use Rattle.manifest.specs.Operations.{Operation}
+use Rattle.manifest.specs.Edits.{Edit, leaves, adds, deletes, editsOf}
 use Rattle.snapshot.specs.Entries.{Entry, addedAt, deletedAt, byIds, goneAt, shownAt, shownBy, shown}
 use Rattle.version_state.specs.declared.VersionManagerInner.{VersionManagerInner}
 use Rattle.version_state.specs.State.{State, stateOf, pairsAt, vectorsAt}
 use Rattle.version_state.specs.Sound.{badInner}
 use Rattle.version_state.proofs.Facts.{Ordered, sound-of}
-use Rattle.operations.specs.Effect.{applied}
+use Rattle.operations.specs.Effect.{marked, applied}
 use Rattle.operations.specs.Judge.{opRules, isShown}
 use Rattle.commit.specs.Commit.{commitOf}
 use Rattle.operations.proofs.Keeps.{ordered-applied}
-use Rattle.operations.proofs.Entries.{not-held}
+use Rattle.operations.proofs.Edits.{EntryFits, fits}
 use Rattle.commit.proofs.Stepwise.{steps-keep}
 use Rattle.commit.proofs.Sounds.{accepts}
 
@@ -90,38 +90,21 @@ record Same (e : ℕ) (s₀ s : State) : Type 0 where
   pairs : (d : ℕ) → d < e → pairsAt d s ≡ pairsAt d s₀
   vectors : (d : ℕ) → d < e → vectorsAt d s ≡ vectorsAt d s₀
 
+module _ (d e : ℕ) (before : d < e) where
+  shown-marked : (f : Edit (List ℕ)) (l : List Entry) → Ascending byIds l → EntryFits e f l → shown d (marked e f l) ≡ shown d l
+  shown-marked leaves l a h = refl
+  shown-marked (adds k) l a h = shown-put d (addedAt e k) l (h .0) (not-yet d e k before)
+  shown-marked (deletes k) l a h = shown-deleted d e k l before (all-shown e k l a h)
+
 same-applied : (e : ℕ) (s₀ : State) (i : ℕ) (o : Operation) (s : State) → Same e s₀ s → judged (opRules i e o s) ≡ Accepted → Same e s₀ (applied e o s)
-same-applied e s₀ i (createTable t h n) s k a = record { ordered = ordered-applied e (createTable t h n) s (k .ordered); pairs = k .pairs; vectors = k .vectors }
-same-applied e s₀ i (dropTable t) s k a = record { ordered = ordered-applied e (dropTable t) s (k .ordered); pairs = k .pairs; vectors = k .vectors }
-same-applied e s₀ i (addRowset t r) s k a =
-    let p = none-judged (opRules i e (addRowset t r) s) a in
+same-applied e s₀ i o s k a =
+    let f = fits i e o s a in
+    let d = editsOf o in
     record {
-      ordered = ordered-applied e (addRowset t r) s (k .ordered);
-      pairs = λ d h. shown-put d (addedAt e (t ∷ r ∷ [])) (s .pairs) (p .1 .1 .1 .0) (not-yet d e (t ∷ r ∷ []) h) ∙ k .pairs d h;
-      vectors = k .vectors;
+      ordered = ordered-applied e o s (k .ordered);
+      pairs = λ c h. shown-marked c e h (d .pairs) (s .pairs) (ascend-to byIds (s .pairs) (k .ordered .pairs)) (f .pairs) ∙ k .pairs c h;
+      vectors = λ c h. shown-marked c e h (d .vectors) (s .vectors) (ascend-to byIds (s .vectors) (k .ordered .vectors)) (f .vectors) ∙ k .vectors c h;
     }
-same-applied e s₀ i (deleteRowset t r) s k a =
-    let p = none-judged (opRules i e (deleteRowset t r) s) a in
-    record {
-      ordered = ordered-applied e (deleteRowset t r) s (k .ordered);
-      pairs = λ d h. shown-deleted d e (t ∷ r ∷ []) (s .pairs) h (all-shown e (t ∷ r ∷ []) (s .pairs) (ascend-to byIds (s .pairs) (k .ordered .pairs)) (not-false _ (p .1 .0))) ∙ k .pairs d h;
-      vectors = k .vectors;
-    }
-same-applied e s₀ i (addVector t r v) s k a =
-    let p = none-judged (opRules i e (addVector t r v) s) a in
-    record {
-      ordered = ordered-applied e (addVector t r v) s (k .ordered);
-      pairs = k .pairs;
-      vectors = λ d h. shown-put d (addedAt e (t ∷ r ∷ v ∷ [])) (s .vectors) (not-held t r v (s .vectors) (p .1 .1 .1 .0)) (not-yet d e (t ∷ r ∷ v ∷ []) h) ∙ k .vectors d h;
-    }
-same-applied e s₀ i (deleteVector t r v) s k a =
-    let p = none-judged (opRules i e (deleteVector t r v) s) a in
-    record {
-      ordered = ordered-applied e (deleteVector t r v) s (k .ordered);
-      pairs = k .pairs;
-      vectors = λ d h. shown-deleted d e (t ∷ r ∷ v ∷ []) (s .vectors) h (all-shown e (t ∷ r ∷ v ∷ []) (s .vectors) (ascend-to byIds (s .vectors) (k .ordered .vectors)) (not-false _ (p .1 .0))) ∙ k .vectors d h;
-    }
-same-applied e s₀ i (nextIds t r v) s k a = record { ordered = ordered-applied e (nextIds t r v) s (k .ordered); pairs = k .pairs; vectors = k .vectors }
 
 module _ (m : VersionManagerInner) (n : ℕ) (os : List Operation) (room : ℕ) (s : State) (b : badInner m ≡ false) (h : commitOf (stateOf m) n os room ≡ given s) (d : ℕ) (k : d ≤ m .epoch) where
   kept : Same (m .epoch + 1) (stateOf m) (accepts (stateOf m) n os room s h .done)

@@ -1,38 +1,39 @@
 -- What an accepted commit leaves passes 29. Assumes nothing.
 use mathlib.Core.Path.{_≡_, refl, sym, subst, _∙_}
-use mathlib.Core.Bool.{true, false, cond, _&&_}
+use mathlib.Core.Bool.{true, false, _&&_}
 use mathlib.Core.List.{List, [], _∷_}
 use Prim.Native.Nat.{ℕ, _+_, _<_, _≤_, max}
 use native.Mathlib.Omega.{arith}
-use lib.Dec.{leb, ltb}
+use lib.Dec.{ltb}
 use lib.ListN.{length, getD}
 use borrow.Author.Tests.{ltb-false, leb-false, lt-ltb, not-false}
 use Rattle.lists.specs.Order.{same}
-use Rattle.lists.specs.Keyed.{keep, allOf, isAt, has, changed}
+use Rattle.lists.specs.Keyed.{keep, allOf, has}
 use Rattle.lists.proofs.Tests.{by-cases, clash, both}
 use Rattle.lists.proofs.Order.{same-true}
-use Rattle.lists.proofs.Keyed.{All, all-map, allOf-all, all-allOf, all-put, all-keep, all-mapped}
+use Rattle.lists.proofs.Keyed.{All, all-map, allOf-all, all-allOf, all-keep}
 use Rattle.text.specs.Name.{isName}
-use Rattle.ids.specs.Ids.{isId32, largest32}
 use Rattle.ids.specs.declared.refusal.Verdict.{Verdict}
 use Rattle.ids.specs.declared.refusal.Verdict.the-variants.{Accepted, Refused}
 use Rattle.ids.specs.Verdicts.{judged}
 use Rattle.ids.proofs.Verdicts.{none-judged}
 use Rattle.manifest.specs.Operations.{Operation, createTable, dropTable, addRowset, deleteRowset, addVector, deleteVector, nextIds}
-use Rattle.snapshot.specs.Entries.{Entry, addedAt, deletedAt, byIds, belowNext, within, shownBy}
-use Rattle.snapshot.specs.Tables.{created, byTable}
+use Rattle.manifest.specs.Edits.{Edit, Edits, editsOf}
+use Rattle.snapshot.specs.Entries.{Entry, byIds, belowNext, within, shownBy}
+use Rattle.snapshot.specs.Tables.{byTable}
 use Rattle.version_state.specs.declared.VersionManagerInner.{VersionManagerInner}
 use Rattle.ids.specs.Limits.{mostOperations, lastEpoch, longestManifest}
 use Rattle.ids.specs.Results.{Result, refused, given, andThen, onward}
 use Rattle.version_state.specs.State.{State, stateOf, withEpoch, Hands}
 use Rattle.version_state.specs.Sound.{leftBehind, badInner}
-use Rattle.version_state.proofs.Within.{Within, within-of, of-within, within-up}
+use Rattle.version_state.proofs.Within.{Rises, Within, within-of, of-within, within-up}
 use Rattle.version_state.proofs.Facts.{Ordered, Sound, sound-of, of-sound}
-use Rattle.operations.specs.Effect.{applied}
+use Rattle.operations.specs.Effect.{marked, asEntry, Next, raised, nextOf, applied}
 use Rattle.operations.specs.Judge.{opRules, isLive, isShown}
 use Rattle.operations.specs.Steps.{stepsOf}
 use Rattle.frames.specs.Frames.{frameOf}
 use Rattle.commit.specs.Commit.{firstRules, lastRules, finishOf, commitOf}
+use Rattle.operations.proofs.Edits.{Adds, adds-map, all-edited, all-marked, rises, well-table}
 use Rattle.operations.proofs.Keeps.{Below, below-applied, ordered-applied}
 use Rattle.commit.proofs.Stepwise.{halt, steps-keep}
 
@@ -59,72 +60,46 @@ shown-below : (e : ℕ) (ns k : List ℕ) (l : List Entry) → All (Within e ns)
 shown-below e ns k l a h =
     has-all byIds (λ j. belowNext j ns ≡ true) k (keep (shownBy e) l) (all-keep (λ x. belowNext (byIds x) ns ≡ true) (shownBy e) l (all-map l (λ x w. w .ids) a)) h
 
-deleted-within : (e : ℕ) (ns k : List ℕ) (l : List Entry) → All (Within e ns) l → All (Within e ns) (changed byIds k (deletedAt e) l)
-deleted-within e ns k l a =
-    all-mapped (Within e ns) (λ x. cond (isAt byIds k x) (deletedAt e x) x) l
-    (all-map l (λ x w. by-cases (isAt byIds k x) (λ t. rw t (record { added = w .added; deleted = omega arith; ids = w .ids })) (λ t. rw t w)) a)
+-- what an operation that is accepted adds has ids below the next ones after it
+record Belows (d : Edits) (x : Next) : Type 0 where
+  pairs : Adds (λ k. belowNext k (x .table ∷ x .rowset ∷ []) ≡ true) (d .pairs)
+  vectors : Adds (λ k. belowNext k (x .table ∷ x .rowset ∷ x .vector ∷ []) ≡ true) (d .vectors)
 
-kept-applied : (e i : ℕ) (o : Operation) (s : State) → Kept e s → judged (opRules i e o s) ≡ Accepted → Kept e (applied e o s)
-kept-applied e i (createTable t h n) s k a =
-    let p = none-judged (opRules i e (createTable t h n) s) a in
-    let w = both (isId32 t) (leb h largest32 && isName n) (not-false _ (p .0)) in
-    let v = both (leb h largest32) (isName n) (w .1) in
-    record {
-      names = all-put byTable (λ x. isName (x .name) ≡ true) (created t h n) (s .tables) (v .1) (k .names);
-      ordered = ordered-applied e (createTable t h n) s (k .ordered);
-      below = below-applied e (createTable t h n) s (k .below);
-      pairs = within-up e e _ _ (omega arith) (omega arith, (omega arith, tt)) (s .pairs) (k .pairs);
-      vectors = within-up e e _ _ (omega arith) (omega arith, (omega arith, (omega arith, tt))) (s .vectors) (k .vectors);
-    }
-kept-applied e i (dropTable t) s k a =
-    record {
-      names = all-keep (λ x. isName (x .name) ≡ true) _ (s .tables) (k .names);
-      ordered = ordered-applied e (dropTable t) s (k .ordered);
-      below = below-applied e (dropTable t) s (k .below);
-      pairs = k .pairs;
-      vectors = k .vectors;
-    }
-kept-applied e i (addRowset t r) s k a =
-    let p = none-judged (opRules i e (addRowset t r) s) a in
-    let b = live-below t s (k .below) (not-false _ (p .1 .0)) in
-    let m = max (s .nextRowset) (r + 1) in
-    record {
-      names = k .names;
-      ordered = ordered-applied e (addRowset t r) s (k .ordered);
-      below = k .below;
-      pairs =
-          all-put byIds (Within e (s .nextTable ∷ m ∷ [])) (addedAt e (t ∷ r ∷ [])) (s .pairs)
-          (record { added = omega arith; deleted = omega arith; ids = rw (b, lt-ltb r m (omega arith)) })
-          (within-up e e _ _ (omega arith) (omega arith, (omega arith, tt)) (s .pairs) (k .pairs));
-      vectors = within-up e e _ _ (omega arith) (omega arith, (omega arith, (omega arith, tt))) (s .vectors) (k .vectors);
-    }
-kept-applied e i (deleteRowset t r) s k a =
-    record { names = k .names; ordered = ordered-applied e (deleteRowset t r) s (k .ordered); below = k .below; pairs = deleted-within e _ (t ∷ r ∷ []) (s .pairs) (k .pairs); vectors = k .vectors }
-kept-applied e i (addVector t r v) s k a =
-    let p = none-judged (opRules i e (addVector t r v) s) a in
-    let b = shown-below e (s .nextTable ∷ s .nextRowset ∷ []) (t ∷ r ∷ []) (s .pairs) (k .pairs) (not-false _ (p .1 .0)) in
+belows : (e i : ℕ) (o : Operation) (s : State) → Kept e s → judged (opRules i e o s) ≡ Accepted → Belows (editsOf o) (raised o (nextOf s))
+belows e i (createTable t h n) s k a = record { pairs = tt; vectors = tt }
+belows e i (dropTable t) s k a = record { pairs = tt; vectors = tt }
+belows e i (addRowset t r) s k a =
+    let b = live-below t s (k .below) (not-false _ (none-judged (opRules i e (addRowset t r) s) a .1 .0)) in
+    record { pairs = rw (b, lt-ltb r (max (s .nextRowset) (r + 1)) (omega arith)); vectors = tt }
+belows e i (deleteRowset t r) s k a = record { pairs = tt; vectors = tt }
+belows e i (addVector t r v) s k a =
+    let b = shown-below e (s .nextTable ∷ s .nextRowset ∷ []) (t ∷ r ∷ []) (s .pairs) (k .pairs) (not-false _ (none-judged (opRules i e (addVector t r v) s) a .1 .0)) in
     let c = both (ltb t (s .nextTable)) (ltb r (s .nextRowset) && true) b in
     let d = both (ltb r (s .nextRowset)) true (c .1) in
-    let m = max (s .nextVector) (v + 1) in
+    record { pairs = tt; vectors = rw (c .0, d .0, lt-ltb v (max (s .nextVector) (v + 1)) (omega arith)) }
+belows e i (deleteVector t r v) s k a = record { pairs = tt; vectors = tt }
+belows e i (nextIds t r v) s k a = record { pairs = tt; vectors = tt }
+
+within-marked : (e : ℕ) (ns ms : List ℕ) (d : Edit (List ℕ)) (l : List Entry) → Rises ns ms → Adds (λ k. belowNext k ms ≡ true) d → All (Within e ns) l → All (Within e ms) (marked e d l)
+within-marked e ns ms d l up b a =
+    all-marked e (Within e ms) d l
+    (adds-map d (λ k h. record { added = omega arith; deleted = omega arith; ids = h }) b)
+    (λ x w. record { added = w .added; deleted = omega arith; ids = w .ids })
+    (within-up e e ns ms (omega arith) up l a)
+
+kept-applied : (e i : ℕ) (o : Operation) (s : State) → Kept e s → judged (opRules i e o s) ≡ Accepted → Kept e (applied e o s)
+kept-applied e i o s k a =
+    let d = editsOf o in
+    let x = raised o (nextOf s) in
+    let b = belows e i o s k a in
+    let up = rises o (nextOf s) in
+    let well = well-table o (not-false _ (none-judged (opRules i e o s) a .0)) in
     record {
-      names = k .names;
-      ordered = ordered-applied e (addVector t r v) s (k .ordered);
-      below = k .below;
-      pairs = k .pairs;
-      vectors =
-          all-put byIds (Within e (s .nextTable ∷ s .nextRowset ∷ m ∷ [])) (addedAt e (t ∷ r ∷ v ∷ [])) (s .vectors)
-          (record { added = omega arith; deleted = omega arith; ids = rw (c .0, d .0, lt-ltb v m (omega arith)) })
-          (within-up e e _ _ (omega arith) (omega arith, (omega arith, (omega arith, tt))) (s .vectors) (k .vectors));
-    }
-kept-applied e i (deleteVector t r v) s k a =
-    record { names = k .names; ordered = ordered-applied e (deleteVector t r v) s (k .ordered); below = k .below; pairs = k .pairs; vectors = deleted-within e _ (t ∷ r ∷ v ∷ []) (s .vectors) (k .vectors) }
-kept-applied e i (nextIds t r v) s k a =
-    record {
-      names = k .names;
-      ordered = ordered-applied e (nextIds t r v) s (k .ordered);
-      below = below-applied e (nextIds t r v) s (k .below);
-      pairs = within-up e e _ _ (omega arith) (omega arith, (omega arith, tt)) (s .pairs) (k .pairs);
-      vectors = within-up e e _ _ (omega arith) (omega arith, (omega arith, (omega arith, tt))) (s .vectors) (k .vectors);
+      names = all-edited byTable asEntry (λ x. isName (x .name) ≡ true) (d .tables) (s .tables) (adds-map (d .tables) (λ t w. w .1) well) (k .names);
+      ordered = ordered-applied e o s (k .ordered);
+      below = below-applied e o s (k .below);
+      pairs = within-marked e (s .nextTable ∷ s .nextRowset ∷ []) (x .table ∷ x .rowset ∷ []) (d .pairs) (s .pairs) (up .table, (up .rowset, tt)) (b .pairs) (k .pairs);
+      vectors = within-marked e (s .nextTable ∷ s .nextRowset ∷ s .nextVector ∷ []) (x .table ∷ x .rowset ∷ x .vector ∷ []) (d .vectors) (s .vectors) (up .table, (up .rowset, (up .vector, tt))) (b .vectors) (k .vectors);
     }
 
 -- a state that passes 29 begins the next epoch

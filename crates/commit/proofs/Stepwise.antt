@@ -9,7 +9,7 @@ use Rattle.ids.specs.declared.refusal.Verdict.{Verdict}
 use Rattle.ids.specs.declared.refusal.Verdict.the-variants.{Accepted, Refused}
 use Rattle.ids.specs.Verdicts.{judged, isAccepted}
 use Rattle.ids.specs.Results.{Result, refused, given, andThen, onward}
-use Rattle.manifest.specs.Operations.{Operation, createTable, dropTable, addRowset, deleteRowset, addVector, deleteVector, nextIds}
+use Rattle.manifest.specs.Operations.{Operation}
 use Rattle.version_state.specs.State.{State}
 use Rattle.operations.specs.declared.Stepped.{Stepped}
 use Rattle.operations.specs.Effect.{applied}
@@ -17,15 +17,6 @@ use Rattle.operations.specs.Judge.{opRules}
 use Rattle.operations.specs.Steps.{stepOf, stepsOf}
 use Rattle.version_state.specs.Columns.{Columns, stateIn}
 use Rattle.operations.specs.Columns.{Ready, StepIs}
-
-pub manifest-applied : (e : ℕ) (o : Operation) (s : State) → applied e o s .manifest ≡ s .manifest
-manifest-applied e (createTable t h n) s = refl
-manifest-applied e (dropTable t) s = refl
-manifest-applied e (addRowset t w) s = refl
-manifest-applied e (deleteRowset t w) s = refl
-manifest-applied e (addVector t w v) s = refl
-manifest-applied e (deleteVector t w v) s = refl
-manifest-applied e (nextIds t w v) s = refl
 
 pub halt : {k : Refusal} {s : State} → refused k ≡ given s → ⊥
 halt h = let z : _≡_ {A = ℕ} 0 1 = cc in omega arith
@@ -83,4 +74,4 @@ module _ (i e : ℕ) (o : Operation) (os : List Operation) (s : State) (r : Step
   turn-on a = ap (λ (x : Result State). andThen x (λ t. stepsOf (i + 1) e os t)) (went (stepOf i e o s) r c told a .0)
 
 pub steps-manifest : (e : ℕ) (os : List Operation) (s t : State) → stepsOf 0 e os s ≡ given t → t .manifest ≡ s .manifest
-steps-manifest e os s t h = steps-keep (λ u. u .manifest ≡ s .manifest) e (λ i o u p a. manifest-applied e o u ∙ p) 0 os s t refl h
+steps-manifest e os s t h = steps-keep (λ u. u .manifest ≡ s .manifest) e (λ i o u p a. p) 0 os s t refl h

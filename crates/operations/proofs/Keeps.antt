@@ -2,95 +2,75 @@
 use mathlib.Core.Path.{_≡_, refl, sym, subst, _∙_}
 use mathlib.Core.Bool.{true}
 use mathlib.Core.List.{List, [], _∷_}
-use Prim.Native.Nat.{ℕ, _+_, _≤_, max}
+use Prim.Native.Nat.{ℕ, _≤_}
 use native.Mathlib.Omega.{arith}
 use lib.Dec.{ltb}
-use lib.ListN.{length, length-map}
-use borrow.Author.Tests.{ltb-true, lt-ltb, leb-false}
-use Rattle.lists.specs.Keyed.{put, without, changed, ascending}
-use Rattle.lists.proofs.Keyed.{All, all-map, allOf-all, all-allOf, all-put, all-keep, ascend-to, ascend-from, ascending-put, ascending-keep, ascending-changed, length-keep, length-put}
+use lib.ListN.{length}
+use borrow.Author.Tests.{ltb-true, lt-ltb}
+use Rattle.lists.specs.Keyed.{ascending}
+use Rattle.lists.proofs.Keyed.{All, all-map, allOf-all, all-allOf, ascend-to, ascend-from}
 use Rattle.ids.specs.Limits.{mostTables, mostHeld}
 use Rattle.ids.specs.declared.refusal.Verdict.{Verdict}
 use Rattle.ids.specs.declared.refusal.Verdict.the-variants.{Accepted, Refused}
 use Rattle.ids.specs.Verdicts.{judged}
 use Rattle.ids.specs.Results.{given, onward}
-use Rattle.ids.proofs.Verdicts.{none-judged}
-use Rattle.manifest.specs.Operations.{Operation, createTable, dropTable, addRowset, deleteRowset, addVector, deleteVector, nextIds, wellFormed}
+use Rattle.manifest.specs.Operations.{Operation, wellFormed}
+use Rattle.manifest.specs.Edits.{Edit, editsOf}
 use Rattle.columns.proofs.Rows.{rows-length}
-use Rattle.snapshot.specs.Entries.{Entry, addedAt, deletedAt, byIds, entryAt}
-use Rattle.snapshot.specs.Tables.{TableEntry, created, byTable, tableAt, Whole}
+use Rattle.snapshot.specs.Entries.{Entry, byIds, entryAt}
+use Rattle.snapshot.specs.Tables.{TableEntry, byTable, tableAt, Whole}
 use Rattle.snapshot.proofs.Entries.{ascending-ids}
 use Rattle.version_state.specs.State.{State}
 use Rattle.version_state.proofs.Facts.{Ordered}
 use Rattle.version_state.specs.declared.Held.{Held}
 use Rattle.operations.specs.declared.Stepped.{Stepped}
-use Rattle.operations.specs.Effect.{applied}
+use Rattle.operations.specs.Effect.{edited, marked, asEntry, raised, nextOf, applied}
 use Rattle.operations.specs.Judge.{stateRules, opRules}
 use Rattle.operations.specs.Steps.{stepOf}
 use Rattle.version_state.specs.Columns.{Columns, stateIn}
 use Rattle.operations.specs.Columns.{Leaves, Turned, Sized, Rising, Ready, StepIs}
+use Rattle.operations.proofs.Edits.{adds-map, all-edited, ascending-edited, ascending-marked, rises, passed, fits, short-edited, short-marked}
 
-entries-put : (x : Entry) (l : List Entry) → ascending byIds l ≡ true → ascending byIds (put byIds x l) ≡ true
-entries-put x l h = ascend-from byIds (put byIds x l) (ascending-put byIds x l (ascend-to byIds l h))
-
-entries-deleted : (e : ℕ) (k : List ℕ) (l : List Entry) → ascending byIds l ≡ true → ascending byIds (changed byIds k (deletedAt e) l) ≡ true
-entries-deleted e k l h = ascend-from byIds (changed byIds k (deletedAt e) l) (ascending-changed byIds k (deletedAt e) (λ x. refl) l (ascend-to byIds l h))
+ordered-marked : (e : ℕ) (d : Edit (List ℕ)) (l : List Entry) → ascending byIds l ≡ true → ascending byIds (marked e d l) ≡ true
+ordered-marked e d l h = ascend-from byIds (marked e d l) (ascending-marked e d l (ascend-to byIds l h))
 
 pub ordered-applied : (e : ℕ) (o : Operation) (s : State) → Ordered s → Ordered (applied e o s)
-ordered-applied e (createTable t h n) s r =
-    record { tables = ascend-from byTable (put byTable (created t h n) (s .tables)) (ascending-put byTable (created t h n) (s .tables) (ascend-to byTable (s .tables) (r .tables))); pairs = r .pairs; vectors = r .vectors }
-ordered-applied e (dropTable t) s r =
-    record { tables = ascend-from byTable (without byTable (t ∷ []) (s .tables)) (ascending-keep byTable _ (s .tables) (ascend-to byTable (s .tables) (r .tables))); pairs = r .pairs; vectors = r .vectors }
-ordered-applied e (addRowset t w) s r = record { tables = r .tables; pairs = entries-put (addedAt e (t ∷ w ∷ [])) (s .pairs) (r .pairs); vectors = r .vectors }
-ordered-applied e (deleteRowset t w) s r = record { tables = r .tables; pairs = entries-deleted e (t ∷ w ∷ []) (s .pairs) (r .pairs); vectors = r .vectors }
-ordered-applied e (addVector t w v) s r = record { tables = r .tables; pairs = r .pairs; vectors = entries-put (addedAt e (t ∷ w ∷ v ∷ [])) (s .vectors) (r .vectors) }
-ordered-applied e (deleteVector t w v) s r = record { tables = r .tables; pairs = r .pairs; vectors = entries-deleted e (t ∷ w ∷ v ∷ []) (s .vectors) (r .vectors) }
-ordered-applied e (nextIds t w v) s r = record { tables = r .tables; pairs = r .pairs; vectors = r .vectors }
+ordered-applied e o s r =
+    let d = editsOf o in
+    record {
+      tables = ascend-from byTable (edited byTable asEntry (d .tables) (s .tables)) (ascending-edited byTable asEntry (d .tables) (s .tables) (ascend-to byTable (s .tables) (r .tables)));
+      pairs = ordered-marked e (d .pairs) (s .pairs) (r .pairs);
+      vectors = ordered-marked e (d .vectors) (s .vectors) (r .vectors);
+    }
 
 -- the tables' ids are below n
 abbrev pub Below : ℕ → List TableEntry → Type 0
 Below n l = All (λ x. ltb (x .table) n ≡ true) l
 
-below-more : (n m : ℕ) (l : List TableEntry) → n ≤ m → Below n l → Below m l
-below-more n m l h b = all-map l (λ x k. lt-ltb (x .table) m (omega (arith, ltb-true (x .table) n k))) b
-
 pub below-applied : (e : ℕ) (o : Operation) (s : State) → Below (s .nextTable) (s .tables) → Below (applied e o s .nextTable) (applied e o s .tables)
-below-applied e (createTable t h n) s b =
-    let m = max (s .nextTable) (t + 1) in
-    all-put byTable (λ x. ltb (x .table) m ≡ true) (created t h n) (s .tables) (lt-ltb t m (omega arith)) (below-more (s .nextTable) m (s .tables) (omega arith) b)
-below-applied e (dropTable t) s b = all-keep (λ x. ltb (x .table) (s .nextTable) ≡ true) _ (s .tables) b
-below-applied e (addRowset t w) s b = b
-below-applied e (deleteRowset t w) s b = b
-below-applied e (addVector t w v) s b = b
-below-applied e (deleteVector t w v) s b = b
-below-applied e (nextIds t w v) s b = below-more (s .nextTable) (max (s .nextTable) t) (s .tables) (omega arith) b
+below-applied e o s b =
+    let d = editsOf o .tables in
+    let x = nextOf s in
+    let m = raised o x .table in
+    let up = rises o x .table in
+    all-edited byTable asEntry (λ t. ltb (t .table) m ≡ true) d (s .tables) (adds-map d (λ t. lt-ltb (t .id) m) (passed o x .tables))
+    (all-map (s .tables) (λ t k. lt-ltb (t .table) m (omega (arith, ltb-true (t .table) (s .nextTable) k))) b)
 
 -- the lists are within the limits
-record Short (s : State) : Type 0 where
-  tables : length (s .tables) ≤ mostTables
-  pairs : length (s .pairs) ≤ mostHeld
-  vectors : length (s .vectors) ≤ mostHeld
+pub record Short (s : State) : Type 0 where
+  pub tables : length (s .tables) ≤ mostTables
+  pub pairs : length (s .pairs) ≤ mostHeld
+  pub vectors : length (s .vectors) ≤ mostHeld
 
-fewer : (k : List ℕ) (l : List TableEntry) → length (without byTable k l) ≤ length l
-fewer k l = length-keep _ l
-
-as-many : (e : ℕ) (k : List ℕ) (l : List Entry) → length (changed byIds k (deletedAt e) l) ≡ length l
-as-many e k l = length-map l _
-
-short-applied : (i e : ℕ) (o : Operation) (s : State) → judged (opRules i e o s) ≡ Accepted → Short s → Short (applied e o s)
-short-applied i e (createTable t h n) s a r =
-    let p = leb-false mostTables (length (s .tables)) (none-judged (opRules i e (createTable t h n) s) a .1 .1 .1 .0) in
-    record { tables = omega (arith, length-put byTable (created t h n) (s .tables)); pairs = r .pairs; vectors = r .vectors }
-short-applied i e (dropTable t) s a r = record { tables = omega (arith, r .tables, fewer (t ∷ []) (s .tables)); pairs = r .pairs; vectors = r .vectors }
-short-applied i e (addRowset t w) s a r =
-    let p = leb-false mostHeld (length (s .pairs)) (none-judged (opRules i e (addRowset t w) s) a .1 .1 .1 .1 .0) in
-    record { tables = r .tables; pairs = omega (arith, length-put byIds (addedAt e (t ∷ w ∷ [])) (s .pairs)); vectors = r .vectors }
-short-applied i e (deleteRowset t w) s a r = record { tables = r .tables; pairs = omega (arith, r .pairs, as-many e (t ∷ w ∷ []) (s .pairs)); vectors = r .vectors }
-short-applied i e (addVector t w v) s a r =
-    let p = leb-false mostHeld (length (s .vectors)) (none-judged (opRules i e (addVector t w v) s) a .1 .1 .1 .1 .0) in
-    record { tables = r .tables; pairs = r .pairs; vectors = omega (arith, length-put byIds (addedAt e (t ∷ w ∷ v ∷ [])) (s .vectors)) }
-short-applied i e (deleteVector t w v) s a r = record { tables = r .tables; pairs = r .pairs; vectors = omega (arith, r .vectors, as-many e (t ∷ w ∷ v ∷ []) (s .vectors)) }
-short-applied i e (nextIds t w v) s a r = record { tables = r .tables; pairs = r .pairs; vectors = r .vectors }
+pub short-applied : (i e : ℕ) (o : Operation) (s : State) → judged (opRules i e o s) ≡ Accepted → Short s → Short (applied e o s)
+short-applied i e o s a r =
+    let d = editsOf o in
+    let f = fits i e o s a in
+    record {
+      tables = short-edited asEntry (d .tables) s (f .tables) (r .tables);
+      pairs = short-marked e (d .pairs) (s .pairs) (f .pairs) (r .pairs);
+      vectors = short-marked e (d .vectors) (s .vectors) (f .vectors) (r .vectors);
+    }
 
 -- Columns that hold what is left are ready.
 module _ (h : Held) (c : Columns) (s : State) (q : stateIn h c ≡ s) where

@@ -1,31 +1,62 @@
 -- What an operation does to the sets at an epoch, and to the next ids: one definition, for a commit and for a replay. Assumes nothing.
-use mathlib.Core.List.{[], _∷_}
+use mathlib.Core.List.{List}
 use Prim.Native.Nat.{ℕ, _+_, max}
 use Rattle.lists.specs.Keyed.{put, without, changed}
 use Rattle.manifest.specs.Operations.{Operation, createTable, dropTable, addRowset, deleteRowset, addVector, deleteVector, nextIds}
-use Rattle.snapshot.specs.Entries.{addedAt, deletedAt, byIds}
-use Rattle.snapshot.specs.Tables.{created, byTable}
+use Rattle.manifest.specs.Edits.{Edit, leaves, adds, deletes, Table, editsOf}
+use Rattle.snapshot.specs.Entries.{Entry, addedAt, deletedAt, byIds}
+use Rattle.snapshot.specs.Tables.{TableEntry, created, byTable}
 use Rattle.version_state.specs.State.{State, withTables, withPairs, withVectors, withNext}
 
--- tables are put in and taken out; a pair or vector is put in as added at epoch e, and one that is deleted is marked with it
+-- what is added is put in, as f makes it an entry; what is deleted is taken out
+abbrev pub edited : {A B : Type 0} → (B → List ℕ) → (A → B) → Edit A → List B → List B
+edited key f leaves l = l
+edited key f (adds x) l = put key (f x) l
+edited key f (deletes k) l = without key k l
+
+-- what is added is put in as added at epoch e; what is deleted stays, marked with it
+abbrev pub marked : ℕ → Edit (List ℕ) → List Entry → List Entry
+marked e leaves l = l
+marked e (adds k) l = put byIds (addedAt e k) l
+marked e (deletes k) l = changed byIds k (deletedAt e) l
+
+abbrev pub asEntry : Table → TableEntry
+asEntry t = created (t .id) (t .shape) (t .name)
+
+-- tables are put in and taken out; pairs and vectors are edited by f
+abbrev pub editedBy : (Edit (List ℕ) → List Entry → List Entry) → Operation → State → State
+editedBy f o s =
+    withVectors
+    (withPairs (withTables s (edited byTable asEntry (editsOf o .tables) (s .tables))) (f (editsOf o .pairs) (s .pairs)))
+    (f (editsOf o .vectors) (s .vectors))
+
 abbrev pub effect : ℕ → Operation → State → State
-effect e (createTable t h n) s = withTables s (put byTable (created t h n) (s .tables))
-effect e (dropTable t) s = withTables s (without byTable (t ∷ []) (s .tables))
-effect e (addRowset t r) s = withPairs s (put byIds (addedAt e (t ∷ r ∷ [])) (s .pairs))
-effect e (deleteRowset t r) s = withPairs s (changed byIds (t ∷ r ∷ []) (deletedAt e) (s .pairs))
-effect e (addVector t r v) s = withVectors s (put byIds (addedAt e (t ∷ r ∷ v ∷ [])) (s .vectors))
-effect e (deleteVector t r v) s = withVectors s (changed byIds (t ∷ r ∷ v ∷ []) (deletedAt e) (s .vectors))
-effect e (nextIds t r v) s = s
+effect e o s = editedBy (marked e) o s
+
+-- the next ids
+pub record Next : Type 0 where
+  pub table : ℕ
+  pub rowset : ℕ
+  pub vector : ℕ
+
+abbrev pub next : ℕ → ℕ → ℕ → Next
+next t r v = record { table = t; rowset = r; vector = v }
 
 -- `T`, `A` and `V` raise the next id past theirs, each its own kind; `N` raises the three to at least its own
-abbrev pub raised : Operation → State → State
-raised (createTable t h n) s = withNext s (max (s .nextTable) (t + 1)) (s .nextRowset) (s .nextVector)
-raised (dropTable t) s = s
-raised (addRowset t r) s = withNext s (s .nextTable) (max (s .nextRowset) (r + 1)) (s .nextVector)
-raised (deleteRowset t r) s = s
-raised (addVector t r v) s = withNext s (s .nextTable) (s .nextRowset) (max (s .nextVector) (v + 1))
-raised (deleteVector t r v) s = s
-raised (nextIds t r v) s = withNext s (max (s .nextTable) t) (max (s .nextRowset) r) (max (s .nextVector) v)
+abbrev pub raised : Operation → Next → Next
+raised (createTable t h n) x = next (max (x .table) (t + 1)) (x .rowset) (x .vector)
+raised (dropTable t) x = x
+raised (addRowset t r) x = next (x .table) (max (x .rowset) (r + 1)) (x .vector)
+raised (deleteRowset t r) x = x
+raised (addVector t r v) x = next (x .table) (x .rowset) (max (x .vector) (v + 1))
+raised (deleteVector t r v) x = x
+raised (nextIds t r v) x = next (max (x .table) t) (max (x .rowset) r) (max (x .vector) v)
+
+abbrev pub nextOf : State → Next
+nextOf s = next (s .nextTable) (s .nextRowset) (s .nextVector)
+
+abbrev pub raise : Operation → State → State
+raise o s = withNext s (raised o (nextOf s) .table) (raised o (nextOf s) .rowset) (raised o (nextOf s) .vector)
 
 abbrev pub applied : ℕ → Operation → State → State
-applied e o s = raised o (effect e o s)
+applied e o s = raise o (effect e o s)

@@ -7,21 +7,12 @@ use lib.Dec.{eqb}
 use lib.ListN.{length, getD}
 use Rattle.lists.specs.Keyed.{keep}
 use Rattle.ids.specs.Verdicts.{judged}
-use Rattle.manifest.specs.Operations.{Operation, createTable, dropTable, addRowset, deleteRowset, addVector, deleteVector, nextIds}
+use Rattle.manifest.specs.Operations.{Operation}
+use Rattle.manifest.specs.Edits.{tableOf}
 use Rattle.snapshot.specs.Entries.{Entry, byIds}
 use Rattle.snapshot.specs.Tables.{nameTaken}
 use Rattle.version_state.specs.State.{State}
 use Rattle.operations.specs.Judge.{isLive, vectorHeld, opRules}
-
--- the table that an operation names
-abbrev pub tableOf : Operation → ℕ
-tableOf (createTable t h n) = t
-tableOf (dropTable t) = t
-tableOf (addRowset t r) = t
-tableOf (deleteRowset t r) = t
-tableOf (addVector t r v) = t
-tableOf (deleteVector t r v) = t
-tableOf (nextIds t r v) = t
 
 abbrev pub ofTable : ℕ → Entry → Bool
 ofTable t x = eqb (getD (byIds x) 0 0) t

@@ -28,7 +28,7 @@ use Rattle.show.specs.Names.{padded, namesRun}
 use Rattle.show.specs.Says.{shownField, showRules, unseen, notCurrent, showTablesRules}
 use Rattle.version_manager.specs.Managers.{heldBy, badManager}
 use Rattle.version_manager.specs.Show.{showVerdict}
-use Rattle.plain_record.specs.Sets.{Table}
+use Rattle.manifest.specs.Edits.{Table}
 use Rattle.plain_record.specs.Plain.{Waiting, Plain, epochOf, guardsIn, Record}
 use Rattle.plain_record.specs.Run.{port, World}
 use Rattle.plain_record.specs.Shows.{nineAlone, namesOf, ShowsPairs, ShowsVectors, ShowsTables}

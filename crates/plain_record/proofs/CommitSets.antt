@@ -5,19 +5,20 @@ use Prim.Native.Nat.{ℕ, _+_, _≤_}
 use Rattle.ids.specs.declared.refusal.Verdict.the-variants.{Accepted}
 use Rattle.ids.specs.Verdicts.{judged}
 use Rattle.ids.specs.Results.{Result, refused, given, andThen}
-use Rattle.manifest.specs.Operations.{Operation, createTable, dropTable, addRowset, deleteRowset, addVector, deleteVector, nextIds}
-use Rattle.snapshot.specs.Tables.{TableEntry, created, byTable}
+use Rattle.manifest.specs.Operations.{Operation}
+use Rattle.manifest.specs.Edits.{Edit, leaves, adds, deletes, Table, editsOf}
+use Rattle.snapshot.specs.Tables.{TableEntry, byTable}
 use Rattle.version_state.specs.State.{State, pairsAt, vectorsAt}
 use Rattle.version_state.specs.Sets as shows
 use Rattle.version_state.proofs.Facts.{Ordered}
-use Rattle.operations.specs.Effect.{applied}
+use Rattle.operations.specs.Effect.{edited, asEntry, applied}
 use Rattle.operations.specs.Judge.{opRules}
 use Rattle.operations.specs.Steps.{stepOf, stepsOf}
 use Rattle.operations.proofs.Keeps.{ordered-applied}
 use Rattle.commit.proofs.Stepwise.{halt, step-given}
 use Rattle.replay.proofs.Maps.{map-put, map-without}
 use Rattle.recovery.proofs.Effects as effects
-use Rattle.plain_record.specs.Sets.{Table, Sets, sets, byId, apply, applyAll}
+use Rattle.plain_record.specs.Sets.{Sets, sets, byId, itself, edit, apply, applyAll}
 use Rattle.plain_record.proofs.Invariant.{plainTable}
 
 -- what holds of the operations still to come and of the state they find, step by step to the last
@@ -50,16 +51,20 @@ plain-unlocked (x ∷ l) = ap (λ (m : List Table). plainTable x ∷ m) (plain-u
 pub plain-of : (e : ℕ) (s : State) → plainOf (effects.setsAt e s) ≡ plainAt e s
 plain-of e s = ap (λ (l : List Table). sets l (pairsAt e s) (vectorsAt e s)) (plain-unlocked (s .tables))
 
+plain-edited : (d : Edit Table) (l : List TableEntry) → map plainTable (edited byTable asEntry d l) ≡ edit byId d (map plainTable l)
+plain-edited leaves l = refl
+plain-edited (adds t) l = sym (map-put plainTable byTable byId (λ x y. refl) (λ x y. refl) (asEntry t) l)
+plain-edited (deletes k) l = sym (map-without plainTable byTable byId k k (λ x. refl) l)
+
+ids-edited : (d : Edit (List ℕ)) (l : List (List ℕ)) → edited itself itself d l ≡ edit itself d l
+ids-edited leaves l = refl
+ids-edited (adds k) l = refl
+ids-edited (deletes k) l = refl
+
 apply-on : (o : Operation) (z : shows.Sets) → plainOf (effects.onSets o z) ≡ apply o (plainOf z)
-apply-on (createTable t h n) z =
-    ap (λ (l : List Table). sets l (z .pairs) (z .vectors)) (sym (map-put plainTable byTable byId (λ x y. refl) (λ x y. refl) (created t h n) (z .tables)))
-apply-on (dropTable t) z =
-    ap (λ (l : List Table). sets l (z .pairs) (z .vectors)) (sym (map-without plainTable byTable byId (t ∷ []) (t ∷ []) (λ x. refl) (z .tables)))
-apply-on (addRowset t r) z = refl
-apply-on (deleteRowset t r) z = refl
-apply-on (addVector t r v) z = refl
-apply-on (deleteVector t r v) z = refl
-apply-on (nextIds t r v) z = refl
+apply-on o z =
+    let d = editsOf o in
+    rw (plain-edited (d .tables) (z .tables), ids-edited (d .pairs) (z .pairs), ids-edited (d .vectors) (z .vectors))
 
 apply-at : (e : ℕ) (o : Operation) (s : State) → 1 ≤ e → Ordered s → plainAt e (applied e o s) ≡ apply o (plainAt e s)
 apply-at e o s h r =

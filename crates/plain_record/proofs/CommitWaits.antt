@@ -1,30 +1,31 @@
 -- The deletions that wait after a commit: those from before and the commit's own, each in its place. Assumes nothing.
 use mathlib.Core.Path.{_≡_, refl, sym, ap, _∙_}
-use mathlib.Core.Bool.{true, false, cond}
-use mathlib.Core.List.{List, [], _∷_, map}
+use mathlib.Core.Bool.{true, false}
+use mathlib.Core.List.{List, [], _∷_, _++_, map}
 use Prim.Native.Nat.{ℕ, _+_, _≤_}
 use native.Mathlib.Omega.{arith}
 use lib.Dec.{eqb, leb}
-use borrow.Author.Tests.{le-leb, ne-eqb, not-false}
+use borrow.Author.Tests.{le-leb, ne-eqb}
 use Rattle.lists.specs.Order.{less}
 use Rattle.lists.specs.Keyed.{keep, has, isAt, put, placed, arranged, changed}
 use Rattle.lists.proofs.Tests.{by-cases, clash, neither}
 use Rattle.lists.proofs.Order.{same-true}
-use Rattle.lists.proofs.Keyed.{All, all-map, all-put, all-mapped, Ascending, ascend-to, after-absent, put-new, keep-placed-out, changed-absent, placed-swap}
+use Rattle.lists.proofs.Keyed.{All, Ascending, ascend-to, after-absent, put-new, keep-placed-out, changed-absent, placed-swap}
 use Rattle.ids.specs.declared.refusal.Verdict.the-variants.{Accepted}
 use Rattle.ids.specs.Verdicts.{judged}
 use Rattle.ids.specs.Results.{given}
-use Rattle.ids.proofs.Verdicts.{none-judged}
-use Rattle.manifest.specs.Operations.{Operation, createTable, dropTable, addRowset, deleteRowset, addVector, deleteVector, nextIds}
+use Rattle.manifest.specs.Operations.{Operation}
+use Rattle.manifest.specs.Edits.{Edit, leaves, adds, deletes, editsOf}
 use Rattle.snapshot.specs.Entries.{Entry, addedAt, deletedAt, goneAt, shownAt, shownBy, byIds, byDeletion, waits}
 use Rattle.version_state.specs.State.{State}
 use Rattle.version_state.proofs.Facts.{Ordered}
-use Rattle.operations.specs.Effect.{applied}
+use Rattle.operations.specs.Effect.{marked, applied}
 use Rattle.operations.specs.Judge.{isShown, opRules}
 use Rattle.operations.specs.Steps.{stepsOf}
+use Rattle.operations.proofs.Edits.{adds-any, all-marked, EntryFits, fits}
 use Rattle.operations.proofs.Keeps.{ordered-applied}
 use Rattle.plain_record.specs.Sets.{itself}
-use Rattle.plain_record.specs.Plain.{Waiting, byEpochAndPair, deletions, await}
+use Rattle.plain_record.specs.Plain.{Waiting, byEpochAndPair, deletion, deletions, await}
 use Rattle.plain_record.specs.Claim.{waitingIn}
 use Rattle.plain_record.proofs.CommitSets.{steps-on}
 
@@ -116,19 +117,8 @@ added-waits e k l n =
     ap (λ (m : List Entry). waitList m) (put-new byIds (addedAt e k) l n)
     ∙ ap (λ (m : List Entry). arranged itself (map byDeletion m)) (keep-placed-out byIds waits (addedAt e k) l refl)
 
-late-deleted : (e : ℕ) (k : List ℕ) (l : List Entry) → Late e l → Late e (changed byIds k (deletedAt e) l)
-late-deleted e k l a =
-    all-mapped (λ (x : Entry). x .deleted ≤ e) (λ x. cond (isAt byIds k x) (deletedAt e x) x) l
-    (all-map l (λ x (p : x .deleted ≤ e). by-cases (isAt byIds k x) (λ t. rw t (omega arith)) (λ t. rw t p)) a)
-
-late-applied : (e : ℕ) (o : Operation) (s : State) → Late e (s .pairs) → Late e (applied e o s .pairs)
-late-applied e (createTable t h n) s l = l
-late-applied e (dropTable t) s l = l
-late-applied e (addRowset t r) s l = all-put byIds (λ (x : Entry). x .deleted ≤ e) (addedAt e (t ∷ r ∷ [])) (s .pairs) (omega arith) l
-late-applied e (deleteRowset t r) s l = late-deleted e (t ∷ r ∷ []) (s .pairs) l
-late-applied e (addVector t r v) s l = l
-late-applied e (deleteVector t r v) s l = l
-late-applied e (nextIds t r v) s l = l
+late-marked : (e : ℕ) (d : Edit (List ℕ)) (l : List Entry) → Late e l → Late e (marked e d l)
+late-marked e d l a = all-marked e (λ (x : Entry). x .deleted ≤ e) d l (adds-any d (λ k. omega arith)) (λ x p. omega arith) a
 
 -- the keys of the deletions to come, placed after those that wait, make z
 record Awaits (c e : ℕ) (z : List (List ℕ)) (i : ℕ) (os : List Operation) (s : State) : Type 0 where
@@ -136,28 +126,21 @@ record Awaits (c e : ℕ) (z : List (List ℕ)) (i : ℕ) (os : List Operation) 
   late : Late e (s .pairs)
   all : placedAll (map byEpochAndPair (deletions c e i os)) (waitList (s .pairs)) ≡ z
 
--- an operation leaves of the deletions to come what it does not delete itself
-step-waits : (c e : ℕ) (i : ℕ) (o : Operation) (os : List Operation) (s : State) → 1 ≤ e → Ordered s → Late e (s .pairs) → judged (opRules i e o s) ≡ Accepted
-    → placedAll (map byEpochAndPair (deletions c e (i + 1) os)) (waitList (applied e o s .pairs)) ≡ placedAll (map byEpochAndPair (deletions c e i (o ∷ os))) (waitList (s .pairs))
-step-waits c e i (createTable t h n) os s p r l a = refl
-step-waits c e i (dropTable t) os s p r l a = refl
-step-waits c e i (addRowset t w) os s p r l a =
-    let j = none-judged (opRules i e (addRowset t w) s) a in
-    ap (placedAll (map byEpochAndPair (deletions c e (i + 1) os))) (added-waits e (t ∷ w ∷ []) (s .pairs) (j .1 .1 .1 .0))
-step-waits c e i (deleteRowset t w) os s p r l a =
-    let j = none-judged (opRules i e (deleteRowset t w) s) a in
-    ap (placedAll (map byEpochAndPair (deletions c e (i + 1) os))) (deleted-waits e (t ∷ w ∷ []) p (s .pairs) (ascend-to byIds (s .pairs) (r .pairs)) l (not-false _ (j .1 .0)))
-step-waits c e i (addVector t w v) os s p r l a = refl
-step-waits c e i (deleteVector t w v) os s p r l a = refl
-step-waits c e i (nextIds t w v) os s p r l a = refl
+-- an edit leaves of the deletions ws to come what it does not delete itself
+step-waits : (c e i : ℕ) (d : Edit (List ℕ)) (ws : List Waiting) (l : List Entry) → 1 ≤ e → Ascending byIds l → Late e l → EntryFits e d l
+    → placedAll (map byEpochAndPair ws) (waitList (marked e d l)) ≡ placedAll (map byEpochAndPair (deletion c e i d ++ ws)) (waitList l)
+step-waits c e i leaves ws l p r h f = refl
+step-waits c e i (adds k) ws l p r h f = ap (placedAll (map byEpochAndPair ws)) (added-waits e k l (f .0))
+step-waits c e i (deletes k) ws l p r h f = ap (placedAll (map byEpochAndPair ws)) (deleted-waits e k p l r h f)
 
 awaits-on : (c e : ℕ) (z : List (List ℕ)) → 1 ≤ e → (i : ℕ) (o : Operation) (os : List Operation) (s : State)
     → Awaits c e z i (o ∷ os) s → judged (opRules i e o s) ≡ Accepted → Awaits c e z (i + 1) os (applied e o s)
 awaits-on c e z p i o os s k a =
+    let d = editsOf o .pairs in
     record {
       ordered = ordered-applied e o s (k .ordered);
-      late = late-applied e o s (k .late);
-      all = step-waits c e i o os s p (k .ordered) (k .late) a ∙ k .all;
+      late = late-marked e d (s .pairs) (k .late);
+      all = step-waits c e i d (deletions c e (i + 1) os) (s .pairs) p (ascend-to byIds (s .pairs) (k .ordered .pairs)) (k .late) (fits i e o s a .pairs) ∙ k .all;
     }
 
 -- what waits after the operations of a commit at place c

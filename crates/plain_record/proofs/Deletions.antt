@@ -10,12 +10,13 @@ use Rattle.lists.specs.Order.{same}
 use Rattle.lists.specs.Keyed.{keep, anyOf, placed}
 use Rattle.lists.proofs.Tests.{by-cases, clash, both, join, neither}
 use Rattle.lists.proofs.Order.{same-refl, same-true}
-use Rattle.lists.proofs.Keyed.{All, all-map, all-placed, all-keep, anyOf-placed, none-anyOf}
-use Rattle.manifest.specs.Operations.{Operation, createTable, dropTable, addRowset, deleteRowset, addVector, deleteVector, nextIds}
+use Rattle.lists.proofs.Keyed.{All, all-map, all-append, all-placed, all-keep, anyOf-placed, none-anyOf}
+use Rattle.manifest.specs.Operations.{Operation}
+use Rattle.manifest.specs.Edits.{Edit, leaves, adds, deletes, editsOf}
 use Rattle.pins.specs.Guards.{Guards, guardsOf, blocked}
 use Rattle.version_manager.specs.Managers.{heldBy}
 use Rattle.plain_record.specs.Calls.{Kind, quiet, asCommit, asPin, asUnpin, asVacuum, asReopen, kindOf}
-use Rattle.plain_record.specs.Plain.{Waiting, byEpochAndPair, epochOf, deletions, await, counted, guardsIn, listed, Record, atStart, turn}
+use Rattle.plain_record.specs.Plain.{Waiting, byEpochAndPair, epochOf, deletion, deletions, await, counted, guardsIn, listed, Record, atStart, turn}
 use Rattle.plain_record.specs.Run.{Event, isAccepted, value}
 use Rattle.plain_record.specs.Claim.{pairsOf, differ, AnswerBy, nextRecord, isVacuum, isReopen, vacuums, frees, isIt, another, removes, lists, Listing, NeverListed, ListedFirst, deletionsBy, EachListed, Deletions}
 
@@ -62,29 +63,24 @@ anyOf-await p (w ∷ ws) l =
 abbrev Of : ℕ → ℕ → Waiting → Type 0
 Of c e x = (x .commit ≡ c) × (x .epoch ≡ e)
 
+own-of : (c e i : ℕ) (d : Edit (List ℕ)) → All (Of c e) (deletion c e i d)
+own-of c e i leaves = tt
+own-of c e i (adds k) = tt
+own-of c e i (deletes k) = ((refl, refl), tt)
+
 all-of : (c e i : ℕ) (os : List Operation) → All (Of c e) (deletions c e i os)
 all-of c e i [] = tt
-all-of c e i (createTable t h n ∷ os) = all-of c e (i + 1) os
-all-of c e i (dropTable t ∷ os) = all-of c e (i + 1) os
-all-of c e i (addRowset t r ∷ os) = all-of c e (i + 1) os
-all-of c e i (deleteRowset t r ∷ os) = ((refl, refl), all-of c e (i + 1) os)
-all-of c e i (addVector t r v ∷ os) = all-of c e (i + 1) os
-all-of c e i (deleteVector t r v ∷ os) = all-of c e (i + 1) os
-all-of c e i (nextIds t r v ∷ os) = all-of c e (i + 1) os
+all-of c e i (o ∷ os) = all-append (Of c e) (deletion c e i (editsOf o .pairs)) (deletions c e (i + 1) os) (own-of c e i (editsOf o .pairs)) (all-of c e (i + 1) os)
 
 -- the pair of one of them is that of its operation
-abbrev pairIn : Operation → List ℕ
-pairIn (createTable t h n) = []
-pairIn (dropTable t) = []
-pairIn (addRowset t r) = []
-pairIn (deleteRowset t r) = t ∷ r ∷ []
-pairIn (addVector t r v) = []
-pairIn (deleteVector t r v) = []
-pairIn (nextIds t r v) = []
+abbrev pairIn : Edit (List ℕ) → List ℕ
+pairIn leaves = []
+pairIn (adds k) = []
+pairIn (deletes k) = k
 
 abbrev pairFrom : ℕ → List Operation → ℕ → List ℕ
 pairFrom i [] n = []
-pairFrom i (o ∷ os) n = cond (eqb i n) (pairIn o) (pairFrom (i + 1) os n)
+pairFrom i (o ∷ os) n = cond (eqb i n) (pairIn (editsOf o .pairs)) (pairFrom (i + 1) os n)
 
 abbrev From : ℕ → List Operation → Waiting → Type 0
 From i os x = (x .pair ≡ pairFrom i os (x .operation)) × (i ≤ x .operation)
@@ -93,15 +89,16 @@ from-later : (c e i : ℕ) (o : Operation) (os : List Operation) → All (From (
 from-later c e i o os a =
     all-map (deletions c e (i + 1) os) (λ x f. let h = f .1 in (rw (ne-eqb i (x .operation) (λ s. omega arith)) (f .0), omega arith)) a
 
+own-from : (c e i : ℕ) (d : Edit (List ℕ)) (later : ℕ → List ℕ) → All (λ x. (x .pair ≡ cond (eqb i (x .operation)) (pairIn d) (later (x .operation))) × (i ≤ x .operation)) (deletion c e i d)
+own-from c e i leaves later = tt
+own-from c e i (adds k) later = tt
+own-from c e i (deletes k) later = ((rw (eq-eqb i i refl), omega arith), tt)
+
 all-from : (c e i : ℕ) (os : List Operation) → All (From i os) (deletions c e i os)
 all-from c e i [] = tt
-all-from c e i (createTable t h n ∷ os) = from-later c e i (createTable t h n) os (all-from c e (i + 1) os)
-all-from c e i (dropTable t ∷ os) = from-later c e i (dropTable t) os (all-from c e (i + 1) os)
-all-from c e i (addRowset t r ∷ os) = from-later c e i (addRowset t r) os (all-from c e (i + 1) os)
-all-from c e i (deleteRowset t r ∷ os) = ((rw (eq-eqb i i refl), omega arith), from-later c e i (deleteRowset t r) os (all-from c e (i + 1) os))
-all-from c e i (addVector t r v ∷ os) = from-later c e i (addVector t r v) os (all-from c e (i + 1) os)
-all-from c e i (deleteVector t r v ∷ os) = from-later c e i (deleteVector t r v) os (all-from c e (i + 1) os)
-all-from c e i (nextIds t r v ∷ os) = from-later c e i (nextIds t r v) os (all-from c e (i + 1) os)
+all-from c e i (o ∷ os) =
+    all-append (From i (o ∷ os)) (deletion c e i (editsOf o .pairs)) (deletions c e (i + 1) os)
+    (own-from c e i (editsOf o .pairs) (pairFrom (i + 1) os)) (from-later c e i o os (all-from c e (i + 1) os))
 
 new-below : (n e : ℕ) (os : List Operation) → All (λ (x : Waiting). x .commit < n + 1) (deletions n e 0 os)
 new-below n e os = all-map (deletions n e 0 os) (λ x o. let h = o .0 in omega arith) (all-of n e 0 os)

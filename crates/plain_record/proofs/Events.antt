@@ -17,6 +17,7 @@ use Rattle.text.specs.Class.{isDigit, isLower}
 use Rattle.text.specs.Name.{isNameByte, isName}
 use Rattle.text.specs.Decimal.{digitsBy, digits}
 use Rattle.manifest.specs.Operations.{Operation, createTable, addRowset, deleteRowset}
+use Rattle.manifest.specs.Edits.{Table, table}
 use Rattle.manifest.specs.Lines.{fieldsText, textOf}
 use Rattle.snapshot.specs.declared.rowsets.Rowsets.{Rowsets}
 use Rattle.snapshot.specs.declared.tables.Tables.{Tables}
@@ -45,7 +46,6 @@ use Rattle.pinning.specs.declared.UnpinAnswer.the-variants.{Unpinned}
 use Rattle.show.specs.declared.ShowAnswer.the-variants.{Shown, Refused as NotShown}
 use Rattle.storage.specs.declared.Reopened.{Reopened}
 use Rattle.storage.specs.declared.ReopenAnswer.the-variants.{Rewritten}
-use Rattle.plain_record.specs.Sets as plain
 use Rattle.plain_record.specs.Calls.{drawRowset, drawVector, commit, pin, unpin, vacuum, reopen}
 use Rattle.plain_record.specs.Run.{Steps, World, world, Event, onward, afterCommit, afterReopen, pairsIn, Starts, Link, Chain}
 use Rattle.plain_record.specs.Claim.{Claim, Holds}
@@ -325,11 +325,11 @@ unfolding rows stepOf textOf fieldsText digits digitsBy isName isNameByte isDigi
 says-T = (refl, record { fits = few 2 1 0 tables noPairs 16 (omega arith) (omega arith); state = refl }, refl)
 
 -- a manager without tables, where the record has one; and one with a table, where it has none
-pub no-table : (S : Steps) (w : World) (d : ℕ) (t : plain.Table) → S .showTables (w .manager) (w .book) d [] [] [] [] (Shown 0) [] [] [] [] → ShowsTables S w d (t ∷ []) → ⊥
+pub no-table : (S : Steps) (w : World) (d : ℕ) (t : Table) → S .showTables (w .manager) (w .book) d [] [] [] [] (Shown 0) [] [] [] [] → ShowsTables S w d (t ∷ []) → ⊥
 no-table S w d t says h = apart (ap (λ (x : Told). x .number) (h [] [] [] [] (Shown 0) [] [] [] [] says .0)) refl
 
 pub a-table : (S : Steps) (w : World) (d : ℕ) → S .showTables (w .manager) (w .book) d [] [] [] [] (NotShown OutputTooShort) [] [] [] [] → ShowsTables S w d [] → ⊥
 a-table S w d says h = apart (ap (λ (x : Told). x .number) (h [] [] [] [] (NotShown OutputTooShort) [] [] [] [] says .0)) refl
 
-abbrev pub recorded : plain.Table
-recorded = plain.table 0 7 name
+abbrev pub recorded : Table
+recorded = table 0 7 name

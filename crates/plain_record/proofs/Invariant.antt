@@ -14,7 +14,8 @@ use Rattle.pins.specs.Guards.{guardsBy, guardsOf, bound}
 use Rattle.version_manager.specs.Managers.{heldBy, badManager}
 use Rattle.replay.specs.Replay.{replayOf}
 use Rattle.recovery.specs.Holds as manifest
-use Rattle.plain_record.specs.Sets.{Table, table, Sets, sets}
+use Rattle.manifest.specs.Edits.{Table, table}
+use Rattle.plain_record.specs.Sets.{Sets, sets}
 use Rattle.plain_record.specs.Calls.{Kind}
 use Rattle.plain_record.specs.Plain.{Plain, epochOf, setsAt, guardsIn, Record, turn}
 use Rattle.plain_record.specs.Run.{World, Event, isAccepted, value}

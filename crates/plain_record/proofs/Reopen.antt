@@ -1,5 +1,5 @@
 -- A reopen keeps what holds between calls, and is never refused where enough is lent. Assumes nothing.
-use mathlib.Core.Path.{_≡_, refl, sym, ap, _∙_}
+use mathlib.Core.Path.{_≡_, refl, sym, ap, subst, _∙_}
 use mathlib.Core.Bool.{Bool, true, false, cond}
 use mathlib.Core.List.{List, [], _∷_, map}
 use Prim.Native.Nat.{ℕ, zero, suc, _+_, _≤_}
@@ -35,7 +35,7 @@ use Rattle.plain_record.specs.Plain.{Plain, setsAt, kept, Record, record
 use Rattle.plain_record.specs.Run.{port, World, isAccepted, replaced, DidReopen}
 use Rattle.plain_record.specs.Claim.{waitingIn}
 use Rattle.plain_record.proofs.Invariant.{plainTable, Torn, Inv}
-use Rattle.plain_record.proofs.CommitIds.{next-rise}
+use Rattle.plain_record.proofs.CommitIds.{Rise, next-rise}
 use Rattle.plain_record.proofs.CommitFile.{append-taken}
 use Rattle.plain_record.proofs.Stands.{inv-stays}
 use Rattle.plain_record.proofs.Standing.{Standing, all-shown, none-waits, all-both}
@@ -122,7 +122,7 @@ module _ (w : World) (r : Record) (i : Inv w r) (m : VersionManager) (b : PinBoo
             ap (vectorsAt d) z ∙ vectors-at (w .torn) s (t .replayed) d g ∙ ap (λ (u : Sets). u .vectors) (t .sets) ∙ sym (ap (λ (u : Sets). u .vectors) (later-sets d (r .torn) g));
         pins = e .pins;
         waiting = ap waitingIn z ∙ nothing-waits (w .torn) s (t .replayed);
-        next = next-rise s (stateOf (m .inner)) (r .torn .added) (rw z (record { table = omega arith; rowset = omega arith; vector = omega arith })) (t .next);
+        next = next-rise s (stateOf (m .inner)) (r .torn .added) (subst (Rise s) (sym z) (record { table = omega arith; rowset = omega arith; vector = omega arith })) (t .next);
         file =
             record {
               state = s;

@@ -8,10 +8,11 @@ use Rattle.lists.specs.Keyed.{put, without, arranged}
 use Rattle.manifest.specs.Operations.{addRowset, deleteRowset, createTable, operation, bad}
 use Rattle.manifest.specs.Lines.{lineOf}
 use Rattle.manifest.specs.Split.{lines}
+use Rattle.manifest.specs.Edits.{table}
 use Rattle.pins.specs.Book.{placeOn}
 use Rattle.pins.specs.Guards.{guardsBy, blocked}
 use Rattle.pins.specs.Counts.{pinsOn}
-use Rattle.plain_record.specs.Sets.{none, itself, table, sets}
+use Rattle.plain_record.specs.Sets.{none, itself, sets}
 use Rattle.plain_record.specs.Calls.{Call, commit, pin, reopen, kindOf}
 use Rattle.plain_record.specs.Plain.{waitingAs, byEpochAndPair, plain, tableId, rowsetId, onePin, oneLess, listed, Record, atStart, turn}
 

@@ -5,7 +5,8 @@ use Prim.Native.Nat.{ℕ, _+_, _-_}
 use lib.Dec.{eqb, leb}
 use lib.ListN.{length, getD}
 use Rattle.lists.specs.Keyed.{keep, placed, put, without}
-use Rattle.manifest.specs.Operations.{Operation, createTable, dropTable, addRowset, deleteRowset, addVector, deleteVector, nextIds}
+use Rattle.manifest.specs.Operations.{Operation}
+use Rattle.manifest.specs.Edits.{Edit, leaves, adds, deletes, Edits, editsOf}
 use Rattle.pins.specs.Book.{PinEntry, placeOn, placeKey, byPlace}
 use Rattle.pins.specs.Guards.{Guards, guardsBy, blocked}
 use Rattle.pins.specs.Counts.{pinsOn, pinsAt}
@@ -56,31 +57,34 @@ epochOf p = length (p .past)
 abbrev pub setsAt : ℕ → Plain → Sets
 setsAt d p = getD (p .past) d (p .now)
 
--- each `D` is a deletion of its own: those of a commit at place c that makes epoch e, the first operation at place i
+-- each `D` is a deletion of its own: that of an operation at place i of a commit at place c that makes epoch e, if it is one
+abbrev pub deletion : ℕ → ℕ → ℕ → Edit (List ℕ) → List Waiting
+deletion c e i leaves = []
+deletion c e i (adds k) = []
+deletion c e i (deletes k) = waitingAs e k c i ∷ []
+
+-- those of the commit's operations, the first at place i
 abbrev pub deletions : ℕ → ℕ → ℕ → List Operation → List Waiting
 deletions c e i [] = []
-deletions c e i (createTable t h n ∷ os) = deletions c e (i + 1) os
-deletions c e i (dropTable t ∷ os) = deletions c e (i + 1) os
-deletions c e i (addRowset t r ∷ os) = deletions c e (i + 1) os
-deletions c e i (deleteRowset t r ∷ os) = waitingAs e (t ∷ r ∷ []) c i ∷ deletions c e (i + 1) os
-deletions c e i (addVector t r v ∷ os) = deletions c e (i + 1) os
-deletions c e i (deleteVector t r v ∷ os) = deletions c e (i + 1) os
-deletions c e i (nextIds t r v ∷ os) = deletions c e (i + 1) os
+deletions c e i (o ∷ os) = deletion c e i (editsOf o .pairs) ++ deletions c e (i + 1) os
 
 -- they wait in order
 abbrev pub await : List Waiting → List Waiting → List Waiting
 await [] l = l
 await (w ∷ ws) l = await ws (placed byEpochAndPair w l)
 
+-- the ids that operations add: f tells the id of what is added
+abbrev pub idAdded : {A : Type 0} → (A → Id) → Edit A → List Id
+idAdded f leaves = []
+idAdded f (adds x) = f x ∷ []
+idAdded f (deletes k) = []
+
+abbrev pub idsBy : Edits → List Id
+idsBy d = idAdded (λ t. tableId (t .id)) (d .tables) ++ (idAdded (λ k. rowsetId (getD k 1 0)) (d .pairs) ++ idAdded (λ k. vectorId (getD k 2 0)) (d .vectors))
+
 abbrev pub idsOf : List Operation → List Id
 idsOf [] = []
-idsOf (createTable t h n ∷ os) = tableId t ∷ idsOf os
-idsOf (dropTable t ∷ os) = idsOf os
-idsOf (addRowset t r ∷ os) = rowsetId r ∷ idsOf os
-idsOf (deleteRowset t r ∷ os) = idsOf os
-idsOf (addVector t r v ∷ os) = vectorId v ∷ idsOf os
-idsOf (deleteVector t r v ∷ os) = idsOf os
-idsOf (nextIds t r v ∷ os) = idsOf os
+idsOf (o ∷ os) = idsBy (editsOf o) ++ idsOf os
 
 -- a counted commit at place c of the list: the next epoch remembers the result
 abbrev pub counted : ℕ → List Operation → Plain → Plain

@@ -2,15 +2,8 @@
 use mathlib.Core.List.{List, [], _∷_}
 use Prim.Native.Nat.{ℕ}
 use Rattle.lists.specs.Keyed.{put, without}
-use Rattle.manifest.specs.Operations.{Operation, createTable, dropTable, addRowset, deleteRowset, addVector, deleteVector, nextIds}
-
-pub record Table : Type 0 where
-  pub id : ℕ
-  pub shape : ℕ
-  pub name : List ℕ
-
-abbrev pub table : ℕ → ℕ → List ℕ → Table
-table t h n = record { id = t; shape = h; name = n }
+use Rattle.manifest.specs.Operations.{Operation}
+use Rattle.manifest.specs.Edits.{Edit, leaves, adds, deletes, Table, editsOf}
 
 -- a pair is (table, rowset), a vector (table, rowset, vector)
 pub record Sets : Type 0 where
@@ -31,14 +24,15 @@ byId t = t .id ∷ []
 abbrev pub itself : List ℕ → List ℕ
 itself k = k
 
+-- what is added is put in, what is deleted is taken out
+abbrev pub edit : {A : Type 0} → (A → List ℕ) → Edit A → List A → List A
+edit key leaves l = l
+edit key (adds x) l = put key x l
+edit key (deletes k) l = without key k l
+
 abbrev pub apply : Operation → Sets → Sets
-apply (createTable t h n) s = sets (put byId (table t h n) (s .tables)) (s .pairs) (s .vectors)
-apply (dropTable t) s = sets (without byId (t ∷ []) (s .tables)) (s .pairs) (s .vectors)
-apply (addRowset t r) s = sets (s .tables) (put itself (t ∷ r ∷ []) (s .pairs)) (s .vectors)
-apply (deleteRowset t r) s = sets (s .tables) (without itself (t ∷ r ∷ []) (s .pairs)) (s .vectors)
-apply (addVector t r v) s = sets (s .tables) (s .pairs) (put itself (t ∷ r ∷ v ∷ []) (s .vectors))
-apply (deleteVector t r v) s = sets (s .tables) (s .pairs) (without itself (t ∷ r ∷ v ∷ []) (s .vectors))
-apply (nextIds t r v) s = s
+apply o s =
+    sets (edit byId (editsOf o .tables) (s .tables)) (edit itself (editsOf o .pairs) (s .pairs)) (edit itself (editsOf o .vectors) (s .vectors))
 
 -- the operations of a commit, in order
 abbrev pub applyAll : List Operation → Sets → Sets

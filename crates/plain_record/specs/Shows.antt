@@ -14,7 +14,7 @@ use Rattle.ids.specs.Answers.{told, after}
 use Rattle.show.specs.declared.ShowAnswer.{ShowAnswer}
 use Rattle.show.specs.Names.{padded}
 use Rattle.show.specs.Says.{showTold, shownField}
-use Rattle.plain_record.specs.Sets.{Table}
+use Rattle.manifest.specs.Edits.{Table}
 use Rattle.plain_record.specs.Run.{Steps, World}
 
 abbrev pub nineAlone : Bool → Verdict

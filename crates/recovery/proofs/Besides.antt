@@ -1,74 +1,47 @@
 -- A commit at an epoch beside a replay of its operations: the same sets after each of them, and no conflict. Assumes nothing.
 use mathlib.Core.Path.{_≡_, refl, sym, ap, subst, _∙_}
-use mathlib.Core.Bool.{true, false, cond, not}
+use mathlib.Core.Bool.{true, false}
 use mathlib.Core.List.{List, [], _∷_, map}
 use Prim.Native.Nat.{ℕ, _+_, _≤_}
 use native.Mathlib.Omega.{arith}
-use lib.Dec.{leb}
-use lib.ListN.{length, length-map}
-use borrow.Author.Tests.{le-leb, leb-false, ltb-true, eqb-true, ne-eqb, not-false}
+use lib.ListN.{length}
+use borrow.Author.Tests.{le-leb, ltb-true, ne-eqb, not-false}
 use Rattle.lists.specs.Order.{same}
-use Rattle.lists.specs.Keyed.{allOf, has, isAt, put, changed}
+use Rattle.lists.specs.Keyed.{allOf, has, isAt}
 use Rattle.lists.proofs.Tests.{join}
-use Rattle.lists.proofs.Keyed.{All, all-map, allOf-all, none-anyOf, anyOf-map, keep-same, length-keep, length-put}
+use Rattle.lists.proofs.Keyed.{All, all-map, allOf-all, none-anyOf, anyOf-map, keep-same}
 use Rattle.columns.specs.Rows.{rows}
 use Rattle.columns.proofs.Rows.{rows-length}
 use Rattle.ids.specs.declared.refusal.Verdict.the-variants.{Accepted}
 use Rattle.ids.specs.Verdicts.{judged}
 use Rattle.ids.specs.Results.{Result, refused, given, andThen}
 use Rattle.ids.proofs.Verdicts.{none-judged}
-use Rattle.manifest.specs.Operations.{Operation, createTable, dropTable, addRowset, deleteRowset, addVector, deleteVector, nextIds, wellFormed}
-use Rattle.snapshot.specs.Entries.{Entry, addedAt, deletedAt, goneAt, shownAt, shownBy, shown, byIds}
-use Rattle.snapshot.specs.Tables.{TableEntry, created, byTable, nameTaken}
+use Rattle.manifest.specs.Operations.{Operation, wellFormed}
+use Rattle.manifest.specs.Edits.{Edit, leaves, adds, deletes, Table, editsOf}
+use Rattle.snapshot.specs.Entries.{Entry, goneAt, shownAt, shownBy, shown, byIds}
+use Rattle.snapshot.specs.Tables.{TableEntry, byTable, nameTaken}
 use Rattle.version_state.specs.declared.VersionManagerInner.{VersionManagerInner}
 use Rattle.version_state.specs.State.{State, stateOf, pairsAt, vectorsAt}
 use Rattle.version_state.specs.Sets.{Sets, sets, unlocked, setsOf}
 use Rattle.version_state.proofs.Within.{Within, within-of}
 use Rattle.version_state.proofs.Facts.{Ordered, Sound}
 use Rattle.operations.specs.Effect.{applied}
-use Rattle.operations.specs.Judge.{isLive, opRules}
+use Rattle.operations.specs.Judge.{opRules}
 use Rattle.operations.specs.Steps.{stepOf, stepsOf}
-use Rattle.operations.proofs.Keeps.{Below, below-applied, ordered-applied}
+use Rattle.operations.proofs.Edits.{TableFits, fits}
+use Rattle.operations.proofs.Keeps.{Below, below-applied, ordered-applied, Short, short-applied}
 use Rattle.commit.proofs.Stepwise.{halt, step-given}
-use Rattle.replay.specs.Replay.{reopened, conflicts}
+use Rattle.replay.specs.Replay.{reopened, clashes, conflicts}
 use Rattle.recovery.specs.Holds.{appliedAll}
 use Rattle.recovery.proofs.Reading.{conflictFree}
 use Rattle.recovery.proofs.Effects.{setsAt, onSets, on-sets}
 use Rattle.recovery.proofs.Replays.{Read, read-applied}
 
--- within document 01's limits
-pub record Few (s : State) : Type 0 where
-  pub tables : length (s .tables) ≤ 16
-  pub pairs : length (s .pairs) ≤ 256
-  pub vectors : length (s .vectors) ≤ 256
-
-few-deleted : (e : ℕ) (k : List ℕ) (l : List Entry) → length l ≤ 256 → length (changed byIds k (deletedAt e) l) ≤ 256
-few-deleted e k l h = let q = length-map l (λ x. cond (isAt byIds k x) (deletedAt e x) x) in omega arith
-
-few-put : (e : ℕ) (k : List ℕ) (l : List Entry) → leb 256 (length l) ≡ false → length (put byIds (addedAt e k) l) ≤ 256
-few-put e k l h = omega (arith, length-put byIds (addedAt e k) l, leb-false 256 (length l) h)
-
-few-applied : (i e : ℕ) (o : Operation) (s : State) → judged (opRules i e o s) ≡ Accepted → Few s → Few (applied e o s)
-few-applied i e (createTable t h n) s a f =
-    let p = none-judged (opRules i e (createTable t h n) s) a in
-    record { tables = omega (arith, length-put byTable (created t h n) (s .tables), leb-false 16 (length (s .tables)) (p .1 .1 .1 .0)); pairs = f .pairs; vectors = f .vectors }
-few-applied i e (dropTable t) s a f =
-    record { tables = omega (arith, length-keep (λ y. not (isAt byTable (t ∷ []) y)) (s .tables), f .tables); pairs = f .pairs; vectors = f .vectors }
-few-applied i e (addRowset t r) s a f =
-    let p = none-judged (opRules i e (addRowset t r) s) a in
-    record { tables = f .tables; pairs = few-put e (t ∷ r ∷ []) (s .pairs) (p .1 .1 .1 .1 .0); vectors = f .vectors }
-few-applied i e (deleteRowset t r) s a f = record { tables = f .tables; pairs = few-deleted e (t ∷ r ∷ []) (s .pairs) (f .pairs); vectors = f .vectors }
-few-applied i e (addVector t r v) s a f =
-    let p = none-judged (opRules i e (addVector t r v) s) a in
-    record { tables = f .tables; pairs = f .pairs; vectors = few-put e (t ∷ r ∷ v ∷ []) (s .vectors) (p .1 .1 .1 .1 .0) }
-few-applied i e (deleteVector t r v) s a f = record { tables = f .tables; pairs = f .pairs; vectors = few-deleted e (t ∷ r ∷ v ∷ []) (s .vectors) (f .vectors) }
-few-applied i e (nextIds t r v) s a f = record { tables = f .tables; pairs = f .pairs; vectors = f .vectors }
-
 -- t is the committing state, v the replayed one
 pub record Beside (e : ℕ) (t v : State) : Type 0 where
   pub ordered : Ordered t
   pub below : Below (t .nextTable) (t .tables)
-  pub few : Few t
+  pub few : Short t
   pub read : Read v
   pub same : setsAt e t ≡ setsAt reopened v
 
@@ -76,11 +49,11 @@ module _ (e : ℕ) (t v : State) (b : Beside e t v) where
   tables-same : map unlocked (t .tables) ≡ map unlocked (v .tables)
   tables-same = ap (λ (z : Sets). z .tables) (b .same)
 
-  live-same : (x : ℕ) → isLive x v ≡ isLive x t
-  live-same x =
-      sym (anyOf-map unlocked (isAt byTable (x ∷ [])) (v .tables))
-      ∙ ap (has byTable (x ∷ [])) (sym tables-same)
-      ∙ anyOf-map unlocked (isAt byTable (x ∷ [])) (t .tables)
+  live-same : (k : List ℕ) → has byTable k (v .tables) ≡ has byTable k (t .tables)
+  live-same k =
+      sym (anyOf-map unlocked (isAt byTable k) (v .tables))
+      ∙ ap (has byTable k) (sym tables-same)
+      ∙ anyOf-map unlocked (isAt byTable k) (t .tables)
 
   name-same : (n : List ℕ) → nameTaken n (v .tables) ≡ nameTaken n (t .tables)
   name-same n =
@@ -88,23 +61,20 @@ module _ (e : ℕ) (t v : State) (b : Beside e t v) where
       ∙ ap (nameTaken n) (sym tables-same)
       ∙ anyOf-map unlocked (λ (x : TableEntry). same (x .name) n) (t .tables)
 
-next-absent : (n : ℕ) (l : List TableEntry) → Below n l → has byTable (n ∷ []) l ≡ false
-next-absent n l b = none-anyOf (isAt byTable (n ∷ [])) l (all-map l (λ x h. rw (ne-eqb (x .table) n (omega (arith, ltb-true (x .table) n h)))) b)
+  next-absent : has byTable (t .nextTable ∷ []) (t .tables) ≡ false
+  next-absent =
+      let n = t .nextTable in
+      none-anyOf (isAt byTable (n ∷ [])) (t .tables) (all-map (t .tables) (λ x h. rw (ne-eqb (x .table) n (omega (arith, ltb-true (x .table) n h)))) (b .below))
+
+  no-clash : (d : Edit Table) → TableFits d t → clashes d (v .tables) ≡ false
+  no-clash leaves f = refl
+  no-clash (adds x) f =
+      let dead : has byTable (x .id ∷ []) (t .tables) ≡ false = ap (λ (n : ℕ). has byTable (n ∷ []) (t .tables)) (f .0) ∙ next-absent in
+      rw (live-same (x .id ∷ []), dead, name-same (x .name)) (f .1)
+  no-clash (deletes k) f = rw (live-same k, f)
 
 no-conflict : (i e : ℕ) (o : Operation) (t v : State) → Beside e t v → judged (opRules i e o t) ≡ Accepted → conflicts o v ≡ false
-no-conflict i e (createTable x h n) t v b a =
-    let p = none-judged (opRules i e (createTable x h n) t) a in
-    let q : x ≡ t .nextTable = eqb-true x (t .nextTable) (not-false _ (p .1 .0)) in
-    let dead : isLive x t ≡ false = rw q (next-absent (t .nextTable) (t .tables) (b .below)) in
-    rw (live-same e t v b x, dead, name-same e t v b n) (p .1 .1 .0)
-no-conflict i e (dropTable x) t v b a =
-    let p = none-judged (opRules i e (dropTable x) t) a in
-    rw (live-same e t v b x) (p .1 .0)
-no-conflict i e (addRowset x r) t v b a = refl
-no-conflict i e (deleteRowset x r) t v b a = refl
-no-conflict i e (addVector x r w) t v b a = refl
-no-conflict i e (deleteVector x r w) t v b a = refl
-no-conflict i e (nextIds x r w) t v b a = refl
+no-conflict i e o t v b a = no-clash e t v b (editsOf o .tables) (fits i e o t a .tables)
 
 well-formed : (i e : ℕ) (o : Operation) (t : State) → judged (opRules i e o t) ≡ Accepted → wellFormed o ≡ true
 well-formed i e o t a = not-false _ (none-judged (opRules i e o t) a .0)
@@ -114,7 +84,7 @@ beside-applied i e o t v h a b =
     record {
       ordered = ordered-applied e o t (b .ordered);
       below = below-applied e o t (b .below);
-      few = few-applied i e o t a (b .few);
+      few = short-applied i e o t a (b .few);
       read = read-applied o v (b .read);
       same = on-sets e o t h (b .ordered) ∙ ap (onSets o) (b .same) ∙ sym (on-sets reopened o v (omega arith) (b .read .ordered));
     }
@@ -162,7 +132,7 @@ next-sets m s =
 few-rows : {A : Type 0} (f : ℕ → A) (n k : ℕ) → n ≤ k → length (rows f n) ≤ k
 few-rows f n k h = omega (arith, rows-length f n, h)
 
-pub few-start : (m : VersionManagerInner) → Sound m → Few (stateOf m)
+pub few-start : (m : VersionManagerInner) → Sound m → Short (stateOf m)
 few-start m s =
     record {
       tables = few-rows _ (m .tables .count) 16 (s .fits .tables);

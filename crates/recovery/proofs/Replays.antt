@@ -1,23 +1,25 @@
 -- The states of a replay: at its epoch and in order, each entry added then, and deleted then or not at all. Assumes nothing.
 use mathlib.Core.Path.{_≡_, refl, sym, ap, subst, _∙_}
-use mathlib.Core.Bool.{cond, _&&_}
+use mathlib.Core.Bool.{_&&_}
 use mathlib.Core.List.{List, [], _∷_, map}
 use Prim.Native.Nat.{ℕ, _+_, _≤_}
 use native.Mathlib.Omega.{arith}
 use lib.Dec.{eqb}
 use borrow.Author.Tests.{le-leb}
-use Rattle.lists.specs.Keyed.{keep, isAt, changed}
+use Rattle.lists.specs.Keyed.{keep}
 use Rattle.lists.proofs.Tests.{by-cases}
-use Rattle.lists.proofs.Keyed.{All, all-map, all-put, all-keep, all-mapped, keep-keep, keep-same, ascend-to, ascend-from, ascending-keep}
+use Rattle.lists.proofs.Keyed.{All, all-map, all-keep, keep-keep, keep-same, ascend-to, ascend-from, ascending-keep}
 use Rattle.ids.specs.Results.{Result, refused, given, andThen}
-use Rattle.manifest.specs.Operations.{Operation, createTable, dropTable, addRowset, deleteRowset, addVector, deleteVector, nextIds, Line, begin, end, operation, bad}
+use Rattle.manifest.specs.Operations.{Operation, Line, begin, end, operation, bad}
+use Rattle.manifest.specs.Edits.{Edit, editsOf}
 use Rattle.manifest.specs.Lines.{lineOf}
 use Rattle.manifest.specs.Split.{lines}
-use Rattle.snapshot.specs.Entries.{Entry, addedAt, deletedAt, goneAt, shownAt, shownBy, shown, byIds}
+use Rattle.snapshot.specs.Entries.{Entry, goneAt, shownAt, shownBy, shown, byIds}
 use Rattle.version_state.specs.State.{State, pairsAt, vectorsAt}
 use Rattle.version_state.specs.Sets.{sets, unlocked, setsOf}
 use Rattle.version_state.proofs.Facts.{Ordered}
-use Rattle.operations.specs.Effect.{applied}
+use Rattle.operations.specs.Effect.{marked, applied}
+use Rattle.operations.proofs.Edits.{adds-any, all-marked}
 use Rattle.operations.proofs.Keeps.{ordered-applied}
 use Rattle.replay.specs.Replay.{Frame, none, opened, Carried, carried, reopened, atStart, conflicts, framed, stands, settled, overLimit, limited, ended, noted, lineRead, linesRead}
 use Rattle.recovery.specs.Holds.{Holds}
@@ -32,33 +34,17 @@ pub record Read (s : State) : Type 0 where
   pub pairs : All Plain (s .pairs)
   pub vectors : All Plain (s .vectors)
 
-plain-deleted : (k : List ℕ) (l : List Entry) → All Plain l → All Plain (changed byIds k (deletedAt reopened) l)
-plain-deleted k l a =
-    all-mapped Plain (λ x. cond (isAt byIds k x) (deletedAt reopened x) x) l
-    (all-map l (λ x p. by-cases (isAt byIds k x) (λ t. rw t (p .0, omega arith)) (λ t. rw t p)) a)
+plain-marked : (d : Edit (List ℕ)) (l : List Entry) → All Plain l → All Plain (marked reopened d l)
+plain-marked d l a = all-marked reopened Plain d l (adds-any d (λ k. (omega arith, omega arith))) (λ x p. (p .0, omega arith)) a
 
 pub read-applied : (o : Operation) (s : State) → Read s → Read (applied reopened o s)
-read-applied (createTable t h n) s r = record { epoch = r .epoch; ordered = ordered-applied reopened (createTable t h n) s (r .ordered); pairs = r .pairs; vectors = r .vectors }
-read-applied (dropTable t) s r = record { epoch = r .epoch; ordered = ordered-applied reopened (dropTable t) s (r .ordered); pairs = r .pairs; vectors = r .vectors }
-read-applied (addRowset t w) s r =
+read-applied o s r =
     record {
       epoch = r .epoch;
-      ordered = ordered-applied reopened (addRowset t w) s (r .ordered);
-      pairs = all-put byIds Plain (addedAt reopened (t ∷ w ∷ [])) (s .pairs) (omega arith, omega arith) (r .pairs);
-      vectors = r .vectors;
+      ordered = ordered-applied reopened o s (r .ordered);
+      pairs = plain-marked (editsOf o .pairs) (s .pairs) (r .pairs);
+      vectors = plain-marked (editsOf o .vectors) (s .vectors) (r .vectors);
     }
-read-applied (deleteRowset t w) s r =
-    record { epoch = r .epoch; ordered = ordered-applied reopened (deleteRowset t w) s (r .ordered); pairs = plain-deleted (t ∷ w ∷ []) (s .pairs) (r .pairs); vectors = r .vectors }
-read-applied (addVector t w v) s r =
-    record {
-      epoch = r .epoch;
-      ordered = ordered-applied reopened (addVector t w v) s (r .ordered);
-      pairs = r .pairs;
-      vectors = all-put byIds Plain (addedAt reopened (t ∷ w ∷ v ∷ [])) (s .vectors) (omega arith, omega arith) (r .vectors);
-    }
-read-applied (deleteVector t w v) s r =
-    record { epoch = r .epoch; ordered = ordered-applied reopened (deleteVector t w v) s (r .ordered); pairs = r .pairs; vectors = plain-deleted (t ∷ w ∷ v ∷ []) (s .vectors) (r .vectors) }
-read-applied (nextIds t w v) s r = record { epoch = r .epoch; ordered = ordered-applied reopened (nextIds t w v) s (r .ordered); pairs = r .pairs; vectors = r .vectors }
 
 read-settled : (s : State) → Read s → Read (settled s)
 read-settled s r =

@@ -25,11 +25,12 @@ use Rattle.version_state.specs.Sets.{unlocked, setsOf, nextOf}
 use Rattle.version_state.specs.Sound.{hasTable, hasRowset, leftBehind, badInner}
 use Rattle.version_state.proofs.Within.{within-of}
 use Rattle.version_state.proofs.Facts.{Ordered, sound-of}
+use Rattle.operations.proofs.Keeps.{Short}
 use Rattle.rewrite.specs.Rewritten.{createOf, addOf, addVectorOf, rewriteOf}
 use Rattle.replay.proofs.Maps.{ascending-mapped}
 use Rattle.recovery.specs.Rewritable.{Rewritable, Widths, namesDiffer, idsBelow}
 use Rattle.recovery.proofs.SoundState.{two, three}
-use Rattle.recovery.proofs.Besides.{Few, few-start}
+use Rattle.recovery.proofs.Besides.{few-start}
 use Rattle.recovery.proofs.Owned.{allOf-map, housed-of, owned-of}
 
 pub all-with : {A : Type 0} {P Q R : A → Type 0} (l : List A) → ((x : A) → P x → Q x → R x) → All P l → All Q l → All R l
@@ -60,7 +61,7 @@ ids-three n m o (x ∷ y ∷ z ∷ w ∷ k) h = clash (both _ _ h .0) (ne-eqb (l
 -- what 29 asks of the lists of a state, within their widths and of different names
 pub record Passes (s : State) : Type 0 where
   pub ordered : Ordered s
-  pub few : Few s
+  pub few : Short s
   pub widths : Widths s
   pub names : allOf (λ t. isName (t .name)) (s .tables) ≡ true
   pub differ : namesDiffer (s .tables) ≡ true

@@ -1,27 +1,28 @@
 -- What a replay keeps of its state, operation by operation. Assumes nothing.
 use mathlib.Core.Path.{_≡_, refl, _∙_}
-use mathlib.Core.Bool.{Bool, true, false, cond}
+use mathlib.Core.Bool.{Bool, true, false}
 use mathlib.Core.List.{List, [], _∷_}
-use Prim.Native.Nat.{ℕ, _+_, _<_, _≤_, max}
+use Prim.Native.Nat.{ℕ, _<_, _≤_}
 use native.Mathlib.Omega.{arith}
 use lib.ListN.{getD}
 use Rattle.lists.specs.Order.{less, same}
-use Rattle.lists.specs.Keyed.{keep, isAt, put, changed}
+use Rattle.lists.specs.Keyed.{keep, has, put}
 use Rattle.lists.proofs.Tests.{by-cases, neither}
 use Rattle.lists.proofs.Order.{same-sym}
-use Rattle.lists.proofs.Keyed.{All, all-map, all-put, all-keep, all-mapped, anyOf-none}
+use Rattle.lists.proofs.Keyed.{All, all-map, all-put, all-keep, anyOf-none}
 use Rattle.ids.specs.Ids.{largest32, largest64}
 use Rattle.text.specs.Name.{isName}
 use Rattle.manifest.specs.Operations.{Operation, createTable, dropTable, addRowset, deleteRowset, addVector, deleteVector, nextIds, wellFormed}
+use Rattle.manifest.specs.Edits.{Edit, leaves, adds, deletes, Table, editsOf}
 use Rattle.manifest.proofs.Texts.{pair-ids, vector-ids, next-values, table-values}
-use Rattle.snapshot.specs.Entries.{Entry, addedAt, deletedAt, byIds}
-use Rattle.snapshot.specs.Tables.{TableEntry, created, byTable, nameTaken}
+use Rattle.snapshot.specs.Entries.{Entry}
+use Rattle.snapshot.specs.Tables.{TableEntry, byTable, nameTaken}
 use Rattle.version_state.specs.State.{State}
 use Rattle.version_state.proofs.Facts.{Ordered}
-use Rattle.operations.specs.Effect.{applied}
-use Rattle.operations.specs.Judge.{isLive}
+use Rattle.operations.specs.Effect.{edited, marked, asEntry, Next, raised, nextOf, applied}
+use Rattle.operations.proofs.Edits.{Adds, adds-both, all-edited, all-marked, rises, passed, well-table}
 use Rattle.operations.proofs.Keeps.{ordered-applied}
-use Rattle.replay.specs.Replay.{reopened, conflicts}
+use Rattle.replay.specs.Replay.{reopened, clashes, conflicts}
 
 -- each entry to each later one
 module _ {A : Type 0} (R : A → A → Type 0) where
@@ -77,10 +78,13 @@ made-more n m l h a = all-map l (λ x w. record { below = omega (arith, w .below
 added-more : (f : List ℕ → List ℕ) (i n m : ℕ) (l : List Entry) → n ≤ m → All (Added f i n) l → All (Added f i m) l
 added-more f i n m l h a = all-map l (λ x w. record { ids = w .ids; below = omega (arith, w .below); added = w .added }) a
 
-added-deleted : (f : List ℕ → List ℕ) (i n : ℕ) (k : List ℕ) (l : List Entry) → All (Added f i n) l → All (Added f i n) (changed byIds k (deletedAt reopened) l)
-added-deleted f i n k l a =
-    all-mapped (Added f i n) (λ x. cond (isAt byIds k x) (deletedAt reopened x) x) l
-    (all-map l (λ x w. by-cases (isAt byIds k x) (λ t. rw t (record { ids = w .ids; below = w .below; added = w .added })) (λ t. rw t w)) a)
+added-marked : (f : List ℕ → List ℕ) (i n m : ℕ) (d : Edit (List ℕ)) (l : List Entry) → n ≤ m → Adds (λ k. k ≡ f k) d → Adds (λ k. getD k i 0 < m) d
+    → All (Added f i n) l → All (Added f i m) (marked reopened d l)
+added-marked f i n m d l up form new a =
+    all-marked reopened (Added f i m) d l
+    (adds-both d (λ k q b. record { ids = q; below = b; added = refl }) form new)
+    (λ x w. record { ids = w .ids; below = w .below; added = w .added })
+    (added-more f i n m l up a)
 
 pub record Kept (s : State) : Type 0 where
   pub epoch : s .epoch ≡ reopened
@@ -94,118 +98,66 @@ pub record Kept (s : State) : Type 0 where
   pub pairs : All (Added two 1 (s .nextRowset)) (s .pairs)
   pub vectors : All (Added three 2 (s .nextVector)) (s .vectors)
 
-pub kept-applied : (o : Operation) (s : State) → Kept s → wellFormed o ≡ true → conflicts o s ≡ false → Kept (applied reopened o s)
-kept-applied (createTable t h n) s k w c =
+-- the next ids within their widths
+record Small (x : Next) : Type 0 where
+  table : x .table ≤ largest32
+  rowset : x .rowset ≤ largest32
+  vector : x .vector ≤ largest64
+
+-- what a well-formed operation brings: keys of two and of three ids, and next ids within their widths
+record Brings (o : Operation) (x : Next) : Type 0 where
+  pairs : Adds (λ k. k ≡ two k) (editsOf o .pairs)
+  vectors : Adds (λ k. k ≡ three k) (editsOf o .vectors)
+  next : Small (raised o x)
+
+brings : (o : Operation) (x : Next) → wellFormed o ≡ true → Small x → Brings o x
+brings (createTable t h n) x w a =
     let v = table-values t h n w in
-    let d = neither (isLive t s) (nameTaken n (s .tables)) c in
-    let m = max (s .nextTable) (t + 1) in
-    let old = k .nextTable in
-    record {
-      epoch = k .epoch;
-      manifest = k .manifest;
-      nextTable = omega arith;
-      nextRowset = k .nextRowset;
-      nextVector = k .nextVector;
-      ordered = ordered-applied reopened (createTable t h n) s (k .ordered);
-      tables =
-          all-put byTable (Made m) (created t h n) (s .tables)
-          (record { below = omega arith; shape = v .1; name = v .2; free = refl })
-          (made-more (s .nextTable) m (s .tables) (omega arith) (k .tables));
-      names = names-put (created t h n) (s .tables) (d .1) (k .names);
-      pairs = k .pairs;
-      vectors = k .vectors;
-    }
-kept-applied (dropTable t) s k w c =
-    record {
-      epoch = k .epoch;
-      manifest = k .manifest;
-      nextTable = k .nextTable;
-      nextRowset = k .nextRowset;
-      nextVector = k .nextVector;
-      ordered = ordered-applied reopened (dropTable t) s (k .ordered);
-      tables = all-keep (Made (s .nextTable)) _ (s .tables) (k .tables);
-      names = pairwise-keep Other _ (s .tables) (k .names);
-      pairs = k .pairs;
-      vectors = k .vectors;
-    }
-kept-applied (addRowset t r) s k w c =
+    let old = a .table in
+    record { pairs = tt; vectors = tt; next = record { table = omega arith; rowset = a .rowset; vector = a .vector } }
+brings (dropTable t) x w a = record { pairs = tt; vectors = tt; next = a }
+brings (addRowset t r) x w a =
     let v = pair-ids t r w in
-    let m = max (s .nextRowset) (r + 1) in
-    let old = k .nextRowset in
-    record {
-      epoch = k .epoch;
-      manifest = k .manifest;
-      nextTable = k .nextTable;
-      nextRowset = omega arith;
-      nextVector = k .nextVector;
-      ordered = ordered-applied reopened (addRowset t r) s (k .ordered);
-      tables = k .tables;
-      names = k .names;
-      pairs =
-          all-put byIds (Added two 1 m) (addedAt reopened (t ∷ r ∷ [])) (s .pairs)
-          (record { ids = refl; below = omega arith; added = refl })
-          (added-more two 1 (s .nextRowset) m (s .pairs) (omega arith) (k .pairs));
-      vectors = k .vectors;
-    }
-kept-applied (deleteRowset t r) s k w c =
-    record {
-      epoch = k .epoch;
-      manifest = k .manifest;
-      nextTable = k .nextTable;
-      nextRowset = k .nextRowset;
-      nextVector = k .nextVector;
-      ordered = ordered-applied reopened (deleteRowset t r) s (k .ordered);
-      tables = k .tables;
-      names = k .names;
-      pairs = added-deleted two 1 (s .nextRowset) (t ∷ r ∷ []) (s .pairs) (k .pairs);
-      vectors = k .vectors;
-    }
-kept-applied (addVector t r v) s k w c =
+    let old = a .rowset in
+    record { pairs = refl; vectors = tt; next = record { table = a .table; rowset = omega arith; vector = a .vector } }
+brings (deleteRowset t r) x w a = record { pairs = tt; vectors = tt; next = a }
+brings (addVector t r v) x w a =
     let i = vector-ids t r v w in
-    let m = max (s .nextVector) (v + 1) in
-    let old = k .nextVector in
-    record {
-      epoch = k .epoch;
-      manifest = k .manifest;
-      nextTable = k .nextTable;
-      nextRowset = k .nextRowset;
-      nextVector = omega arith;
-      ordered = ordered-applied reopened (addVector t r v) s (k .ordered);
-      tables = k .tables;
-      names = k .names;
-      pairs = k .pairs;
-      vectors =
-          all-put byIds (Added three 2 m) (addedAt reopened (t ∷ r ∷ v ∷ [])) (s .vectors)
-          (record { ids = refl; below = omega arith; added = refl })
-          (added-more three 2 (s .nextVector) m (s .vectors) (omega arith) (k .vectors));
-    }
-kept-applied (deleteVector t r v) s k w c =
-    record {
-      epoch = k .epoch;
-      manifest = k .manifest;
-      nextTable = k .nextTable;
-      nextRowset = k .nextRowset;
-      nextVector = k .nextVector;
-      ordered = ordered-applied reopened (deleteVector t r v) s (k .ordered);
-      tables = k .tables;
-      names = k .names;
-      pairs = k .pairs;
-      vectors = added-deleted three 2 (s .nextVector) (t ∷ r ∷ v ∷ []) (s .vectors) (k .vectors);
-    }
-kept-applied (nextIds t r v) s k w c =
+    let old = a .vector in
+    record { pairs = tt; vectors = refl; next = record { table = a .table; rowset = a .rowset; vector = omega arith } }
+brings (deleteVector t r v) x w a = record { pairs = tt; vectors = tt; next = a }
+brings (nextIds t r v) x w a =
     let i = next-values t r v w in
-    let oldTable = k .nextTable in
-    let oldRowset = k .nextRowset in
-    let oldVector = k .nextVector in
+    let oldTable = a .table in
+    let oldRowset = a .rowset in
+    let oldVector = a .vector in
+    record { pairs = tt; vectors = tt; next = record { table = omega arith; rowset = omega arith; vector = omega arith } }
+
+names-edited : (d : Edit Table) (l : List TableEntry) → clashes d l ≡ false → Pairwise Other l → Pairwise Other (edited byTable asEntry d l)
+names-edited leaves l c h = h
+names-edited (adds t) l c h = names-put (asEntry t) l (neither (has byTable (t .id ∷ []) l) (nameTaken (t .name) l) c .1) h
+names-edited (deletes k) l c h = pairwise-keep Other _ l h
+
+pub kept-applied : (o : Operation) (s : State) → Kept s → wellFormed o ≡ true → conflicts o s ≡ false → Kept (applied reopened o s)
+kept-applied o s k w c =
+    let d = editsOf o in
+    let x = nextOf s in
+    let y = raised o x in
+    let up = rises o x in
+    let new = passed o x in
+    let b = brings o x w (record { table = k .nextTable; rowset = k .nextRowset; vector = k .nextVector }) in
     record {
       epoch = k .epoch;
       manifest = k .manifest;
-      nextTable = omega arith;
-      nextRowset = omega arith;
-      nextVector = omega arith;
-      ordered = ordered-applied reopened (nextIds t r v) s (k .ordered);
-      tables = made-more (s .nextTable) (max (s .nextTable) t) (s .tables) (omega arith) (k .tables);
-      names = k .names;
-      pairs = added-more two 1 (s .nextRowset) (max (s .nextRowset) r) (s .pairs) (omega arith) (k .pairs);
-      vectors = added-more three 2 (s .nextVector) (max (s .nextVector) v) (s .vectors) (omega arith) (k .vectors);
+      nextTable = b .next .table;
+      nextRowset = b .next .rowset;
+      nextVector = b .next .vector;
+      ordered = ordered-applied reopened o s (k .ordered);
+      tables =
+          all-edited byTable asEntry (Made (y .table)) (d .tables) (s .tables)
+          (adds-both (d .tables) (λ t p q. record { below = p; shape = q .0; name = q .1; free = refl }) (new .tables) (well-table o w))
+          (made-more (s .nextTable) (y .table) (s .tables) (up .table) (k .tables));
+      names = names-edited (d .tables) (s .tables) c (k .names);
+      pairs = added-marked two 1 (s .nextRowset) (y .rowset) (d .pairs) (s .pairs) (up .rowset) (b .pairs) (new .pairs) (k .pairs);
+      vectors = added-marked three 2 (s .nextVector) (y .vector) (d .vectors) (s .vectors) (up .vector) (b .vectors) (new .vectors) (k .vectors);
     }

@@ -1,5 +1,5 @@
 -- To take out at once what is deleted, and to mark it and take it out at the `E`, leave the same. Assumes nothing.
-use mathlib.Core.Path.{_≡_, refl, sym, ap, _∙_}
+use mathlib.Core.Path.{_≡_, refl, sym, ap, ap₂, _∙_}
 use mathlib.Core.Bool.{Bool, true, false}
 use mathlib.Core.List.{List, [], _∷_}
 use Prim.Native.Nat.{ℕ, _+_}
@@ -7,12 +7,14 @@ use Rattle.lists.specs.Order.{less, same}
 use Rattle.lists.specs.Keyed.{keep, isAt, put, without, changed}
 use Rattle.lists.proofs.Tests.{by-cases, clash}
 use Rattle.lists.proofs.Order.{less-asym, less-total, less-trans, more-same, same-true, same-eq}
-use Rattle.lists.proofs.Keyed.{After, Ascending, all-map, all-keep, ascending-put, ascending-changed}
+use Rattle.lists.proofs.Keyed.{After, Ascending, all-map, all-keep}
 use Rattle.ids.specs.Results.{Result, andThen}
-use Rattle.manifest.specs.Operations.{Operation, createTable, dropTable, addRowset, deleteRowset, addVector, deleteVector, nextIds}
+use Rattle.manifest.specs.Operations.{Operation}
+use Rattle.manifest.specs.Edits.{Edit, leaves, adds, deletes, editsOf}
 use Rattle.snapshot.specs.Entries.{Entry, addedAt, deletedAt, byIds}
 use Rattle.version_state.specs.State.{State, withPairs, withVectors}
-use Rattle.operations.specs.Effect.{applied}
+use Rattle.operations.specs.Effect.{edited, marked, applied}
+use Rattle.operations.proofs.Edits.{ascending-marked}
 use Rattle.replay.specs.Replay.{reopened, conflicts, framed, stands, settled}
 use Rattle.replay.specs.Working.{lightly, framedLightly}
 
@@ -58,44 +60,24 @@ pub record Rising (s : State) : Type 0 where
   pub vectors : Ascending byIds (s .vectors)
 
 rising-one : (o : Operation) (s : State) → Rising s → Rising (applied reopened o s)
-rising-one (createTable t h n) s r = record { pairs = r .pairs; vectors = r .vectors }
-rising-one (dropTable t) s r = record { pairs = r .pairs; vectors = r .vectors }
-rising-one (addRowset t p) s r = record { pairs = ascending-put byIds (addedAt reopened (t ∷ p ∷ [])) (s .pairs) (r .pairs); vectors = r .vectors }
-rising-one (deleteRowset t p) s r = record { pairs = ascending-changed byIds (t ∷ p ∷ []) (deletedAt reopened) (λ x. refl) (s .pairs) (r .pairs); vectors = r .vectors }
-rising-one (addVector t p v) s r = record { pairs = r .pairs; vectors = ascending-put byIds (addedAt reopened (t ∷ p ∷ v ∷ [])) (s .vectors) (r .vectors) }
-rising-one (deleteVector t p v) s r = record { pairs = r .pairs; vectors = ascending-changed byIds (t ∷ p ∷ v ∷ []) (deletedAt reopened) (λ x. refl) (s .vectors) (r .vectors) }
-rising-one (nextIds t p v) s r = record { pairs = r .pairs; vectors = r .vectors }
+rising-one o s r =
+    record { pairs = ascending-marked reopened (editsOf o .pairs) (s .pairs) (r .pairs); vectors = ascending-marked reopened (editsOf o .vectors) (s .vectors) (r .vectors) }
+
+light-edit : (d : Edit (List ℕ)) (l : List Entry) → Ascending byIds l → keep stands (marked reopened d l) ≡ edited byIds (addedAt reopened) d (keep stands l)
+light-edit leaves l a = refl
+light-edit (adds k) l a = keep-put byIds stands (addedAt reopened k) l refl a
+light-edit (deletes k) l a = keep-changed byIds stands k (deletedAt reopened) (λ x. refl) l
 
 light-one : (o : Operation) (s : State) → Rising s → settled (applied reopened o s) ≡ lightly o (settled s)
-light-one (createTable t h n) s r = refl
-light-one (dropTable t) s r = refl
-light-one (addRowset t p) s r =
-    let e = keep-put byIds stands (addedAt reopened (t ∷ p ∷ [])) (s .pairs) refl (r .pairs) in
-    ap (λ (l : List Entry). withPairs (settled (applied reopened (addRowset t p) s)) l) e
-light-one (deleteRowset t p) s r =
-    ap (λ (l : List Entry). withPairs (settled s) l) (keep-changed byIds stands (t ∷ p ∷ []) (deletedAt reopened) (λ x. refl) (s .pairs))
-light-one (addVector t p v) s r =
-    let e = keep-put byIds stands (addedAt reopened (t ∷ p ∷ v ∷ [])) (s .vectors) refl (r .vectors) in
-    ap (λ (l : List Entry). withVectors (settled (applied reopened (addVector t p v) s)) l) e
-light-one (deleteVector t p v) s r =
-    ap (λ (l : List Entry). withVectors (settled s) l) (keep-changed byIds stands (t ∷ p ∷ v ∷ []) (deletedAt reopened) (λ x. refl) (s .vectors))
-light-one (nextIds t p v) s r = refl
-
-conflicts-settled : (o : Operation) (s : State) → conflicts o (settled s) ≡ conflicts o s
-conflicts-settled (createTable t h n) s = refl
-conflicts-settled (dropTable t) s = refl
-conflicts-settled (addRowset t p) s = refl
-conflicts-settled (deleteRowset t p) s = refl
-conflicts-settled (addVector t p v) s = refl
-conflicts-settled (deleteVector t p v) s = refl
-conflicts-settled (nextIds t p v) s = refl
+light-one o s r =
+    ap₂ (λ (p v : List Entry). withVectors (withPairs (applied reopened o s) p) v)
+    (light-edit (editsOf o .pairs) (s .pairs) (r .pairs)) (light-edit (editsOf o .vectors) (s .vectors) (r .vectors))
 
 -- a frame, and what is done with what stands after it
 pub frame-light : (g : State → Result State) (n : ℕ) (os : List Operation) (s : State) → Rising s
     → andThen (framed n os s) (λ u. g (settled u)) ≡ andThen (framedLightly n os (settled s)) g
 frame-light g n [] s r = refl
 frame-light g n (o ∷ os) s r =
-    let c = conflicts-settled o s in
     by-cases (conflicts o s)
-    (λ t. rw (t, c, t))
-    (λ t. rw (t, c, t) (frame-light g (n + 1) os (applied reopened o s) (rising-one o s r) ∙ rw (light-one o s r)))
+    (λ t. rw t)
+    (λ t. rw t (frame-light g (n + 1) os (applied reopened o s) (rising-one o s r) ∙ rw (light-one o s r)))

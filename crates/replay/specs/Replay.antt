@@ -5,20 +5,20 @@ use mathlib.Core.List.{List, [], _∷_, _++_}
 use Prim.Native.Nat.{ℕ, _+_}
 use lib.Dec.{leb, ltb}
 use lib.ListN.{length}
-use Rattle.lists.specs.Keyed.{keep, allOf}
+use Rattle.lists.specs.Keyed.{keep, allOf, has}
 use Rattle.ids.specs.declared.refusal.Refusal.the-variants.{ManifestTooLong, Malformed, TableConflict, OverLimit, RowsetWithoutTable, TooManyOperations}
 use Rattle.ids.specs.declared.refusal.Verdict.the-variants.{Accepted, Refused}
 use Rattle.ids.specs.Results.{Result, refused, given, andThen}
-use Rattle.manifest.specs.Operations.{Operation, createTable, dropTable, addRowset, deleteRowset, addVector, deleteVector, nextIds, Line, begin, end, operation, bad}
+use Rattle.manifest.specs.Operations.{Operation, Line, begin, end, operation, bad}
+use Rattle.manifest.specs.Edits.{Edit, leaves, adds, deletes, Table, editsOf}
 use Rattle.manifest.specs.Lines.{lineOf}
 use Rattle.manifest.specs.Split.{lines}
 use Rattle.ids.specs.Limits.{mostOperations, mostTables, mostHeld, longestManifest}
 use Rattle.snapshot.specs.Entries.{Entry, waits}
-use Rattle.snapshot.specs.Tables.{nameTaken}
+use Rattle.snapshot.specs.Tables.{TableEntry, byTable, nameTaken}
 use Rattle.version_state.specs.State.{State, start, withPairs, withVectors, withEpoch, Hands}
 use Rattle.version_state.specs.Sound.{hasTable, hasRowset}
 use Rattle.operations.specs.Effect.{applied}
-use Rattle.operations.specs.Judge.{isLive}
 use Rattle.replay.specs.declared.Replayed.{Replayed}
 
 -- no frame is open, or one is: the number of the line after its `B`, and the operations since then, a line each
@@ -44,14 +44,13 @@ abbrev pub atStart : Carried
 atStart = carried (withEpoch start reopened 0) none 1
 
 -- 3: a `T` with a live id or name, an `X` of a table that is not live
+abbrev pub clashes : Edit Table → List TableEntry → Bool
+clashes leaves l = false
+clashes (adds t) l = has byTable (t .id ∷ []) l || nameTaken (t .name) l
+clashes (deletes k) l = not (has byTable k l)
+
 abbrev pub conflicts : Operation → State → Bool
-conflicts (createTable t h n) s = isLive t s || nameTaken n (s .tables)
-conflicts (dropTable t) s = not (isLive t s)
-conflicts (addRowset t r) s = false
-conflicts (deleteRowset t r) s = false
-conflicts (addVector t r v) s = false
-conflicts (deleteVector t r v) s = false
-conflicts (nextIds t r v) s = false
+conflicts o s = clashes (editsOf o .tables) (s .tables)
 
 -- the operations of a frame in order, the first on line n
 abbrev pub framed : ℕ → List Operation → State → Result State

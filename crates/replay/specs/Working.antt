@@ -5,20 +5,20 @@ use mathlib.Core.List.{List, [], _∷_, _++_, map}
 use Prim.Native.Nat.{ℕ, _+_, _-_, _*_, _/_, _%_, _≤_, _<_}
 use lib.Dec.{leb}
 use lib.ListN.{length, take, drop}
-use Rattle.lists.specs.Keyed.{allOf, without, ascending}
+use Rattle.lists.specs.Keyed.{allOf, ascending}
 use Rattle.ids.specs.Ids.{largest32}
 use Rattle.ids.specs.Names.{longestName}
 use Rattle.ids.specs.declared.refusal.Refusal.the-variants.{TableConflict, TooManyOperations}
 use Rattle.ids.specs.declared.refusal.Verdict.the-variants.{Accepted, Refused}
-use Rattle.manifest.specs.Operations.{Operation, createTable, dropTable, addRowset, deleteRowset, addVector, deleteVector, nextIds, Line, begin, end, operation, bad, operationOf}
+use Rattle.manifest.specs.Operations.{Operation, Line, begin, end, operation, bad, operationOf}
 use Rattle.manifest.specs.Lines.{lineOf}
 use Rattle.manifest.specs.Split.{linesFrom}
 use Rattle.snapshot.specs.Entries.{Entry, addedAt, byIds}
 use Rattle.snapshot.specs.Tables.{TableEntry, created}
 use Rattle.ids.specs.Limits.{mostTables, mostHeld, longestManifest, mostOperations}
 use Rattle.ids.specs.Results.{Result, refused, given, andThen}
-use Rattle.version_state.specs.State.{State, withPairs, withVectors}
-use Rattle.operations.specs.Effect.{applied}
+use Rattle.version_state.specs.State.{State}
+use Rattle.operations.specs.Effect.{edited, editedBy, raise}
 use Rattle.replay_lists.specs.Rows.{rows, firsts, seconds, byBoth, byFirst}
 use Rattle.replay.specs.declared.Sets.{Sets}
 use Rattle.replay.specs.declared.Applied.{Applied}
@@ -157,13 +157,7 @@ pub record Grown (y z : Sets) : Type 0 where
 
 -- an operation whose deletions take out at once what they delete
 abbrev pub lightly : Operation → State → State
-lightly (createTable t h n) s = applied reopened (createTable t h n) s
-lightly (dropTable t) s = applied reopened (dropTable t) s
-lightly (addRowset t r) s = applied reopened (addRowset t r) s
-lightly (deleteRowset t r) s = withPairs s (without byIds (t ∷ r ∷ []) (s .pairs))
-lightly (addVector t r v) s = applied reopened (addVector t r v) s
-lightly (deleteVector t r v) s = withVectors s (without byIds (t ∷ r ∷ v ∷ []) (s .vectors))
-lightly (nextIds t r v) s = applied reopened (nextIds t r v) s
+lightly o s = raise o (editedBy (edited byIds (addedAt reopened)) o s)
 
 abbrev pub oneOf : ℕ → Operation → State → Result State
 oneOf n o s = cond (conflicts o s) (refused (TableConflict n)) (given (lightly o s))
