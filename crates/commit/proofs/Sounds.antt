@@ -18,6 +18,7 @@ use Rattle.ids.specs.declared.refusal.Verdict.the-variants.{Accepted, Refused}
 use Rattle.ids.specs.Verdicts.{judged}
 use Rattle.ids.proofs.Verdicts.{none-judged}
 use Rattle.manifest.specs.Operations.{Operation, createTable, dropTable, addRowset, deleteRowset, addVector, deleteVector, nextIds}
+use Rattle.ids.specs.Ids.{Next}
 use Rattle.manifest.specs.Edits.{Edit, Edits, editsOf}
 use Rattle.snapshot.specs.Entries.{Entry, byIds, belowNext, within, shownBy}
 use Rattle.snapshot.specs.Tables.{byTable}
@@ -28,7 +29,8 @@ use Rattle.version_state.specs.State.{State, stateOf, withEpoch, Hands}
 use Rattle.version_state.specs.Sound.{leftBehind, badInner}
 use Rattle.version_state.proofs.Within.{Rises, Within, within-of, of-within, within-up}
 use Rattle.version_state.proofs.Facts.{Ordered, Sound, sound-of, of-sound}
-use Rattle.operations.specs.Effect.{marked, asEntry, Next, raised, nextOf, applied}
+use Rattle.version_state.specs.Sets.{nextOf}
+use Rattle.operations.specs.Effect.{marked, asEntry, raised, applied}
 use Rattle.operations.specs.Judge.{opRules, isLive, isShown}
 use Rattle.operations.specs.Steps.{stepsOf}
 use Rattle.frames.specs.Frames.{frameOf}
@@ -65,7 +67,7 @@ record Belows (d : Edits) (x : Next) : Type 0 where
   pairs : Adds (λ k. belowNext k (x .table ∷ x .rowset ∷ []) ≡ true) (d .pairs)
   vectors : Adds (λ k. belowNext k (x .table ∷ x .rowset ∷ x .vector ∷ []) ≡ true) (d .vectors)
 
-belows : (e i : ℕ) (o : Operation) (s : State) → Kept e s → judged (opRules i e o s) ≡ Accepted → Belows (editsOf o) (raised o (nextOf s))
+belows : (e i : ℕ) (o : Operation) (s : State) → Kept e s → judged (opRules i e o s) ≡ Accepted → Belows (editsOf o) (raised (editsOf o) (nextOf s))
 belows e i (createTable t h n) s k a = record { pairs = tt; vectors = tt }
 belows e i (dropTable t) s k a = record { pairs = tt; vectors = tt }
 belows e i (addRowset t r) s k a =
@@ -90,9 +92,9 @@ within-marked e ns ms d l up b a =
 kept-applied : (e i : ℕ) (o : Operation) (s : State) → Kept e s → judged (opRules i e o s) ≡ Accepted → Kept e (applied e o s)
 kept-applied e i o s k a =
     let d = editsOf o in
-    let x = raised o (nextOf s) in
+    let x = raised d (nextOf s) in
     let b = belows e i o s k a in
-    let up = rises o (nextOf s) in
+    let up = rises d (nextOf s) in
     let well = well-table o (not-false _ (none-judged (opRules i e o s) a .0)) in
     record {
       names = all-edited byTable asEntry (λ x. isName (x .name) ≡ true) (d .tables) (s .tables) (adds-map (d .tables) (λ t w. w .1) well) (k .names);

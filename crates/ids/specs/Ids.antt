@@ -16,3 +16,12 @@ isId32 n = ltb n largest32
 -- a vector id
 abbrev pub isId64 : ℕ → Bool
 isId64 n = ltb n largest64
+
+-- the next ids of tables, rowsets and vectors
+pub record Next : Type 0 where
+  pub table : ℕ
+  pub rowset : ℕ
+  pub vector : ℕ
+
+abbrev pub next : ℕ → ℕ → ℕ → Next
+next t r v = record { table = t; rowset = r; vector = v }

@@ -4,24 +4,24 @@ use mathlib.Core.Bool.{true, false, cond, not}
 use mathlib.Core.List.{List}
 use Prim.Native.Nat.{ℕ, _≤_, _<_}
 use native.Mathlib.Omega.{arith}
-use lib.ListN.{length, getD, length-map}
+use lib.ListN.{length, length-map}
 use borrow.Author.Tests.{leb-false, eqb-true, not-false}
 use Rattle.lists.specs.Keyed.{isAt, has}
 use Rattle.lists.proofs.Tests.{by-cases, clash}
 use Rattle.lists.proofs.Keyed.{All, all-map, all-put, all-keep, all-mapped, Ascending, ascending-put, ascending-keep, ascending-changed, length-keep, length-put}
-use Rattle.ids.specs.Ids.{largest32}
+use Rattle.ids.specs.Ids.{largest32, Next, next}
 use Rattle.ids.specs.Limits.{mostTables, mostHeld}
 use Rattle.ids.specs.declared.refusal.Verdict.the-variants.{Accepted}
 use Rattle.ids.specs.Verdicts.{judged}
 use Rattle.ids.proofs.Verdicts.{none-judged}
 use Rattle.text.specs.Name.{isName}
 use Rattle.manifest.specs.Operations.{Operation, createTable, dropTable, addRowset, deleteRowset, addVector, deleteVector, nextIds, wellFormed}
-use Rattle.manifest.specs.Edits.{Edit, leaves, adds, deletes, Table, Edits, editsOf}
+use Rattle.manifest.specs.Edits.{Edit, leaves, adds, deletes, Table, rowsetIn, vectorIn, Raise, keeps, atLeast, Edits, editsOf}
 use Rattle.manifest.proofs.Texts.{table-values}
 use Rattle.snapshot.specs.Entries.{Entry, addedAt, deletedAt, byIds}
 use Rattle.snapshot.specs.Tables.{TableEntry, byTable, nameTaken}
 use Rattle.version_state.specs.State.{State}
-use Rattle.operations.specs.Effect.{edited, marked, Next, raised}
+use Rattle.operations.specs.Effect.{edited, marked, past, lifted, raised}
 use Rattle.operations.specs.Judge.{isShown, opRules}
 use Rattle.operations.proofs.Entries.{not-held}
 
@@ -77,28 +77,48 @@ pub record Risen (x y : Next) : Type 0 where
   pub rowset : x .rowset ≤ y .rowset
   pub vector : x .vector ≤ y .vector
 
-pub rises : (o : Operation) (x : Next) → Risen x (raised o x)
-rises (createTable t h n) x = record { table = omega arith; rowset = omega arith; vector = omega arith }
-rises (dropTable t) x = record { table = omega arith; rowset = omega arith; vector = omega arith }
-rises (addRowset t r) x = record { table = omega arith; rowset = omega arith; vector = omega arith }
-rises (deleteRowset t r) x = record { table = omega arith; rowset = omega arith; vector = omega arith }
-rises (addVector t r v) x = record { table = omega arith; rowset = omega arith; vector = omega arith }
-rises (deleteVector t r v) x = record { table = omega arith; rowset = omega arith; vector = omega arith }
-rises (nextIds t r v) x = record { table = omega arith; rowset = omega arith; vector = omega arith }
-
 pub record Passed (d : Edits) (x : Next) : Type 0 where
   pub tables : Adds (λ (t : Table). t .id < x .table) (d .tables)
-  pub pairs : Adds (λ k. getD k 1 0 < x .rowset) (d .pairs)
-  pub vectors : Adds (λ k. getD k 2 0 < x .vector) (d .vectors)
+  pub pairs : Adds (λ k. rowsetIn k < x .rowset) (d .pairs)
+  pub vectors : Adds (λ k. vectorIn k < x .vector) (d .vectors)
 
-pub passed : (o : Operation) (x : Next) → Passed (editsOf o) (raised o x)
-passed (createTable t h n) x = record { tables = omega arith; pairs = tt; vectors = tt }
-passed (dropTable t) x = record { tables = tt; pairs = tt; vectors = tt }
-passed (addRowset t r) x = record { tables = tt; pairs = omega arith; vectors = tt }
-passed (deleteRowset t r) x = record { tables = tt; pairs = tt; vectors = tt }
-passed (addVector t r v) x = record { tables = tt; pairs = tt; vectors = omega arith }
-passed (deleteVector t r v) x = record { tables = tt; pairs = tt; vectors = tt }
-passed (nextIds t r v) x = record { tables = tt; pairs = tt; vectors = tt }
+module _ {A : Type 0} (id : A → ℕ) where
+  past-up : (d : Edit A) (n m : ℕ) → past id d n ≤ m → n ≤ m
+  past-up leaves n m h = h
+  past-up (adds x) n m h = omega arith
+  past-up (deletes k) n m h = h
+
+  past-over : (d : Edit A) (n m : ℕ) → past id d n ≤ m → Adds (λ x. id x < m) d
+  past-over leaves n m h = tt
+  past-over (adds x) n m h = omega arith
+  past-over (deletes k) n m h = tt
+
+lifted-up : (r : Raise) (x : Next) → Risen x (lifted r x)
+lifted-up keeps x = record { table = omega arith; rowset = omega arith; vector = omega arith }
+lifted-up (atLeast n) x = record { table = omega arith; rowset = omega arith; vector = omega arith }
+
+module _ (d : Edits) (x : Next) where
+  abbrev y : Next
+  y = raised d x
+
+  lifts : Risen (next (past (λ t. t .id) (d .tables) (x .table)) (past rowsetIn (d .pairs) (x .rowset)) (past vectorIn (d .vectors) (x .vector))) y
+  lifts = lifted-up (d .next) _
+
+  pub rises : Risen x y
+  rises =
+      record {
+        table = past-up (λ t. t .id) (d .tables) (x .table) (y .table) (lifts .table);
+        rowset = past-up rowsetIn (d .pairs) (x .rowset) (y .rowset) (lifts .rowset);
+        vector = past-up vectorIn (d .vectors) (x .vector) (y .vector) (lifts .vector);
+      }
+
+  pub passed : Passed d y
+  passed =
+      record {
+        tables = past-over (λ t. t .id) (d .tables) (x .table) (y .table) (lifts .table);
+        pairs = past-over rowsetIn (d .pairs) (x .rowset) (y .rowset) (lifts .rowset);
+        vectors = past-over vectorIn (d .vectors) (x .vector) (y .vector) (lifts .vector);
+      }
 
 -- a well-formed table has a shape of 32 bits and a name
 pub well-table : (o : Operation) → wellFormed o ≡ true → Adds (λ (t : Table). (t .shape ≤ largest32) × (isName (t .name) ≡ true)) (editsOf o .tables)

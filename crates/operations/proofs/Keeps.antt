@@ -24,7 +24,8 @@ use Rattle.version_state.specs.State.{State}
 use Rattle.version_state.proofs.Facts.{Ordered}
 use Rattle.version_state.specs.declared.Held.{Held}
 use Rattle.operations.specs.declared.Stepped.{Stepped}
-use Rattle.operations.specs.Effect.{edited, marked, asEntry, raised, nextOf, applied}
+use Rattle.version_state.specs.Sets.{nextOf}
+use Rattle.operations.specs.Effect.{edited, marked, asEntry, raised, applied}
 use Rattle.operations.specs.Judge.{stateRules, opRules}
 use Rattle.operations.specs.Steps.{stepOf}
 use Rattle.version_state.specs.Columns.{Columns, stateIn}
@@ -49,11 +50,11 @@ Below n l = All (λ x. ltb (x .table) n ≡ true) l
 
 pub below-applied : (e : ℕ) (o : Operation) (s : State) → Below (s .nextTable) (s .tables) → Below (applied e o s .nextTable) (applied e o s .tables)
 below-applied e o s b =
-    let d = editsOf o .tables in
+    let d = editsOf o in
     let x = nextOf s in
-    let m = raised o x .table in
-    let up = rises o x .table in
-    all-edited byTable asEntry (λ t. ltb (t .table) m ≡ true) d (s .tables) (adds-map d (λ t. lt-ltb (t .id) m) (passed o x .tables))
+    let m = raised d x .table in
+    let up = rises d x .table in
+    all-edited byTable asEntry (λ t. ltb (t .table) m ≡ true) (d .tables) (s .tables) (adds-map (d .tables) (λ t. lt-ltb (t .id) m) (passed d x .tables))
     (all-map (s .tables) (λ t k. lt-ltb (t .table) m (omega (arith, ltb-true (t .table) (s .nextTable) k))) b)
 
 -- the lists are within the limits

@@ -2,10 +2,12 @@
 use mathlib.Core.List.{List}
 use Prim.Native.Nat.{ℕ, _+_, max}
 use Rattle.lists.specs.Keyed.{put, without, changed}
-use Rattle.manifest.specs.Operations.{Operation, createTable, dropTable, addRowset, deleteRowset, addVector, deleteVector, nextIds}
-use Rattle.manifest.specs.Edits.{Edit, leaves, adds, deletes, Table, editsOf}
+use Rattle.ids.specs.Ids.{Next, next}
+use Rattle.manifest.specs.Operations.{Operation}
+use Rattle.manifest.specs.Edits.{Edit, leaves, adds, deletes, Table, rowsetIn, vectorIn, Raise, keeps, atLeast, Edits, editsOf}
 use Rattle.snapshot.specs.Entries.{Entry, addedAt, deletedAt, byIds}
 use Rattle.snapshot.specs.Tables.{TableEntry, created, byTable}
+use Rattle.version_state.specs.Sets.{nextOf}
 use Rattle.version_state.specs.State.{State, withTables, withPairs, withVectors, withNext}
 
 -- what is added is put in, as f makes it an entry; what is deleted is taken out
@@ -33,30 +35,22 @@ editedBy f o s =
 abbrev pub effect : ℕ → Operation → State → State
 effect e o s = editedBy (marked e) o s
 
--- the next ids
-pub record Next : Type 0 where
-  pub table : ℕ
-  pub rowset : ℕ
-  pub vector : ℕ
+-- past the id of what is added
+abbrev pub past : {A : Type 0} → (A → ℕ) → Edit A → ℕ → ℕ
+past id leaves n = n
+past id (adds x) n = max n (id x + 1)
+past id (deletes k) n = n
 
-abbrev pub next : ℕ → ℕ → ℕ → Next
-next t r v = record { table = t; rowset = r; vector = v }
+abbrev pub lifted : Raise → Next → Next
+lifted keeps x = x
+lifted (atLeast n) x = next (max (x .table) (n .table)) (max (x .rowset) (n .rowset)) (max (x .vector) (n .vector))
 
 -- `T`, `A` and `V` raise the next id past theirs, each its own kind; `N` raises the three to at least its own
-abbrev pub raised : Operation → Next → Next
-raised (createTable t h n) x = next (max (x .table) (t + 1)) (x .rowset) (x .vector)
-raised (dropTable t) x = x
-raised (addRowset t r) x = next (x .table) (max (x .rowset) (r + 1)) (x .vector)
-raised (deleteRowset t r) x = x
-raised (addVector t r v) x = next (x .table) (x .rowset) (max (x .vector) (v + 1))
-raised (deleteVector t r v) x = x
-raised (nextIds t r v) x = next (max (x .table) t) (max (x .rowset) r) (max (x .vector) v)
-
-abbrev pub nextOf : State → Next
-nextOf s = next (s .nextTable) (s .nextRowset) (s .nextVector)
+abbrev pub raised : Edits → Next → Next
+raised d x = lifted (d .next) (next (past (λ t. t .id) (d .tables) (x .table)) (past rowsetIn (d .pairs) (x .rowset)) (past vectorIn (d .vectors) (x .vector)))
 
 abbrev pub raise : Operation → State → State
-raise o s = withNext s (raised o (nextOf s) .table) (raised o (nextOf s) .rowset) (raised o (nextOf s) .vector)
+raise o s = withNext s (raised (editsOf o) (nextOf s) .table) (raised (editsOf o) (nextOf s) .rowset) (raised (editsOf o) (nextOf s) .vector)
 
 abbrev pub applied : ℕ → Operation → State → State
 applied e o s = raise o (effect e o s)

@@ -5,16 +5,16 @@ use mathlib.Core.List.{List, [], _∷_, _++_, append-nil, append-assoc}
 use Prim.Native.Nat.{ℕ}
 use native.Mathlib.Omega.{arith}
 use borrow.Author.Tests.{ltb-true, lt-ltb}
-use lib.ListN.{getD}
 use Rattle.lists.specs.Keyed.{allOf}
 use Rattle.lists.proofs.Keyed.{All, all-map, all-append, allOf-all, all-allOf}
 use Rattle.ids.specs.declared.refusal.Verdict.the-variants.{Accepted}
 use Rattle.ids.specs.Verdicts.{judged}
 use Rattle.ids.specs.Results.{given}
 use Rattle.manifest.specs.Operations.{Operation}
-use Rattle.manifest.specs.Edits.{Edit, leaves, adds, deletes, Edits, editsOf}
+use Rattle.manifest.specs.Edits.{Edit, leaves, adds, deletes, rowsetIn, vectorIn, Edits, editsOf}
 use Rattle.version_state.specs.State.{State}
-use Rattle.operations.specs.Effect.{nextOf, applied}
+use Rattle.version_state.specs.Sets.{nextOf}
+use Rattle.operations.specs.Effect.{applied}
 use Rattle.operations.specs.Judge.{opRules}
 use Rattle.operations.specs.Steps.{stepsOf}
 use Rattle.operations.proofs.Edits.{Adds, adds-map, Risen, rises, Passed, passed}
@@ -52,15 +52,15 @@ own-over : (s : State) (d : Edits) → Passed d (nextOf s) → Over s (idsBy d)
 own-over s d p =
     let below : Id → Type 0 = λ i. belowNext s i ≡ true in
     let ts : List Id = idAdded (λ t. tableId (t .id)) (d .tables) in
-    let ps : List Id = idAdded (λ k. rowsetId (getD k 1 0)) (d .pairs) in
-    let vs : List Id = idAdded (λ k. vectorId (getD k 2 0)) (d .vectors) in
+    let ps : List Id = idAdded (λ k. rowsetId (rowsetIn k)) (d .pairs) in
+    let vs : List Id = idAdded (λ k. vectorId (vectorIn k)) (d .vectors) in
     all-append below ts (ps ++ vs) (over-added s _ (d .tables) (adds-map (d .tables) (λ t. lt-ltb (t .id) (s .nextTable)) (p .tables)))
-    (all-append below ps vs (over-added s _ (d .pairs) (adds-map (d .pairs) (λ k. lt-ltb (getD k 1 0) (s .nextRowset)) (p .pairs)))
-    (over-added s _ (d .vectors) (adds-map (d .vectors) (λ k. lt-ltb (getD k 2 0) (s .nextVector)) (p .vectors))))
+    (all-append below ps vs (over-added s _ (d .pairs) (adds-map (d .pairs) (λ k. lt-ltb (rowsetIn k) (s .nextRowset)) (p .pairs)))
+    (over-added s _ (d .vectors) (adds-map (d .vectors) (λ k. lt-ltb (vectorIn k) (s .nextVector)) (p .vectors))))
 
 over-applied : (e : ℕ) (o : Operation) (s : State) (l : List Id) → Over s l → Over (applied e o s) (l ++ idsBy (editsOf o))
 over-applied e o s l h =
-    all-append (λ i. belowNext (applied e o s) i ≡ true) l (idsBy (editsOf o)) (over-rise s (applied e o s) l (rises o (nextOf s)) h) (own-over (applied e o s) (editsOf o) (passed o (nextOf s)))
+    all-append (λ i. belowNext (applied e o s) i ≡ true) l (idsBy (editsOf o)) (over-rise s (applied e o s) l (rises (editsOf o) (nextOf s)) h) (own-over (applied e o s) (editsOf o) (passed (editsOf o) (nextOf s)))
 
 ids-on : (l : List Id) (o : Operation) (os : List Operation) → l ++ idsOf (o ∷ os) ≡ (l ++ idsBy (editsOf o)) ++ idsOf os
 ids-on l o os = sym (append-assoc l (idsBy (editsOf o)) (idsOf os))

@@ -6,7 +6,7 @@ use lib.Dec.{eqb, leb}
 use lib.ListN.{length, getD}
 use Rattle.lists.specs.Keyed.{keep, placed, put, without}
 use Rattle.manifest.specs.Operations.{Operation}
-use Rattle.manifest.specs.Edits.{Edit, leaves, adds, deletes, Edits, editsOf}
+use Rattle.manifest.specs.Edits.{Edit, leaves, adds, deletes, rowsetIn, vectorIn, Edits, editsOf}
 use Rattle.pins.specs.Book.{PinEntry, placeOn, placeKey, byPlace}
 use Rattle.pins.specs.Guards.{Guards, guardsBy, blocked}
 use Rattle.pins.specs.Counts.{pinsOn, pinsAt}
@@ -80,7 +80,7 @@ idAdded f (adds x) = f x ∷ []
 idAdded f (deletes k) = []
 
 abbrev pub idsBy : Edits → List Id
-idsBy d = idAdded (λ t. tableId (t .id)) (d .tables) ++ (idAdded (λ k. rowsetId (getD k 1 0)) (d .pairs) ++ idAdded (λ k. vectorId (getD k 2 0)) (d .vectors))
+idsBy d = idAdded (λ t. tableId (t .id)) (d .tables) ++ (idAdded (λ k. rowsetId (rowsetIn k)) (d .pairs) ++ idAdded (λ k. vectorId (vectorIn k)) (d .vectors))
 
 abbrev pub idsOf : List Operation → List Id
 idsOf [] = []

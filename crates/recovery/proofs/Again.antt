@@ -19,7 +19,8 @@ use Rattle.snapshot.specs.Entries.{Entry, addedAt, byIds, goneAt, shownAt, show
 use Rattle.snapshot.specs.Tables.{TableEntry, byTable}
 use Rattle.version_state.specs.declared.VersionManagerInner.{VersionManagerInner}
 use Rattle.version_state.specs.State.{State, start, withTables, withPairs, withVectors, withEpoch, stateOf}
-use Rattle.version_state.specs.Sets.{Sets, sets, unlocked, setsOf, Next, nextOf}
+use Rattle.ids.specs.Ids.{Next}
+use Rattle.version_state.specs.Sets.{Sets, sets, unlocked, setsOf, nextOf}
 use Rattle.version_state.specs.Sound.{hasTable, hasRowset, badInner}
 use Rattle.rewrite.specs.Rewritten.{createOf, addOf, addVectorOf, rewriteOf, writtenOf, rewrittenOf, longestRewritten}
 use Rattle.rewrite.proofs.Room.{rewritten-fits}

@@ -18,7 +18,8 @@ use Rattle.manifest.specs.Operations.{Operation, nextIds}
 use Rattle.snapshot.specs.Entries.{Entry, addedAt, byIds}
 use Rattle.snapshot.specs.Tables.{TableEntry, byTable, nameTaken}
 use Rattle.version_state.specs.State.{State, start, withTables, withPairs, withVectors, withNext, withEpoch}
-use Rattle.version_state.specs.Sets.{Sets, sets, unlocked, Next}
+use Rattle.ids.specs.Ids.{Next}
+use Rattle.version_state.specs.Sets.{Sets, sets, unlocked}
 use Rattle.operations.specs.Effect.{applied}
 use Rattle.rewrite.specs.Rewritten.{createOf, addOf, addVectorOf, rewriteOf}
 use Rattle.replay.specs.Replay.{reopened, conflicts}

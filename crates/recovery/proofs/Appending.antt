@@ -16,7 +16,8 @@ use Rattle.ids.specs.Results.{Result, given, andThen}
 use Rattle.frames.specs.Frames.{frameOf}
 use Rattle.version_state.specs.declared.VersionManagerInner.{VersionManagerInner}
 use Rattle.version_state.specs.State.{State, start, withEpoch, stateOf}
-use Rattle.version_state.specs.Sets.{Sets, setsOf, Next}
+use Rattle.ids.specs.Ids.{Next}
+use Rattle.version_state.specs.Sets.{Sets, setsOf}
 use Rattle.version_state.specs.Sound.{badInner}
 use Rattle.version_state.proofs.Facts.{sound-of}
 use Rattle.commit.specs.Commit.{commitOf}

@@ -10,7 +10,7 @@ use Rattle.lists.specs.Keyed.{keep, has, put}
 use Rattle.lists.proofs.Tests.{by-cases, neither}
 use Rattle.lists.proofs.Order.{same-sym}
 use Rattle.lists.proofs.Keyed.{All, all-map, all-put, all-keep, anyOf-none}
-use Rattle.ids.specs.Ids.{largest32, largest64}
+use Rattle.ids.specs.Ids.{largest32, largest64, Next}
 use Rattle.text.specs.Name.{isName}
 use Rattle.manifest.specs.Operations.{Operation, createTable, dropTable, addRowset, deleteRowset, addVector, deleteVector, nextIds, wellFormed}
 use Rattle.manifest.specs.Edits.{Edit, leaves, adds, deletes, Table, editsOf}
@@ -19,7 +19,8 @@ use Rattle.snapshot.specs.Entries.{Entry}
 use Rattle.snapshot.specs.Tables.{TableEntry, byTable, nameTaken}
 use Rattle.version_state.specs.State.{State}
 use Rattle.version_state.proofs.Facts.{Ordered}
-use Rattle.operations.specs.Effect.{edited, marked, asEntry, Next, raised, nextOf, applied}
+use Rattle.version_state.specs.Sets.{nextOf}
+use Rattle.operations.specs.Effect.{edited, marked, asEntry, raised, applied}
 use Rattle.operations.proofs.Edits.{Adds, adds-both, all-edited, all-marked, rises, passed, well-table}
 use Rattle.operations.proofs.Keeps.{ordered-applied}
 use Rattle.replay.specs.Replay.{reopened, clashes, conflicts}
@@ -108,7 +109,7 @@ record Small (x : Next) : Type 0 where
 record Brings (o : Operation) (x : Next) : Type 0 where
   pairs : Adds (λ k. k ≡ two k) (editsOf o .pairs)
   vectors : Adds (λ k. k ≡ three k) (editsOf o .vectors)
-  next : Small (raised o x)
+  next : Small (raised (editsOf o) x)
 
 brings : (o : Operation) (x : Next) → wellFormed o ≡ true → Small x → Brings o x
 brings (createTable t h n) x w a =
@@ -142,9 +143,9 @@ pub kept-applied : (o : Operation) (s : State) → Kept s → wellFormed o ≡ t
 kept-applied o s k w c =
     let d = editsOf o in
     let x = nextOf s in
-    let y = raised o x in
-    let up = rises o x in
-    let new = passed o x in
+    let y = raised d x in
+    let up = rises d x in
+    let new = passed d x in
     let b = brings o x w (record { table = k .nextTable; rowset = k .nextRowset; vector = k .nextVector }) in
     record {
       epoch = k .epoch;

@@ -10,7 +10,8 @@ use Rattle.ids.specs.Limits.{mostOperations, longestManifest}
 use Rattle.ids.specs.Results.{given}
 use Rattle.version_state.specs.declared.VersionManagerInner.{VersionManagerInner}
 use Rattle.version_state.specs.State.{State, start, withEpoch, stateOf, Hands}
-use Rattle.version_state.specs.Sets.{Sets, setsOf, Next, nextOf}
+use Rattle.ids.specs.Ids.{Next}
+use Rattle.version_state.specs.Sets.{Sets, setsOf, nextOf}
 use Rattle.version_state.specs.Sound.{badInner}
 use Rattle.commit.specs.Commit.{appendOf, commitOf}
 use Rattle.rewrite.specs.Rewritten.{writtenOf, rewrittenOf, longestRewritten}

@@ -6,14 +6,14 @@ use Prim.Native.Nat.{ℕ, _≤_}
 use lib.Dec.{leb, ltb, eqb}
 use lib.ListN.{length, take}
 use Rattle.lists.specs.Keyed.{allOf, has, ascending}
-use Rattle.ids.specs.Ids.{largest32, largest64}
+use Rattle.ids.specs.Ids.{largest32, largest64, Next}
 use Rattle.ids.specs.Limits.{mostTables, mostHeld}
 use Rattle.columns.specs.Rows.{plain}
 use Rattle.manifest.specs.Operations.{wellFormed}
 use Rattle.snapshot.specs.Entries.{addedAt, belowNext}
 use Rattle.snapshot.specs.Tables.{TableEntry, byTable, nameTaken}
 use Rattle.version_state.specs.State.{State, start, withTables, withPairs, withVectors, withNext, withEpoch}
-use Rattle.version_state.specs.Sets.{Sets, unlocked, Next}
+use Rattle.version_state.specs.Sets.{Sets, unlocked}
 use Rattle.rewrite.specs.Rewritten.{rewriteOf}
 use Rattle.replay.specs.Replay.{reopened}
 

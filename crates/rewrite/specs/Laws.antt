@@ -6,7 +6,8 @@ use lib.ListN.{length}
 use Rattle.lists.specs.Keyed.{allOf}
 use Rattle.manifest.specs.Operations.{wellFormed}
 use Rattle.ids.specs.Limits.{mostTables, mostHeld}
-use Rattle.version_state.specs.Sets.{Sets, Next}
+use Rattle.ids.specs.Ids.{Next}
+use Rattle.version_state.specs.Sets.{Sets}
 use Rattle.rewrite.specs.Rewritten.{rewriteOf, writtenOf, longestRewritten}
 
 -- of sets within the limits whose ids and names can be written

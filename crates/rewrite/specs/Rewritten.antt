@@ -6,7 +6,8 @@ use Rattle.ids.specs.Limits.{longestLine}
 use Rattle.manifest.specs.Operations.{Operation, createTable, addRowset, addVector, nextIds}
 use Rattle.snapshot.specs.Tables.{TableEntry}
 use Rattle.version_state.specs.State.{State}
-use Rattle.version_state.specs.Sets.{Sets, setsOf, Next, nextOf}
+use Rattle.ids.specs.Ids.{Next}
+use Rattle.version_state.specs.Sets.{Sets, setsOf, nextOf}
 use Rattle.frames.specs.Frames.{frameOf}
 
 abbrev pub createOf : TableEntry → Operation
