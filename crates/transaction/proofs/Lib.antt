@@ -1,0 +1,5 @@
+-- The laws that this crate's proofs cite. Assumes nothing.
+pub mod Columns
+pub mod Links
+pub mod Filling
+pub mod Outputs
