@@ -1,26 +1,21 @@
 -- How the vectors are made one after another: laws of `vectors::make` and of the loop over the named rowsets. Assumes nothing.
 use mathlib.Core.Path.{_≡_, refl, sym, ap, subst, _∙_}
-use mathlib.Core.Bool.{Bool, true, false, _&&_}
 use mathlib.Core.List.{List, [], _∷_, _++_, map, append-nil, append-assoc}
-use Prim.Native.Nat.{ℕ, suc, _+_, _-_, _*_, _≤_, _<_}
+use Prim.Native.Nat.{ℕ, _+_, _-_, _*_, _≤_, _<_}
 use native.Mathlib.Omega.{arith}
 use native.Mathlib.Numerals.{add-one}
-use lib.Dec.{eqb}
 use lib.ListN.{length, getD, take, drop, set, length-set, length-append, length-take, length-drop, drop-of-length-le}
 use lib.Seq.{drop-cons, take-suc-set, append-snoc, take-at, drop-at, take-append-add, length-take-le, take-all}
-use borrow.Author.Tests.{eqb-true}
 use borrow.Rule.Slice.PartMut.{putMid}
 use Rattle.lists.specs.Written.{written, Wrote}
-use Rattle.lists.proofs.Tests.{by-cases}
-use Rattle.lists.proofs.Order.{less-same}
-use Rattle.lists.proofs.Keyed.{After, Ascending}
 use Rattle.delete_vector.specs.Records.{recordsOf}
-use Rattle.delete_vector.specs.Memory.{rowKey, inMemory}
+use Rattle.delete_vector.specs.Memory.{inMemory}
 use Rattle.delete_vector.proofs.Merging.{memory-length, count-is}
 use Rattle.transaction.specs.declared.vectors.Made.{Made}
-use Rattle.transaction.specs.Groups.{Handle, rowsOf, vectorOf, lengthsIn, countsIn, memoriesIn}
+use Rattle.transaction.specs.Groups.{Handle, rowsOf, rowsetsOf, vectorOf, lengthsIn, countsIn, memoriesIn}
 use Rattle.transaction.specs.Says.{mostHandles}
 use Rattle.transaction.specs.Chains.{runsOf, MadeOf, ArrangedBy}
+use Rattle.transaction.proofs.Runs.{runs-length}
 
 -- a run that was written: what stands before its end, and the run by itself
 module _ (s : List ℕ) (at : ℕ) (run t : List ℕ) (e : ℕ) (room : at + length run ≤ length s) (w : Wrote s at run t e) where
@@ -71,34 +66,6 @@ made run at kept s held t out e b n room free w f a l =
       count = count-is run out n m (omega (arith, a .1));
     }
 
--- The rows of different rowsets are different handles'.
-absent : (r : ℕ) (rs : List ℕ) (h : Handle) (hs : List Handle) → After rowKey (rowKey r) rs → h .rowset ≡ r → runsOf rs (h ∷ hs) ≡ runsOf rs hs
-absent r [] h hs a e = refl
-absent r (x ∷ rs) h hs a e =
-    let t : eqb (h .rowset) x ≡ false = rw e (first (eqb r x) (less-same (rowKey r) (rowKey x) (a .0))) in
-    rw (t, absent r rs h hs (a .1) e)
-  where
-    first : (b : Bool) → b && true ≡ false → b ≡ false
-    first true h = h
-    first false h = refl
-
-grows : (rs : List ℕ) (h : Handle) (hs : List Handle) → Ascending rowKey rs → length (runsOf rs (h ∷ hs)) ≤ suc (length (runsOf rs hs))
-grows [] h hs s = omega arith
-grows (r ∷ rs) h hs s =
-    let i = grows rs h hs (s .1) in
-    let m = length-append (rowsOf r hs) (runsOf rs hs) in
-    by-cases (eqb (h .rowset) r)
-    (λ e. rw (e, absent r rs h hs (s .0) (eqb-true (h .rowset) r e)) (omega arith))
-    (λ e. rw (e, length-append (rowsOf r hs) (runsOf rs (h ∷ hs))) (omega arith))
-
-none : (rs : List ℕ) → runsOf rs [] ≡ []
-none [] = refl
-none (r ∷ rs) = none rs
-
-runs-length : (rs : List ℕ) (hs : List Handle) → Ascending rowKey rs → length (runsOf rs hs) ≤ length hs
-runs-length rs [] s = rw (none rs) (omega arith)
-runs-length rs (h ∷ hs) s = let i = runs-length rs hs s in let g = grows rs h hs s in omega arith
-
 -- The vectors of the first g named rowsets are made: `at` rows, `kept` in memory.
 pub record Filling (named : List ℕ) (hs : List Handle) (g at kept : ℕ) (os ls cs ms sp : List ℕ) : Type 0 where
   pub within : g ≤ length named
@@ -115,11 +82,11 @@ pub record Filling (named : List ℕ) (hs : List Handle) (g at kept : ℕ) (os l
   pub sp-full : length sp ≡ mostHandles
 
 module _ (named : List ℕ) (hs : List Handle) where
-  pub fill-start : (os ls cs ms sp : List ℕ) → Ascending rowKey named → length os ≡ mostHandles → length ls ≡ mostHandles → length cs ≡ mostHandles → length ms ≡ mostHandles → length sp ≡ mostHandles → Filling named hs 0 0 0 os ls cs ms sp
-  fill-start os ls cs ms sp up a b d e f = record {
+  pub fill-start : (os ls cs ms sp : List ℕ) → named ≡ rowsetsOf hs → length os ≡ mostHandles → length ls ≡ mostHandles → length cs ≡ mostHandles → length ms ≡ mostHandles → length sp ≡ mostHandles → Filling named hs 0 0 0 os ls cs ms sp
+  fill-start os ls cs ms sp n a b d e f = record {
     within = omega arith;
     rows = refl;
-    room = let r = runs-length named hs up in omega arith;
+    room = let r : length (runsOf named hs) ≡ length hs = rw n (runs-length hs) in omega arith;
     lengths = refl;
     counts = refl;
     memory = refl;

@@ -16,11 +16,16 @@ use Rattle.lists.proofs.Tests.{by-cases}
 use Rattle.lists.proofs.Order.{lex-last, less-irrefl, same-eq}
 use Rattle.lists.proofs.Keyed.{All, Ascending}
 use Rattle.lists.proofs.Places.{standing}
+use Rattle.ids.specs.declared.SecondaryRowHandler.{SecondaryRowHandler}
 use Rattle.columns.proofs.Rows.{rank-above, rank-upto}
 use Rattle.delete_vector.specs.Memory.{rowKey, isIn, inMemory}
 use Rattle.delete_vector.proofs.Merging.{memory-ascends, memory-same-set}
-use Rattle.transaction.specs.Groups.{Handle, rowsOf}
+use Rattle.transaction.specs.Groups.{Handle, handleOf, rowsOf}
 use Rattle.transaction.specs.Chains.{paired, firstIn, firstFrom, Headed, Chained, Linked, chainOf}
+
+pub or-true : (b : Bool) → b || true ≡ true
+or-true true = refl
+or-true false = refl
 
 paired-none : (rs : List ℕ) → paired rs [] ≡ []
 paired-none [] = refl
@@ -41,6 +46,11 @@ pub paired-rowsets : (rs ws : List ℕ) → length ws ≡ length rs → map (λ 
 paired-rowsets [] ws h = refl
 paired-rowsets (r ∷ rs) [] h = absurd (omega arith)
 paired-rowsets (r ∷ rs) (w ∷ ws) h = ap (λ (l : List ℕ). r ∷ l) (paired-rowsets rs ws (omega arith))
+
+-- handles are their columns
+pub paired-of : (l : List SecondaryRowHandler) → paired (map (λ (h : Handle). h .rowset) (map handleOf l)) (map (λ (h : Handle). h .row) (map handleOf l)) ≡ map handleOf l
+paired-of [] = refl
+paired-of (h ∷ l) = ap (λ (t : List Handle). handleOf h ∷ t) (paired-of l)
 
 first-le : (r : ℕ) (l : List ℕ) → firstIn r l ≤ length l
 first-le r [] = omega arith
@@ -138,10 +148,6 @@ module _ (rowsets named : List ℕ) (e : named ≡ inMemory rowsets) (i at : ℕ
 
   up : Ascending rowKey named
   up = rw e (memory-ascends rowsets)
-
-  or-true : (b : Bool) → b || true ≡ true
-  or-true true = refl
-  or-true false = refl
 
   is-in : (l : List ℕ) (j : ℕ) → j < length l → isIn l (getD l j 0) ≡ true
   is-in [] j k = absurd (not-suc-le-zero k)

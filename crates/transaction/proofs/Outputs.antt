@@ -25,7 +25,7 @@ use Rattle.transaction.specs.Says.{mostHandles, noId, tooShort, groupRul
 use Rattle.transaction.specs.Chains.{paired, runsOf, ArrangedBy}
 use Rattle.transaction.proofs.Links.{paired-rowsets}
 
-pub records-append : (l m : List ℕ) → recordsOf (l ++ m) ≡ recordsOf l ++ recordsOf m
+records-append : (l m : List ℕ) → recordsOf (l ++ m) ≡ recordsOf l ++ recordsOf m
 records-append [] m = refl
 records-append (x ∷ l) m = ap (λ (t : List ℕ). recordOf x ++ t) (records-append l m) ∙ sym (append-assoc (recordOf x) (recordsOf l) (recordsOf m))
 
@@ -34,7 +34,7 @@ files-runs : (rs : List ℕ) (hs : List Handle) → recordsOf (runsOf rs hs) ≡
 files-runs [] hs = refl
 files-runs (r ∷ rs) hs = records-append (rowsOf r hs) (runsOf rs hs) ∙ ap (λ (t : List ℕ). recordsOf (rowsOf r hs) ++ t) (files-runs rs hs)
 
-named-rowsets : (rs : List ℕ) (hs : List Handle) → rs ≡ rowsetsIn (map (vectorOf hs) rs)
+pub named-rowsets : (rs : List ℕ) (hs : List Handle) → rs ≡ rowsetsIn (map (vectorOf hs) rs)
 named-rowsets [] hs = refl
 named-rowsets (r ∷ rs) hs = ap (λ (t : List ℕ). r ∷ t) (named-rowsets rs hs)
 

@@ -2,3 +2,4 @@
 pub mod Groups
 pub mod Says
 pub mod Chains
+pub mod Laws

@@ -16,6 +16,7 @@ ghost use Rattle.ids.specs.declared.refusal.Verdict.the-variants.{Refused};
 ghost use Rattle.transaction.specs.Groups.{handlesOf, Handle};
 ghost use Rattle.transaction.specs.Says.{mostHandles, GroupIs};
 ghost use Rattle.transaction.specs.Chains.{paired};
+ghost use Rattle.transaction.specs.Laws.{GroupLaws};
 
 pub mod chains;
 pub mod vectors;
@@ -34,6 +35,11 @@ pub struct Grouping {
     pub verdict: Verdict,
     pub count: usize,
 }
+
+// The laws of grouping.
+pub fn holds()
+    ensures { λ _. ⌜ GroupLaws ⌝ }
+{}
 
 fn refused(why: Refusal) -> Grouping
     ensures { λ r. ⌜ r .verdict ≡ Refused why ⌝ }

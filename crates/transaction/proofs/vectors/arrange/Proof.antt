@@ -1,12 +1,13 @@
 -- `transaction::vectors::arrange` meets its contract. Assumes nothing.
-use mathlib.Core.Path.{_≡_, ap}
+use mathlib.Core.Path.{_≡_, sym, ap, _∙_}
 use Prim.Native.Nat.{_-_}
 use native.Mathlib.Omega.{arith}
 use denote.Ref.{now}
 use lib.ListN.{length, getD}
-use Rattle.delete_vector.proofs.Merging.{memory-ascends, memory-length}
+use Rattle.delete_vector.specs.Memory.{inMemory}
+use Rattle.delete_vector.proofs.Merging.{memory-length}
 use Rattle.transaction.specs.Chains.{paired, chainOf}
-use Rattle.transaction.proofs.Links.{paired-length, head-chain, head-within}
+use Rattle.transaction.proofs.Links.{paired-length, paired-rowsets, head-chain, head-within}
 use Rattle.transaction.proofs.Filling.{Filling, fill-start, fill-room, fill-more, fill-done}
 use Rattle.transaction.proofs.vectors.arrange.Statement.{statement}
 use Rattle.transaction.proofs.vectors.arrange.Tie as tie
@@ -18,7 +19,7 @@ abbrev μ-loop : tie.MeasureT-loop
 μ-loop rowsets rows named heads nexts ordered₀ lengths₀ counts₀ held₀ spare₀ sizes at₀ kept₀ g₀ ordered lengths counts held spare at kept g = length named - g
 
 loop-holds : tie.Need-loop-holds Inv-loop μ-loop
-loop-holds c = let pre = c .before .before .before .before .before .before .before .before .before .before .pre in fill-start _ _ _ _ _ _ _ (rw (pre .1) (memory-ascends (now (c .before .before .before .before .before .before .before .before .before .before .args .rowsets)))) (pre .5) (pre .6) (pre .7) (pre .8) (pre .9)
+loop-holds c = let pre = c .before .before .before .before .before .before .before .before .before .before .pre in fill-start _ _ _ _ _ _ _ (pre .1 ∙ ap inMemory (sym (paired-rowsets (now (c .before .before .before .before .before .before .before .before .before .before .args .rowsets)) (now (c .before .before .before .before .before .before .before .before .before .before .args .rows)) (pre .0 .same)))) (pre .5) (pre .6) (pre .7) (pre .8) (pre .9)
 
 mul-first : tie.Need-mul-first Inv-loop μ-loop
 mul-first c = let pre = c .before .before .before .before .before .before .before .before .before .before .before .before .pre in omega (arith, pre .4, c .loop-test .taken)
