@@ -2,15 +2,16 @@
 use mathlib.Core.Path.{_≡_}
 use mathlib.Core.Bool.{cond}
 use mathlib.Core.List.{List, [], _∷_, _++_, map}
-use Prim.Native.Nat.{ℕ, _+_, _*_, _≤_, _<_}
+use Prim.Native.Nat.{ℕ, _+_, _*_, _≤_, _<_, min}
 use lib.Dec.{eqb}
 use lib.ListN.{length, getD, take, drop}
 use Rattle.lists.specs.Written.{Wrote}
 use Rattle.delete_vector.specs.Records.{recordsOf}
 use Rattle.delete_vector.specs.Memory.{inMemory}
+use Rattle.transaction.specs.declared.Handles.{Handles}
 use Rattle.transaction.specs.declared.vectors.Made.{Made}
 use Rattle.transaction.specs.declared.vectors.Arranged.{Arranged}
-use Rattle.transaction.specs.Groups.{Handle, rowsOf, vectorOf, lengthsIn, countsIn, memoriesIn}
+use Rattle.transaction.specs.Groups.{Handle, handlesOf, rowsOf, vectorOf, lengthsIn, countsIn, memoriesIn}
 use Rattle.transaction.specs.Says.{mostHandles}
 
 -- a column of rowsets and one of rows are handles
@@ -18,6 +19,14 @@ abbrev pub paired : List ℕ → List ℕ → List Handle
 paired [] ws = []
 paired (r ∷ rs) [] = []
 paired (r ∷ rs) (w ∷ ws) = record { rowset = r; row = w } ∷ paired rs ws
+
+-- the handles of a call as columns: the first n of us are their rowsets, and the first n of ws their rows
+pub record ColumnsOf (h : Handles) (n : ℕ) (us ws : List ℕ) : Type 0 where
+  pub count : n ≡ min (h .count) mostHandles
+  pub rowsets : take n us ≡ map (λ (k : Handle). k .rowset) (handlesOf h)
+  pub rows : take n ws ≡ map (λ (k : Handle). k .row) (handlesOf h)
+  pub us-full : length us ≡ mostHandles
+  pub ws-full : length ws ≡ mostHandles
 
 -- the first place of r; past all where it has none
 abbrev pub firstIn : ℕ → List ℕ → ℕ

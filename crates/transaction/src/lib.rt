@@ -7,15 +7,13 @@ use ids::refusal::Refusal;
 use ids::refusal::Verdict;
 ghost use mathlib.Core.Path.{_≡_};
 ghost use mathlib.Core.Bool.{true};
-ghost use mathlib.Core.List.{map};
 ghost use Prim.Native.Nat.{_≤_, min};
-ghost use lib.ListN.{length, take};
+ghost use lib.ListN.{length};
 ghost use Rattle.lists.specs.Keyed.{allOf};
 ghost use Rattle.ids.specs.Ids.{isId32};
 ghost use Rattle.ids.specs.declared.refusal.Verdict.the-variants.{Refused};
-ghost use Rattle.transaction.specs.Groups.{handlesOf, Handle};
 ghost use Rattle.transaction.specs.Says.{mostHandles, GroupIs};
-ghost use Rattle.transaction.specs.Chains.{paired};
+ghost use Rattle.transaction.specs.Chains.{paired, ColumnsOf};
 ghost use Rattle.transaction.specs.Laws.{GroupLaws};
 
 pub mod chains;
@@ -66,7 +64,7 @@ pub fn split(
     rows: &mut [u32; MOST_HANDLES],
 ) -> usize
     requires { ⌜ (length (now rowsets) ≡ mostHandles) × (length (now rows) ≡ mostHandles) ⌝ }
-    ensures { λ r. ⌜ (r ≡ min (handles .count) mostHandles) × (take r (now (rowsets .exit)) ≡ map (λ (h : Handle). h .rowset) (handlesOf handles)) × (take r (now (rows .exit)) ≡ map (λ (h : Handle). h .row) (handlesOf handles)) ⌝ }
+    ensures { λ r. ⌜ ColumnsOf handles r (now (rowsets .exit)) (now (rows .exit)) ⌝ }
 {
     let count = at_most(handles.count);
     let mut i: usize = 0;

@@ -3,7 +3,6 @@ use mathlib.Core.Path.{_≡_, sym, ap, subst, _∙_}
 use mathlib.Core.Bool.{false}
 use mathlib.Core.List.{List, [], _∷_, map}
 use Prim.Native.Nat.{ℕ, _+_, _≤_}
-use native.Mathlib.Omega.{arith}
 use lib.ListN.{length, take}
 use borrow.Author.Tests.{ltb-false}
 use Rattle.lists.specs.Written.{over}
@@ -26,8 +25,8 @@ use Rattle.version_manager.specs.Managers.{heldBy, badManager, Manages, 
 use Rattle.version_manager.specs.Group.{groupTold, vectorsDrawn, groupedBy, groupVerdict, GroupSays}
 
 -- the columns that handles were split into
-pub handles-are : (h : Handles) (as bs : List ℕ) → as ≡ map (λ (k : Handle). k .rowset) (handlesOf h) → bs ≡ map (λ (k : Handle). k .row) (handlesOf h) → paired as bs ≡ handlesOf h
-handles-are h as bs p q = rw (p, q) (paired-of (take (h .count) (h .items)))
+pub handles-are : (h : Handles) (us ws : List ℕ) → us ≡ map (λ (k : Handle). k .rowset) (handlesOf h) → ws ≡ map (λ (k : Handle). k .row) (handlesOf h) → paired us ws ≡ handlesOf h
+handles-are h us ws p q = rw (p, q) (paired-of (take (h .count) (h .items)))
 
 -- a grouping for a manager that passed 29
 module _ (m : VersionManager) (h : Handles) (hs : List Handle) (e : hs ≡ handlesOf h) (rs ls cs fs ms : List ℕ) (d : Grouping) (rs′ ls′ cs′ fs′ ms′ : List ℕ)

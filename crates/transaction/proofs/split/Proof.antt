@@ -78,7 +78,13 @@ returns c =
     let m = c .before .before .at-most .ensures in
     let e : c .before .loop .i ≡ c .before .before .at-most .result = omega (arith, inv .0, c .loop-test .left) in
     let n : min (hs .count) (length (hs .items)) ≤ c .before .loop .i = omega (arith, inv .3) in
-    (m, rw (← e) (column-done (λ (h : Handle). h .rowset) (hs .items) (hs .count) _ _ n (inv .4)), rw (← e) (column-done (λ (h : Handle). h .row) (hs .items) (hs .count) _ _ n (inv .5)))
+    record {
+      count = m;
+      rowsets = rw (← e) (column-done (λ (h : Handle). h .rowset) (hs .items) (hs .count) _ _ n (inv .4));
+      rows = rw (← e) (column-done (λ (h : Handle). h .row) (hs .items) (hs .count) _ _ n (inv .5));
+      us-full = inv .1;
+      ws-full = inv .2;
+    }
 
 pub split-spec : {M : Type 1} → statement M
 split-spec =
