@@ -5,7 +5,7 @@ use super::record::ROW_LIMIT;
 use ids::RowNo;
 ghost use mathlib.Core.Path.{_≡_};
 ghost use mathlib.Core.Bool.{false};
-ghost use Prim.Native.Nat.{_+_, _≤_};
+ghost use Prim.Native.Nat.{_+_, _*_, _≤_};
 ghost use lib.ListN.{length};
 ghost use Rattle.lists.specs.Written.{over, Wrote};
 ghost use Rattle.delete_vector.specs.Records.{recordsOf, recordsIn, isBad, rowsIn};
@@ -22,7 +22,7 @@ pub enum Scanned {
 // Internal: the caller has looked at the count.
 pub fn file_size(rows: &[u32], sizes: &[usize; ROW_BITS + 1]) -> usize
     requires { ⌜ (length (now rows) ≤ mostRecords) × (now sizes ≡ sizeTable) ⌝ }
-    ensures { λ r. ⌜ r ≡ length (recordsOf (now (rows .entry))) ⌝ }
+    ensures { λ r. ⌜ (r ≡ length (recordsOf (now (rows .entry)))) × (r ≤ 7 * length (now (rows .entry))) ⌝ }
 {
     let mut size: usize = 0;
     let mut i = 0;

@@ -1,14 +1,17 @@
--- What draw and fresh hand out passes 29. Assumes nothing.
+-- What fresh, draw and group hand out passes 29. Assumes nothing.
 use mathlib.Core.Path.{_≡_, refl, sym, subst}
 use mathlib.Core.Bool.{true, false}
 use mathlib.Core.List.{List, [], _∷_}
 use Prim.Native.Nat.{ℕ, _+_, _≤_}
 use native.Mathlib.Omega.{arith}
 use lib.Dec.{ltb}
+use lib.ListN.{length}
 use Rattle.lists.specs.Keyed.{allOf}
 use Rattle.lists.proofs.Keyed.{all-map, allOf-all, all-allOf}
 use Rattle.ids.specs.declared.refusal.Verdict.{Verdict}
 use Rattle.ids.specs.declared.refusal.Verdict.the-variants.{Accepted, Refused}
+use Rattle.ids.specs.declared.refusal.Refusal.the-variants.{BadManager}
+use Rattle.ids.specs.Verdicts.{_⇒_}
 use Rattle.ids.proofs.Verdicts.{none-judged}
 use Rattle.ids.specs.Ids.{largest32, largest64}
 use Rattle.text.specs.Name.{isName}
@@ -19,9 +22,12 @@ use Rattle.version_state.specs.State.{State, start, stateOf, withNext, Hands}
 use Rattle.version_state.specs.Sound.{leftBehind, badInner}
 use Rattle.version_state.proofs.Within.{Rises, within-of, of-within, within-up}
 use Rattle.version_state.proofs.Facts.{Ordered, sound-of, of-sound}
+use Rattle.transaction.specs.Groups.{handlesOf}
+use Rattle.transaction.specs.Says.{groupRules}
 use Rattle.version_manager.specs.declared.VersionManager.{VersionManager}
-use Rattle.version_manager.specs.Managers.{heldBy, HandsBack}
+use Rattle.version_manager.specs.Managers.{heldBy, badManager, HandsBack}
 use Rattle.version_manager.specs.Draw.{drawRules, rowsetVerdict, vectorVerdict, rowsetDrawn, vectorDrawn}
+use Rattle.version_manager.specs.Group.{vectorsDrawn, groupedBy, groupVerdict}
 use Rattle.version_manager.specs.Laws.{DrawLaws}
 
 -- entries stay within next ids that rise
@@ -77,4 +83,8 @@ draw-laws =
       vector = λ m r h a.
           raised-sound (m .inner) (r .manager .inner) (heldBy m .nextRowset) (heldBy m .nextVector + 1) (omega arith) (omega arith) (none-judged (drawRules m (heldBy m .nextVector) largest64) a .0)
           (handed-back (vectorVerdict m) m (r .manager) (vectorDrawn (heldBy m)) a (h .manager));
+      group = λ m h rs ls cs fs ms g rs′ ls′ cs′ fs′ ms′ w a.
+          raised-sound (m .inner) (g .manager .inner) (heldBy m .nextRowset) (heldBy m .nextVector + length (groupedBy h)) (omega arith) (omega arith)
+          (none-judged ((badManager m ⇒ BadManager) ∷ groupRules (handlesOf h) (h .count) (heldBy m .nextVector) (length rs) (length ls) (length cs) (length fs) (length ms)) a .0)
+          (handed-back (groupVerdict m h rs ls cs fs ms) m (g .manager) (vectorsDrawn (length (groupedBy h)) (heldBy m)) a (w .manager));
     }

@@ -1,6 +1,7 @@
 -- The definitions that this crate's contracts cite. Assumes nothing.
 pub mod Managers
 pub mod Draw
+pub mod Group
 pub mod Commit
 pub mod Vacuum
 pub mod Show

@@ -12,6 +12,8 @@ use show::ShowAnswer;
 use snapshot::rowsets::Rowsets;
 use snapshot::tables::Tables;
 use snapshot::vectors::Vectors;
+use transaction::Handles;
+use transaction::MOST_HANDLES;
 use version_state::Held;
 use version_state::VersionManagerInner;
 ghost use mathlib.Core.Path.{_≡_};
@@ -20,6 +22,7 @@ ghost use Rattle.manifest.specs.Operations.{batchOf};
 ghost use Rattle.commit.specs.Lent.{operationsIn};
 ghost use Rattle.version_manager.specs.Managers.{badManager, FreshSays};
 ghost use Rattle.version_manager.specs.Draw.{DrawRowsetSays, DrawVectorSays};
+ghost use Rattle.version_manager.specs.Group.{GroupSays};
 ghost use Rattle.version_manager.specs.Commit.{CommitSays};
 ghost use Rattle.version_manager.specs.Vacuum.{VacuumSays};
 ghost use Rattle.version_manager.specs.Show.{ShowTablesSays, ShowPairsSays, ShowVectorsSays};
@@ -57,6 +60,17 @@ pub struct DrawnVector {
     pub answer: VectorAnswer,
 }
 
+pub enum GroupAnswer {
+    // How many vectors there are, and the first one's id; the others' ids follow it.
+    Vectors(usize, VectorNo),
+    Refused(Refusal),
+}
+
+pub struct Grouped {
+    pub manager: VersionManager,
+    pub answer: GroupAnswer,
+}
+
 pub enum CommitAnswer {
     // The new epoch, and how many bytes there are to append.
     Appended(u32, usize),
@@ -86,7 +100,7 @@ pub fn handed(inner: VersionManagerInner) -> VersionManager
     VersionManager { inner }
 }
 
-// What fresh and draw hand out passes 29.
+// What fresh, draw and group hand out passes 29.
 pub fn holds()
     ensures { λ _. ⌜ DrawLaws ⌝ }
 {}
@@ -162,6 +176,60 @@ impl VersionManager {
         DrawnVector {
             manager,
             answer: VectorAnswer::Id(VectorNo(id)),
+        }
+    }
+
+    // One delete vector for each rowset that handles name, ascending: its rowset, the length of its file and its count of rows in
+    // memory; then all files one after another, and all rows in memory one after another.
+    pub fn group(
+        self,
+        handles: Handles,
+        rowsets: &mut [u32],
+        lengths: &mut [u32],
+        counts: &mut [u32],
+        files: &mut [u8],
+        rows: &mut [u32],
+    ) -> Grouped
+        ensures { λ r. ⌜ GroupSays self handles (now (rowsets .entry)) (now (lengths .entry)) (now (counts .entry)) (now (files .entry)) (now (rows .entry)) r (now (rowsets .exit)) (now (lengths .exit)) (now (counts .exit)) (now (files .exit)) (now (rows .exit)) ⌝ }
+    {
+        if self.bad() {
+            return Grouped {
+                manager: self,
+                answer: GroupAnswer::Refused(Refusal::BadManager),
+            };
+        }
+        let mut inner = self.inner;
+        let mut next = inner.next;
+        let id = next.vector.0;
+        let count = handles.count;
+        let mut of = [0u32; MOST_HANDLES];
+        let mut deleted = [0u32; MOST_HANDLES];
+        let n = transaction::split(handles, &mut of, &mut deleted);
+        let done = transaction::group(
+            &of[..n],
+            &deleted[..n],
+            count,
+            id,
+            rowsets,
+            lengths,
+            counts,
+            files,
+            rows,
+        );
+        let verdict = done.verdict;
+        if let Verdict::Refused(refusal) = verdict {
+            return Grouped {
+                manager: self,
+                answer: GroupAnswer::Refused(refusal),
+            };
+        }
+        let raised = VectorNo(id + done.count as u64);
+        next.vector = raised;
+        inner.next = next;
+        let manager = handed(inner);
+        Grouped {
+            manager,
+            answer: GroupAnswer::Vectors(done.count, VectorNo(id)),
         }
     }
 

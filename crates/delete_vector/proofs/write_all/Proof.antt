@@ -16,17 +16,17 @@ unfolding sizeTable
 file-size-requires c κs = (omega arith, refl)
 
 returns-2 : tie.Need-returns-2
-returns-2 c = write-short _ _ (omega arith) (omega (arith, c .before .file-size .ensures))
+returns-2 c = write-short _ _ (omega arith) (omega (arith, c .before .file-size .ensures .0))
 
 put-records-requires : tie.Need-put-records-requires
 unfolding sizeTable
-put-records-requires c κs = (omega (arith, c .before .before .before .file-size .ensures), refl)
+put-records-requires c κs = (omega (arith, c .before .before .before .file-size .ensures .0), refl)
 
 same-length : tie.Need-same-length
 same-length c = search needs
 
 returns-3 : tie.Need-returns-3
-returns-3 c = write-done _ _ _ _ (omega arith) (omega (arith, c .before .before .before .before .before .before .file-size .ensures)) (c .before .before .before .before .before .before .file-size .ensures) (wrote-over _ _ _ _ (c .before .before .put-records .ensures))
+returns-3 c = write-done _ _ _ _ (omega arith) (omega (arith, c .before .before .before .before .before .before .file-size .ensures .0)) (c .before .before .before .before .before .before .file-size .ensures .0) (wrote-over _ _ _ _ (c .before .before .put-records .ensures))
 
 pub write-all-spec : {M : Type 1} → statement M
 write-all-spec =

@@ -45,7 +45,7 @@ loop-again c =
     (omega arith, omega arith, omega arith)
 
 returns : tie.Need-returns Inv-loop μ-loop
-returns c = omega (arith, ap length (rows-end (now (c .before .before .before .args .rows)) (c .before .loop .i) (c .loop-test .left)))
+returns c = (omega (arith, ap length (rows-end (now (c .before .before .before .args .rows)) (c .before .loop .i) (c .loop-test .left))), omega arith)
 
 pub file-size-spec : {M : Type 1} → statement M
 file-size-spec =
