@@ -4,4 +4,5 @@ pub mod Draw
 pub mod Commit
 pub mod Vacuum
 pub mod Show
+pub mod Lock
 pub mod Laws
