@@ -5,4 +5,5 @@ pub mod Commit
 pub mod Vacuum
 pub mod Show
 pub mod Lock
+pub mod Select
 pub mod Laws

@@ -1,4 +1,5 @@
 // The version manager: every public method. 29 is judged here; what works below is given a state that passed.
+use compactor::SelectAnswer;
 use ids::RowsetNo;
 use ids::TableNo;
 use ids::VectorNo;
@@ -25,6 +26,7 @@ ghost use Rattle.version_manager.specs.Commit.{CommitSays};
 ghost use Rattle.version_manager.specs.Vacuum.{VacuumSays};
 ghost use Rattle.version_manager.specs.Show.{ShowTablesSays, ShowPairsSays, ShowVectorsSays};
 ghost use Rattle.version_manager.specs.Lock.{RelockSays, LockSays, UnlockSays};
+ghost use Rattle.version_manager.specs.Select.{SelectSays};
 ghost use Rattle.version_manager.specs.Laws.{DrawLaws};
 
 #[repr(C)]
@@ -410,5 +412,17 @@ impl VersionManager {
         ensures { λ r. ⌜ UnlockSays self table r ⌝ }
     {
         self.relock(table, false)
+    }
+
+    // Which of a table's rowsets a compaction is to take: a size is lent for each of them, and those taken are written to the front of
+    // `out`.
+    pub fn select(self, table: TableNo, target: u64, sizes: &[u64], out: &mut [u32]) -> SelectAnswer
+        ensures { λ r. ⌜ SelectSays self table target (now (sizes .entry)) (now (out .entry)) r (now (out .exit)) ⌝ }
+    {
+        if self.bad() {
+            return SelectAnswer::Refused(Refusal::BadManager);
+        }
+        let inner = self.inner;
+        compactor::select(inner, table, target, sizes, out)
     }
 }
