@@ -28,14 +28,14 @@ use Rattle.version_manager.specs.Managers.{heldBy, badManager, Manages}
 use Rattle.log_book.specs.Vacuums.{two, cleared, Lists, VacuumCases}
 
 -- what 29 asks of a state
-record Good (s : State) : Type 0 where
-  manifest : s .manifest ≤ longestManifest
-  names : allOf (λ x. isName (x .name)) (s .tables) ≡ true
-  ordered : Ordered s
-  below : allOf (λ x. ltb (x .table) (s .nextTable)) (s .tables) ≡ true
-  pairs : allOf (within (s .epoch) (s .nextTable ∷ s .nextRowset ∷ [])) (s .pairs) ≡ true
-  vectors : allOf (within (s .epoch) (s .nextTable ∷ s .nextRowset ∷ s .nextVector ∷ [])) (s .vectors) ≡ true
-  whole : leftBehind (s .epoch) s ≡ false
+pub record Good (s : State) : Type 0 where
+  pub manifest : s .manifest ≤ longestManifest
+  pub names : allOf (λ x. isName (x .name)) (s .tables) ≡ true
+  pub ordered : Ordered s
+  pub below : allOf (λ x. ltb (x .table) (s .nextTable)) (s .tables) ≡ true
+  pub pairs : allOf (within (s .epoch) (s .nextTable ∷ s .nextRowset ∷ [])) (s .pairs) ≡ true
+  pub vectors : allOf (within (s .epoch) (s .nextTable ∷ s .nextRowset ∷ s .nextVector ∷ [])) (s .vectors) ≡ true
+  pub whole : leftBehind (s .epoch) s ≡ false
 
 -- what the vacuum of a state and its pins is
 record Computed (s : State) (l : List PinEntry) (es : List Entry) (t : State) : Type 0 where
@@ -47,7 +47,7 @@ record Computed (s : State) (l : List PinEntry) (es : List Entry) (t : State) : 
   leaves : vacuumed (bound (guardsBy (s .epoch) l)) s ≡ t
 
 module _ (s : State) (m : VersionManager) (h : Manages m s) where
-  passes : Good s → badManager m ≡ false
+  pub passes : Good s → badManager m ≡ false
   passes g =
       let k = subst Good (sym (h .state)) g in
       of-sound (m .inner)

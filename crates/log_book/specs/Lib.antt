@@ -3,4 +3,5 @@ pub mod Rows
 pub mod Vacuums
 pub mod Manifests
 pub mod Pins
+pub mod Selections
 pub mod LogBook

@@ -1,6 +1,6 @@
 -- What the work below a method tells of the method's own proposition. Assumes nothing.
 use mathlib.Core.Path.{_≡_, refl, sym, ap, subst, _∙_}
-use mathlib.Core.Bool.{false}
+use mathlib.Core.Bool.{Bool, false}
 use mathlib.Core.List.{List, [], _∷_, map}
 use Prim.Native.Nat.{ℕ, _*_, _≤_}
 use native.Mathlib.Omega.{arith}
@@ -10,6 +10,7 @@ use Rattle.lists.specs.Written.{over, Wrote}
 use Rattle.lists.proofs.Views.{view-length}
 use Rattle.lists.proofs.Written.{wrote-over, wrote-length}
 use Rattle.ids.specs.Limits.{mostOperations, longestLine}
+use Rattle.ids.specs.declared.TableNo.{TableNo}
 use Rattle.ids.specs.declared.refusal.Refusal.{Refusal}
 use Rattle.ids.specs.declared.refusal.Refusal.the-variants.{BadManager}
 use Rattle.ids.specs.declared.refusal.Verdict.{Verdict}
@@ -32,13 +33,18 @@ use Rattle.commit.proofs.AsLines.{lines-room, lines-read, commit-same, commit-l
 use Rattle.vacuum.specs.declared.Released.{Released}
 use Rattle.vacuum.specs.LetGo.{vacuumed}
 use Rattle.vacuum.specs.Says.{boundOf, listOf, VacuumIs}
+use Rattle.transaction_manager.specs.declared.Relocked.{Relocked}
+use Rattle.transaction_manager.specs.Locks.{relocked}
+use Rattle.transaction_manager.specs.Says.{LockIs}
 use Rattle.version_manager.specs.declared.VersionManager.{VersionManager}
 use Rattle.version_manager.specs.declared.Committed.{Committed}
 use Rattle.version_manager.specs.declared.Vacuumed.{Vacuumed}
+use Rattle.version_manager.specs.declared.Locked.{Locked}
 use Rattle.version_manager.specs.declared.VacuumAnswer.the-variants as answer
 use Rattle.version_manager.specs.Managers.{heldBy, badManager, Manages, HandsBack}
 use Rattle.version_manager.specs.Commit.{outcomeOf, commitTold, CommitEnds, CommitSays}
 use Rattle.version_manager.specs.Vacuum.{vacuumVerdict, VacuumSays}
+use Rattle.version_manager.specs.Lock.{lockVerdict, RelockSays}
 
 -- a commit over the columns c that was refused, and one that was accepted
 module _ (m : VersionManager) (d : Done) (c : Columns) (r : Committed) where
@@ -124,4 +130,27 @@ module _ (m : VersionManager) (b : PinBook) (ts rs : List ℕ) (v : Released) (t
           tables = tables-are;
           rowsets = rowsets-are;
           manager = subst (λ (d : Verdict). HandsBack d m (vacuumed (boundOf (heldBy m) b) (heldBy m)) (r .manager)) (sym e ∙ verdict-is) (rw h (i .inner e));
+        }
+
+-- a lock of a manager that passed 29 taken or given back
+module _ (m : VersionManager) (t : TableNo) (b : Bool) (v : Relocked) (g : badManager m ≡ false) (i : LockIs (heldBy m) (t .0) b v) where
+  lock-verdict : v .verdict ≡ lockVerdict m (t .0) b
+  lock-verdict = rw g (i .verdict)
+
+  module _ (r : Locked) (a : r .answer ≡ v .verdict) where
+    lock-told : told (r .answer) [] ≡ told (lockVerdict m (t .0) b) []
+    lock-told = ap (λ (d : Verdict). told d []) (a ∙ lock-verdict)
+
+    pub lock-no : (k : Refusal) → v .verdict ≡ Refused k → r .manager ≡ m → RelockSays m t b r
+    lock-no k e h =
+        record {
+          answer = lock-told;
+          manager = subst (λ (d : Verdict). HandsBack d m (relocked (t .0) b (heldBy m)) (r .manager)) (sym e ∙ lock-verdict) h;
+        }
+
+    pub lock-yes : v .verdict ≡ Accepted → r .manager .inner ≡ v .inner → RelockSays m t b r
+    lock-yes e h =
+        record {
+          answer = lock-told;
+          manager = subst (λ (d : Verdict). HandsBack d m (relocked (t .0) b (heldBy m)) (r .manager)) (sym e ∙ lock-verdict) (rw h (i .inner));
         }

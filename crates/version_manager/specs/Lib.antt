@@ -5,4 +5,6 @@ pub mod Group
 pub mod Commit
 pub mod Vacuum
 pub mod Show
+pub mod Lock
+pub mod Select
 pub mod Laws

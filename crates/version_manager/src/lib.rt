@@ -1,5 +1,7 @@
 // The version manager: every public method. 29 is judged here; what works below is given a state that passed.
+use compactor::SelectAnswer;
 use ids::RowsetNo;
+use ids::TableNo;
 use ids::VectorNo;
 use ids::limits::LARGEST_32;
 use ids::limits::LARGEST_64;
@@ -26,6 +28,8 @@ ghost use Rattle.version_manager.specs.Group.{GroupSays};
 ghost use Rattle.version_manager.specs.Commit.{CommitSays};
 ghost use Rattle.version_manager.specs.Vacuum.{VacuumSays};
 ghost use Rattle.version_manager.specs.Show.{ShowTablesSays, ShowPairsSays, ShowVectorsSays};
+ghost use Rattle.version_manager.specs.Lock.{RelockSays, LockSays, UnlockSays};
+ghost use Rattle.version_manager.specs.Select.{SelectSays};
 ghost use Rattle.version_manager.specs.Laws.{DrawLaws};
 
 #[repr(C)]
@@ -91,6 +95,12 @@ pub enum VacuumAnswer {
 pub struct Vacuumed {
     pub manager: VersionManager,
     pub answer: VacuumAnswer,
+}
+
+// After a lock was taken or given back.
+pub struct Locked {
+    pub manager: VersionManager,
+    pub answer: Verdict,
 }
 
 // Every manager that is handed back is made here.
@@ -432,5 +442,55 @@ impl VersionManager {
         }
         let inner = self.inner;
         show::show_vectors(inner, book, epoch, tables, rowsets, vectors)
+    }
+
+    fn relock(self, table: TableNo, held: bool) -> Locked
+        ensures { λ r. ⌜ RelockSays self table held r ⌝ }
+    {
+        if self.bad() {
+            return Locked {
+                manager: self,
+                answer: Verdict::Refused(Refusal::BadManager),
+            };
+        }
+        let inner = self.inner;
+        let done = transaction_manager::relock(inner, table, held);
+        let verdict = done.verdict;
+        if let Verdict::Refused(refusal) = verdict {
+            return Locked {
+                manager: self,
+                answer: Verdict::Refused(refusal),
+            };
+        }
+        let inner = done.inner;
+        let manager = handed(inner);
+        Locked {
+            manager,
+            answer: Verdict::Accepted,
+        }
+    }
+
+    pub fn lock(self, table: TableNo) -> Locked
+        ensures { λ r. ⌜ LockSays self table r ⌝ }
+    {
+        self.relock(table, true)
+    }
+
+    pub fn unlock(self, table: TableNo) -> Locked
+        ensures { λ r. ⌜ UnlockSays self table r ⌝ }
+    {
+        self.relock(table, false)
+    }
+
+    // Which of a table's rowsets a compaction is to take: a size is lent for each of them, and those taken are written to the front of
+    // `out`.
+    pub fn select(self, table: TableNo, target: u64, sizes: &[u64], out: &mut [u32]) -> SelectAnswer
+        ensures { λ r. ⌜ SelectSays self table target (now (sizes .entry)) (now (out .entry)) r (now (out .exit)) ⌝ }
+    {
+        if self.bad() {
+            return SelectAnswer::Refused(Refusal::BadManager);
+        }
+        let inner = self.inner;
+        compactor::select(inner, table, target, sizes, out)
     }
 }

@@ -1,0 +1,5 @@
+-- The laws that this crate's proofs cite. Assumes nothing.
+pub mod Runs
+pub mod Taking
+pub mod Selecting
+pub mod Laws
