@@ -208,7 +208,7 @@ countsNoPin = pinning PinsNothing
 -- a refused pin is counted
 pub record PinsAnyway (m : VersionManager) (b : PinBook) (a : PinAnswer) (b′ : PinBook) : Type 0 where
   pub answer : pinTold a ≡ told (pinVerdict m b) (current m ∷ [])
-  pub book : Keeps b′ (withPin (current m) (pinsOf b))
+  pub book : Keeps b′ (withPin (placeOn (current m)) (pinsOf b))
 
 abbrev pub countsRefused : Steps
 countsRefused = pinning PinsAnyway
