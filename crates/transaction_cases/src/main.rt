@@ -46,6 +46,14 @@ fn next_of(manager: VersionManager) {
     say(b"\n");
 }
 
+fn wide(x: u32) -> u64 {
+    x as u64
+}
+
+fn byte(x: u8) -> u64 {
+    x as u64
+}
+
 // One number for all that came before and one more.
 fn mixed(sum: u64, x: u64) -> u64 {
     (sum % 1000003 * 31 + x % 1000003 + 1) % 1000003
@@ -57,9 +65,9 @@ fn numbers(word: &[u8], s: &[u32]) {
     let mut i = 0;
     while i < s.len() {
         if s.len() <= 8 {
-            number(b" ", s[i] as u64);
+            number(b" ", wide(s[i]));
         }
-        sum = mixed(sum, s[i] as u64);
+        sum = mixed(sum, wide(s[i]));
         i += 1;
     }
     number(b" =", sum);
@@ -72,9 +80,9 @@ fn bytes(word: &[u8], s: &[u8]) {
     while i < s.len() {
         if s.len() <= 24 {
             say(b" ");
-            io::print_hex(STDOUT_FILENO, s[i] as u64, 2);
+            io::print_hex(STDOUT_FILENO, byte(s[i]), 2);
         }
-        sum = mixed(sum, s[i] as u64);
+        sum = mixed(sum, byte(s[i]));
         i += 1;
     }
     number(b" =", sum);
@@ -90,7 +98,7 @@ struct Room {
 }
 
 fn at_most(n: usize, most: usize) -> usize
-    ensures { λ r. ⌜ r ≤ most ⌝ }
+    ensures { λ r. ⌜ (r ≤ n) × (r ≤ most) ⌝ }
 {
     if n < most {
         return n;
@@ -108,8 +116,10 @@ fn called(
     ms: &mut [u32],
 ) {
     let done = manager.group(handles, rs, ls, cs, fs, ms);
-    answer(done.answer);
-    next_of(done.manager);
+    let told = done.answer;
+    answer(told);
+    let after = done.manager;
+    next_of(after);
     numbers(b"  rowsets", rs);
     numbers(b" lengths", ls);
     numbers(b" counts", cs);
@@ -145,8 +155,22 @@ fn group(word: &[u8], manager: VersionManager, handles: Handles, room: Room) {
 fn drawn(next: u64) -> VersionManager {
     let opened = VersionManager::fresh();
     let mut manager = opened.manager;
+    let mut inner = manager.inner;
+    let mut ids = inner.next;
     let id = VectorNo(next);
-    manager.inner.next.vector = id;
+    ids.vector = id;
+    inner.next = ids;
+    manager.inner = inner;
+    manager
+}
+
+// One that 29 refuses: its manifest is too long.
+fn beyond() -> VersionManager {
+    let opened = VersionManager::fresh();
+    let mut manager = opened.manager;
+    let mut inner = manager.inner;
+    inner.manifest = 65537;
+    manager.inner = inner;
     manager
 }
 
@@ -185,7 +209,7 @@ fn spread(rowsets: u32, rows: u32, count: usize) -> Handles {
     Handles { items, count }
 }
 
-fn room(n: usize, bytes: usize, rows: usize) -> Room {
+fn lent(n: usize, bytes: usize, rows: usize) -> Room {
     Room {
         vectors: n,
         lengths: n,
@@ -196,7 +220,7 @@ fn room(n: usize, bytes: usize, rows: usize) -> Room {
 }
 
 fn whole() -> Room {
-    room(MOST_HANDLES, MOST_BYTES, MOST_HANDLES)
+    lent(MOST_HANDLES, MOST_BYTES, MOST_HANDLES)
 }
 
 // Two rowsets, out of order and with repeats: two vectors of 17 bytes and 4 rows.
@@ -208,21 +232,21 @@ fn mixed_handles() -> Handles {
 fn small() {
     let none = [0u32; 2];
     let empty = listed(&none[..0], 0);
-    group(b"none:", drawn(3), empty, room(1, 1, 1));
-    group(b"none, no room:", drawn(3), empty, room(0, 0, 0));
+    group(b"none:", drawn(3), empty, lent(1, 1, 1));
+    group(b"none, no room:", drawn(3), empty, lent(0, 0, 0));
     group(
         b"none, ids used up:",
         drawn(LARGEST_64),
         empty,
-        room(1, 1, 1),
+        lent(1, 1, 1),
     );
     let one = [9u32, 4294967295];
     let single = listed(&one, 1);
-    group(b"one:", drawn(0), single, room(2, 8, 2));
-    group(b"mixed:", drawn(40), mixed_handles(), room(3, 20, 5));
-    group(b"mixed, exact:", drawn(40), mixed_handles(), room(2, 17, 4));
+    group(b"one:", drawn(0), single, lent(2, 8, 2));
+    group(b"mixed:", drawn(40), mixed_handles(), lent(3, 20, 5));
+    group(b"mixed, exact:", drawn(40), mixed_handles(), lent(2, 17, 4));
     let pairs = [5u32, 3, 2, 128, 5, 0, 5, 3, 2, 1, 5, 3];
-    group(b"first four:", drawn(40), listed(&pairs, 4), room(3, 20, 5));
+    group(b"first four:", drawn(40), listed(&pairs, 4), lent(3, 20, 5));
 }
 
 fn short() {
@@ -250,8 +274,8 @@ fn short() {
         rows: 4,
     };
     group(b"counts short:", drawn(40), mixed_handles(), c);
-    group(b"files short:", drawn(40), mixed_handles(), room(2, 16, 4));
-    group(b"rows short:", drawn(40), mixed_handles(), room(2, 17, 3));
+    group(b"files short:", drawn(40), mixed_handles(), lent(2, 16, 4));
+    group(b"rows short:", drawn(40), mixed_handles(), lent(2, 17, 3));
 }
 
 // 26: two ids of which the second would be the largest value; one id, and none.
@@ -261,39 +285,39 @@ fn used_up() {
         b"last two:",
         drawn(LARGEST_64 - 2),
         mixed_handles(),
-        room(2, 17, 4),
+        lent(2, 17, 4),
     );
     group(
         b"one of two left:",
         drawn(LARGEST_64 - 1),
         mixed_handles(),
-        room(2, 17, 4),
+        lent(2, 17, 4),
     );
     group(
         b"last one:",
         drawn(LARGEST_64 - 1),
         listed(&one, 1),
-        room(1, 3, 1),
+        lent(1, 3, 1),
     );
     group(
         b"none left:",
         drawn(LARGEST_64),
         listed(&one, 1),
-        room(1, 3, 1),
+        lent(1, 3, 1),
     );
 }
 
 // 2: the largest value is no rowset; it may stand past the count, and may be a row.
 fn malformed() {
     let last = [LARGEST_32 - 1, LARGEST_32, 3, 1];
-    group(b"last rowset:", drawn(0), listed(&last, 2), room(2, 12, 2));
+    group(b"last rowset:", drawn(0), listed(&last, 2), lent(2, 12, 2));
     let bad = [3u32, 1, LARGEST_32, 1];
-    group(b"no rowset:", drawn(0), listed(&bad, 2), room(2, 12, 2));
+    group(b"no rowset:", drawn(0), listed(&bad, 2), lent(2, 12, 2));
     group(
         b"past the count:",
         drawn(0),
         listed(&bad, 1),
-        room(2, 12, 2),
+        lent(2, 12, 2),
     );
 }
 
@@ -307,18 +331,16 @@ fn with_bad(handles: Handles) -> Handles {
 // Which refusal comes first.
 fn order() {
     let many = spread(5, 50, 4097);
-    group(b"too many:", drawn(0), many, room(5, 8, 8));
-    group(b"2 before 8:", drawn(0), with_bad(many), room(0, 0, 0));
-    group(b"8 before 26:", drawn(LARGEST_64), many, room(0, 0, 0));
+    group(b"too many:", drawn(0), many, lent(5, 8, 8));
+    group(b"2 before 8:", drawn(0), with_bad(many), lent(0, 0, 0));
+    group(b"8 before 26:", drawn(LARGEST_64), many, lent(0, 0, 0));
     group(
         b"26 before 9:",
         drawn(LARGEST_64),
         mixed_handles(),
-        room(0, 0, 0),
+        lent(0, 0, 0),
     );
-    let mut wrong = drawn(0);
-    wrong.inner.manifest = 65537;
-    group(b"29 before 2:", wrong, with_bad(many), room(0, 0, 0));
+    group(b"29 before 2:", beyond(), with_bad(many), lent(0, 0, 0));
 }
 
 fn large() {

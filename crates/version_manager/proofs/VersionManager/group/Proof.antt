@@ -2,7 +2,6 @@
 use mathlib.Core.Path.{refl, sym, _∙_}
 use native.Mathlib.Omega.{arith}
 use lib.Seq.{length-take-le}
-use Rattle.lists.proofs.Places.{known}
 use Rattle.version_state.proofs.Facts.{sound-of}
 use Rattle.version_manager.proofs.Groups.{handles-are, group-fits, group-no, group-yes}
 use borrow.Author.Needs.{needs}
