@@ -1,0 +1,73 @@
+// Cases of locks and of selection, read from the input. A line that begins with `#` says what follows and is printed.
+// Every other line has words. `=` sets something of the manager or of the sizes that are lent. `+` commits one operation, in the
+// manifest's letters. `!` takes or gives back a lock or selects, and prints the answer with what then stands.
+use bench::Bench;
+use libc::STDIN_FILENO;
+ghost use Prim.Native.Nat.{_≤_};
+
+mod bench;
+mod calls;
+mod fields;
+mod say;
+mod sets;
+
+// One word: its sign, its letter, and after each comma a number.
+fn word(bench: Bench, s: &[u8]) -> Bench {
+    if s.len() < 2 {
+        return bench;
+    }
+    let sign = s[0];
+    let letter = s[1];
+    let f = fields::fields(s);
+    match sign {
+        b'+' => calls::commit(bench, &s[1..]),
+        b'=' => sets::set(bench, letter, f),
+        b'!' => calls::call(bench, letter, f),
+        _ => bench,
+    }
+}
+
+fn words(bench: Bench, s: &[u8]) -> Bench {
+    let mut bench = bench;
+    let mut from: usize = 0;
+    let mut i: usize = 0;
+    while i < s.len() {
+        if s[i] == b' ' {
+            bench = word(bench, &s[from..i]);
+            from = i + 1;
+        }
+        i += 1;
+    }
+    word(bench, &s[from..i])
+}
+
+fn line(bench: Bench, s: &[u8]) -> Bench {
+    if s.len() == 0 {
+        return bench;
+    }
+    if s[0] == b'#' {
+        say::line(s);
+        return bench;
+    }
+    words(bench, s)
+}
+
+fn run(s: &[u8]) {
+    let classes = text::classes();
+    let mut bench = Bench::fresh();
+    let mut from: usize = 0;
+    let mut i: usize = 0;
+    while i < s.len() {
+        if text::is_newline(&classes, s[i]) {
+            bench = line(bench, &s[from..i]);
+            from = i + 1;
+        }
+        i += 1;
+    }
+}
+
+fn main() {
+    let mut buffer = io::large_buffer();
+    let n = io::read_full(STDIN_FILENO, &mut buffer);
+    run(&buffer[..n]);
+}
