@@ -1,5 +1,6 @@
 -- Demand 3: every turn of a run keeps the invariant, and it holds at the start. Assumes nothing.
 use mathlib.Core.Path.{refl, sym, ap, subst, _∙_}
+use mathlib.Core.Bool.{true, false}
 use mathlib.Core.List.{[], map}
 use native.Mathlib.Omega.{arith}
 use Rattle.version_state.specs.State.{State, start, withEpoch, pairsAt, vectorsAt}
@@ -10,14 +11,14 @@ use Rattle.version_manager.proofs.Laws.{draw-laws}
 use Rattle.replay.specs.Replay.{reopened}
 use Rattle.recovery.proofs.Appending.{empty-holds, holds-replayed}
 use Rattle.plain_record.specs.Sets.{Sets, none}
-use Rattle.plain_record.specs.Calls.{Call, drawRowset, drawVector, commit, pin, unpin, vacuum, reopen, kindOf}
+use Rattle.plain_record.specs.Calls.{Call, drawRowset, drawVector, group, lock, unlock, commit, pin, unpin, vacuum, reopen, kindOf}
 use Rattle.plain_record.specs.Plain.{Record, atStart}
 use Rattle.plain_record.specs.Plain.{start as plain-start}
 use Rattle.plain_record.specs.Run.{World, world, Event, value, port, LinkBy, Starts}
 use Rattle.plain_record.specs.Claim.{waitingIn, Claim}
 use Rattle.plain_record.proofs.Invariant.{plainTable, Torn, Inv, Kept}
 use Rattle.plain_record.proofs.CommitShows.{shows-now}
-use Rattle.plain_record.proofs.Draw.{draw-rowset-kept, draw-vector-kept}
+use Rattle.plain_record.proofs.Draw.{draw-rowset-kept, draw-vector-kept, group-kept, relock-kept}
 use Rattle.plain_record.proofs.Commit.{commit-keeps}
 use Rattle.plain_record.proofs.Pin.{pin-kept, pin-answers}
 use Rattle.plain_record.proofs.Unpin.{unpin-kept}
@@ -62,6 +63,9 @@ starts w s = subst (λ (x : World). Inv x atStart) (sym (s .fresh)) (start-inv (
 turned : (c : Call) (e : Event) (r : Record) → Inv (e .before) r → LinkBy port (e .before) (e .told) (e .listed) (e .after) c → Kept r e (kindOf c)
 turned drawRowset e r i d = record { inv = draw-rowset-kept (value 0 (e .told)) (e .before) r (e .told) (e .listed) (e .after) i d; answer = tt }
 turned drawVector e r i d = record { inv = draw-vector-kept (value 0 (e .told)) (e .before) r (e .told) (e .listed) (e .after) i d; answer = tt }
+turned (group h rs ls cs fs ms) e r i d = record { inv = group-kept (value 0 (e .told)) (e .before) r (e .told) (e .listed) (e .after) i h rs ls cs fs ms d; answer = tt }
+turned (lock n) e r i d = record { inv = relock-kept (value 0 (e .told)) (e .before) r (e .told) (e .listed) (e .after) i true n d; answer = tt }
+turned (unlock n) e r i d = record { inv = relock-kept (value 0 (e .told)) (e .before) r (e .told) (e .listed) (e .after) i false n d; answer = tt }
 turned (commit os out missing) e r i d = record { inv = commit-keeps (e .before) (e .told) (e .listed) (e .after) os out missing r i d; answer = tt }
 turned pin e r i d =
     record { inv = pin-kept (e .before) r (e .told) (e .listed) (e .after) i d (value 0 (e .told)); answer = pin-answers (e .before) r (e .told) (e .listed) (e .after) i d }

@@ -3,13 +3,19 @@ use mathlib.Core.Bool.{Bool}
 use mathlib.Core.List.{List}
 use Prim.Native.Nat.{ℕ}
 use lib.ListN.{length}
+use Rattle.ids.specs.declared.TableNo.{TableNo}
 use Rattle.manifest.specs.Operations.{Operation}
+use Rattle.transaction.specs.declared.Handles.{Handles}
 use Rattle.plain_record.specs.Sets.{Sets}
 
 -- Show and the other calls that only read are in no list: they settle nothing.
 pub data Call : Type 0 where
   drawRowset : Call
   drawVector : Call
+  -- the handles, and the lent slices for rowsets, file lengths, row counts, files and rows
+  group : Handles → List ℕ → List ℕ → List ℕ → List ℕ → List ℕ → Call
+  lock : TableNo → Call
+  unlock : TableNo → Call
   -- the operations, the lent buffer, and how many of the append's last bytes are missing where the next accepted call is a reopen
   commit : List Operation → List ℕ → ℕ → Call
   pin : Call
@@ -35,6 +41,9 @@ pub data Kind : Type 0 where
 abbrev pub kindOf : Call → Kind
 kindOf drawRowset = quiet
 kindOf drawVector = quiet
+kindOf (group h rs ls cs fs ms) = quiet
+kindOf (lock n) = quiet
+kindOf (unlock n) = quiet
 kindOf (commit os out missing) = asCommit (λ id s. os) missing
 kindOf pin = asPin
 kindOf (unpin e) = asUnpin e

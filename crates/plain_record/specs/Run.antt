@@ -5,7 +5,9 @@ use mathlib.Core.List.{List, [], _∷_, _++_}
 use Prim.Native.Nat.{ℕ, _-_, _≤_}
 use lib.Dec.{eqb}
 use lib.ListN.{length, getD, take}
+use Rattle.ids.specs.declared.TableNo.{TableNo}
 use Rattle.ids.specs.Answers.{Told}
+use Rattle.ids.specs.Answers as answers
 use Rattle.manifest.specs.Operations.{Operation, batchOf}
 use Rattle.manifest.specs.declared.operation.Batch.{Batch}
 use Rattle.pins.specs.declared.PinBook.{PinBook}
@@ -14,10 +16,15 @@ use Rattle.version_manager.specs.declared.VersionManager.{VersionManager}
 use Rattle.version_manager.specs.declared.Opened.{Opened}
 use Rattle.version_manager.specs.declared.DrawnRowset.{DrawnRowset}
 use Rattle.version_manager.specs.declared.DrawnVector.{DrawnVector}
+use Rattle.transaction.specs.declared.Handles.{Handles}
+use Rattle.version_manager.specs.declared.Grouped.{Grouped}
+use Rattle.version_manager.specs.declared.Locked.{Locked}
 use Rattle.version_manager.specs.declared.Committed.{Committed}
 use Rattle.version_manager.specs.declared.Vacuumed.{Vacuumed}
 use Rattle.version_manager.specs.Managers.{FreshSays}
 use Rattle.version_manager.specs.Draw.{rowsetTold, vectorTold, DrawRowsetSays, DrawVectorSays}
+use Rattle.version_manager.specs.Group.{groupTold, GroupSays}
+use Rattle.version_manager.specs.Lock.{LockSays, UnlockSays}
 use Rattle.version_manager.specs.Commit.{commitTold, CommitSays}
 use Rattle.version_manager.specs.Vacuum.{vacuumTold, VacuumSays}
 use Rattle.version_manager.specs.Show.{ShowTablesSays, ShowPairsSays, ShowVectorsSays}
@@ -26,13 +33,16 @@ use Rattle.pinning.specs.declared.UnpinAnswer.{UnpinAnswer}
 use Rattle.pinning.specs.Says.{pinTold, unpinTold, PinSays, UnpinSays}
 use Rattle.storage.specs.declared.Reopened.{Reopened}
 use Rattle.storage.specs.Reopen.{reopenTold, ReopenSays}
-use Rattle.plain_record.specs.Calls.{Call, drawRowset, drawVector, commit, pin, unpin, vacuum, reopen}
+use Rattle.plain_record.specs.Calls.{Call, drawRowset, drawVector, group, lock, unlock, commit, pin, unpin, vacuum, reopen}
 
 -- what each entry point may return and leave
 pub record Steps : Type 1 where
   pub fresh : Opened → Type 0
   pub drawRowset : VersionManager → DrawnRowset → Type 0
   pub drawVector : VersionManager → DrawnVector → Type 0
+  pub group : VersionManager → Handles → List ℕ → List ℕ → List ℕ → List ℕ → List ℕ → Grouped → List ℕ → List ℕ → List ℕ → List ℕ → List ℕ → Type 0
+  pub lock : VersionManager → TableNo → Locked → Type 0
+  pub unlock : VersionManager → TableNo → Locked → Type 0
   pub commit : VersionManager → ℕ → List Operation → List ℕ → Committed → List ℕ → Type 0
   pub pin : VersionManager → PinBook → PinAnswer → PinBook → Type 0
   pub unpin : VersionManager → ℕ → PinBook → UnpinAnswer → PinBook → Type 0
@@ -49,6 +59,9 @@ port =
       fresh = FreshSays;
       drawRowset = DrawRowsetSays;
       drawVector = DrawVectorSays;
+      group = GroupSays;
+      lock = LockSays;
+      unlock = UnlockSays;
       commit = CommitSays;
       pin = PinSays;
       unpin = UnpinSays;
@@ -128,6 +141,26 @@ module _ (S : Steps) (w : World) (t : Told) (l : List (List ℕ)) (v : World) wh
     pub none : l ≡ []
     pub after : v ≡ onward (result .manager) (w .book) t w
 
+  pub record DidGroup (h : Handles) (rs ls cs fs ms : List ℕ) : Type 0 where
+    pub result : Grouped
+    pub rowsets : List ℕ
+    pub lengths : List ℕ
+    pub counts : List ℕ
+    pub files : List ℕ
+    pub memories : List ℕ
+    pub says : S .group (w .manager) h rs ls cs fs ms result rowsets lengths counts files memories
+    pub told : t ≡ groupTold (result .answer)
+    pub none : l ≡ []
+    pub after : v ≡ onward (result .manager) (w .book) t w
+
+  -- lock and unlock, each by what it may return
+  pub record DidLock (Says : VersionManager → TableNo → Locked → Type 0) (n : TableNo) : Type 0 where
+    pub result : Locked
+    pub says : Says (w .manager) n result
+    pub told : t ≡ answers.told (result .answer) []
+    pub none : l ≡ []
+    pub after : v ≡ onward (result .manager) (w .book) t w
+
   pub record DidCommit (os : List Operation) (out : List ℕ) (missing : ℕ) : Type 0 where
     -- the count that came with the operations: a batch may hold fewer than its count says
     pub count : ℕ
@@ -176,6 +209,9 @@ module _ (S : Steps) (w : World) (t : Told) (l : List (List ℕ)) (v : World) wh
   abbrev pub LinkBy : Call → Type 0
   LinkBy drawRowset = DrewRowset
   LinkBy drawVector = DrewVector
+  LinkBy (group h rs ls cs fs ms) = DidGroup h rs ls cs fs ms
+  LinkBy (lock n) = DidLock (S .lock) n
+  LinkBy (unlock n) = DidLock (S .unlock) n
   LinkBy (commit os out missing) = DidCommit os out missing
   LinkBy pin = DidPin
   LinkBy (unpin e) = DidUnpin e

@@ -1,14 +1,18 @@
 // The claim's `port` names propositions. Each call here has one of them as its contract, so that an entry point that says less, or a
 // field that says something else, is refused by the check.
+use ids::TableNo;
 use manifest::operation::Batch;
 use pinning::PinStep;
 use pinning::UnpinStep;
 use pins::PinBook;
 use show::ShowAnswer;
 use storage::Reopened;
+use transaction::Handles;
 use version_manager::Committed;
 use version_manager::DrawnRowset;
 use version_manager::DrawnVector;
+use version_manager::Grouped;
+use version_manager::Locked;
 use version_manager::Opened;
 use version_manager::Vacuumed;
 use version_manager::VersionManager;
@@ -33,6 +37,32 @@ pub fn draw_vector(manager: VersionManager) -> DrawnVector
     ensures { λ r. ⌜ port .drawVector manager r ⌝ }
 {
     manager.draw_vector()
+}
+
+pub fn group(
+    manager: VersionManager,
+    handles: Handles,
+    rowsets: &mut [u32],
+    lengths: &mut [u32],
+    counts: &mut [u32],
+    files: &mut [u8],
+    rows: &mut [u32],
+) -> Grouped
+    ensures { λ r. ⌜ port .group manager handles (now (rowsets .entry)) (now (lengths .entry)) (now (counts .entry)) (now (files .entry)) (now (rows .entry)) r (now (rowsets .exit)) (now (lengths .exit)) (now (counts .exit)) (now (files .exit)) (now (rows .exit)) ⌝ }
+{
+    manager.group(handles, rowsets, lengths, counts, files, rows)
+}
+
+pub fn lock(manager: VersionManager, table: TableNo) -> Locked
+    ensures { λ r. ⌜ port .lock manager table r ⌝ }
+{
+    manager.lock(table)
+}
+
+pub fn unlock(manager: VersionManager, table: TableNo) -> Locked
+    ensures { λ r. ⌜ port .unlock manager table r ⌝ }
+{
+    manager.unlock(table)
 }
 
 pub fn commit(manager: VersionManager, batch: Batch, out: &mut [u8]) -> Committed
