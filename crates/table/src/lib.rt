@@ -1,0 +1,1 @@
+// Create and drop of tables.
