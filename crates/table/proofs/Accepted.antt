@@ -26,6 +26,7 @@ use Rattle.operations.specs.Steps.{stepOf, stepsOf}
 use Rattle.commit.specs.Commit.{appendOf, firstRules, lastRules, finishOf, commitOf}
 use Rattle.commit.proofs.Stepwise.{halt, step-given, steps-manifest}
 use Rattle.table.specs.Made.{appliedAll, committed, deleteRowsetOf, deleteVectorOf}
+use Rattle.table.specs.Laws.{Narrow}
 use Rattle.table.proofs.Deletes.{marked, deletes}
 use Rattle.table.proofs.Shown.{Held, rows-all}
 
@@ -81,12 +82,6 @@ module _ (s : State) (os : List Operation) (room : ℕ) (few : length os ≤ mos
 
   pub commit-accepts : commitOf s (length os) os room ≡ given (committed os s)
   commit-accepts = rw (le-ltb mostOperations (length os) few, lt-leb lastEpoch (s .epoch) early, steps) finished
-
--- next ids within their widths
-pub record Narrow (s : State) : Type 0 where
-  pub table : s .nextTable ≤ largest32
-  pub rowset : s .nextRowset ≤ largest32
-  pub vector : s .nextVector ≤ largest64
 
 module _ (s : State) (w : Narrow s) where
   below : (x n m : ℕ) → ltb x n ≡ true → n ≤ m → ltb x m ≡ true

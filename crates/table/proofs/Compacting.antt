@@ -26,18 +26,16 @@ use Rattle.operations.specs.Effect.{applied}
 use Rattle.operations.specs.Judge.{isLive, isShown}
 use Rattle.operations.specs.Steps.{stepOf, stepsOf}
 use Rattle.commit.specs.Commit.{appendOf, commitOf}
-use Rattle.table.specs.Made.{committed, ofTable, isOver, deleteRowsetOf, deleteVectorOf, compactOperations}
+use Rattle.table.specs.Made.{committed, byNumber, ofTable, isOver, deleteRowsetOf, deleteVectorOf, compactOperations}
+use Rattle.table.specs.Laws.{Narrow}
 use Rattle.table.proofs.Deletes.{among, few-among, marked, has-keep, keep-put, shown-marked}
 use Rattle.table.proofs.Shown.{Held, or-second, few-rows, few-part, next-same, part-forms, part-below, part-rises, part-shown, part-deleted}
-use Rattle.table.proofs.Accepted.{two, three, vectors-deleted, pairs-deleted, commit-accepts, Narrow, vector-well, pairs-held, vectors-held}
+use Rattle.table.proofs.Accepted.{two, three, vectors-deleted, pairs-deleted, commit-accepts, vector-well, pairs-held, vectors-held}
 use Rattle.table.proofs.Dropping.{all-both}
 
 -- the pairs of the table t with these rowsets
 abbrev pairsWith : ℕ → List ℕ → List (List ℕ)
 pairsWith t rs = map (λ r. t ∷ r ∷ []) rs
-
-abbrev pub byNumber : ℕ → List ℕ
-byNumber r = r ∷ []
 
 pairs-rise : (t : ℕ) (rs : List ℕ) → Ascending byNumber rs → Ascending (λ k. k) (pairsWith t rs)
 pairs-rise t [] a = tt

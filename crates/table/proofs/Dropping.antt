@@ -27,9 +27,10 @@ use Rattle.operations.specs.Judge.{isLive}
 use Rattle.operations.specs.Steps.{stepOf, stepsOf}
 use Rattle.commit.specs.Commit.{appendOf, commitOf}
 use Rattle.table.specs.Made.{committed, ofTable, deleteRowsetOf, deleteVectorOf, dropOperations}
+use Rattle.table.specs.Laws.{Narrow}
 use Rattle.table.proofs.Deletes.{marked, has-keep}
 use Rattle.table.proofs.Shown.{Held, few-rows, few-part, part-forms, part-below, part-rises, part-shown, part-deleted}
-use Rattle.table.proofs.Accepted.{two, three, vectors-deleted, pairs-deleted, commit-accepts, Narrow, pair-well, vector-well, pairs-held, vectors-held}
+use Rattle.table.proofs.Accepted.{two, three, vectors-deleted, pairs-deleted, commit-accepts, pair-well, vector-well, pairs-held, vectors-held}
 
 pub all-both : {A : Type 0} {P Q R : A → Type 0} (l : List A) → ((x : A) → P x → Q x → R x) → All P l → All Q l → All R l
 all-both [] f p q = tt

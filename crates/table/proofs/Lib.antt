@@ -5,3 +5,4 @@ pub mod Accepted
 pub mod Dropping
 pub mod Creating
 pub mod Compacting
+pub mod Laws

@@ -38,6 +38,10 @@ createOperations next shape name = createTable next shape name ∷ []
 abbrev pub dropOperations : ℕ → List (List ℕ) → List (List ℕ) → List Operation
 dropOperations t pairs vectors = dropTable t ∷ (map deleteVectorOf (keep (ofTable t) vectors) ++ map deleteRowsetOf (keep (ofTable t) pairs))
 
+-- rowsets by their numbers
+abbrev pub byNumber : ℕ → List ℕ
+byNumber r = r ∷ []
+
 -- a vector over one of the rowsets rs of the table t
 abbrev pub isOver : ℕ → List ℕ → List ℕ → Bool
 isOver t rs k = ofTable t k && anyOf (eqb (getD k 1 0)) rs

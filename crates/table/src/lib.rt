@@ -1,1 +1,7 @@
-// Create and drop of tables.
+// Commits that a call makes itself from what is shown now: create and drop of tables, and a compaction.
+ghost use Rattle.table.specs.Laws.{MadeLaws};
+
+// Where a call's own rules pass, the one commit accepts what the call has made.
+pub fn holds()
+    ensures { λ _. ⌜ MadeLaws ⌝ }
+{}
