@@ -2,6 +2,7 @@
 pub mod Managers
 pub mod Draw
 pub mod Commit
+pub mod Made
 pub mod Vacuum
 pub mod Show
 pub mod Laws
