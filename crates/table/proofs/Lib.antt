@@ -6,3 +6,4 @@ pub mod Dropping
 pub mod Creating
 pub mod Compacting
 pub mod Laws
+pub mod Marked

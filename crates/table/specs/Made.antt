@@ -5,7 +5,9 @@ use Prim.Native.Nat.{ℕ, _+_}
 use lib.Dec.{eqb}
 use lib.ListN.{length, getD}
 use Rattle.lists.specs.Keyed.{keep, anyOf}
+use Rattle.columns.specs.Rows.{across, marks}
 use Rattle.manifest.specs.Operations.{Operation, createTable, dropTable, addRowset, deleteRowset, deleteVector}
+use Rattle.snapshot.specs.Picked.{placesOf}
 use Rattle.version_state.specs.State.{State, withEpoch}
 use Rattle.operations.specs.Effect.{applied}
 use Rattle.commit.specs.Commit.{appendOf}
@@ -25,6 +27,10 @@ deleteRowsetOf k = deleteRowset (getD k 0 0) (getD k 1 0)
 
 abbrev pub deleteVectorOf : List ℕ → Operation
 deleteVectorOf k = deleteVector (getD k 0 0) (getD k 1 0) (getD k 2 0)
+
+-- the ids at the marked places of the first n rows of columns
+abbrev pub markedRows : List Bool → List (List ℕ) → ℕ → List (List ℕ)
+markedRows m ks n = map (across ks) (placesOf (marks m) n)
 
 -- a pair or vector of the table t
 abbrev pub ofTable : ℕ → List ℕ → Bool
