@@ -7,3 +7,4 @@ pub mod Creating
 pub mod Compacting
 pub mod Laws
 pub mod Marked
+pub mod Judged

@@ -3,4 +3,5 @@ pub mod Made
 pub mod Create
 pub mod Drop
 pub mod Compact
+pub mod Says
 pub mod Laws
