@@ -8,3 +8,4 @@ pub mod Drop
 pub mod Vacuum
 pub mod Show
 pub mod Laws
+pub mod TableLaws

@@ -29,6 +29,7 @@ ghost use Rattle.version_manager.specs.Drop.{DropSays};
 ghost use Rattle.version_manager.specs.Vacuum.{VacuumSays};
 ghost use Rattle.version_manager.specs.Show.{ShowTablesSays, ShowPairsSays, ShowVectorsSays};
 ghost use Rattle.version_manager.specs.Laws.{DrawLaws};
+ghost use Rattle.version_manager.specs.TableLaws.{TableLaws};
 
 #[repr(C)]
 pub struct VersionManager {
@@ -102,9 +103,9 @@ pub fn handed(inner: VersionManagerInner) -> VersionManager
     VersionManager { inner }
 }
 
-// What fresh and draw hand out passes 29.
+// What fresh, draw, create and drop hand out passes 29.
 pub fn holds()
-    ensures { λ _. ⌜ DrawLaws ⌝ }
+    ensures { λ _. ⌜ DrawLaws × TableLaws ⌝ }
 {}
 
 impl VersionManager {
