@@ -82,7 +82,7 @@ none-left (l ∷ ls) =
     ∙ ap (λ (r : List ℕ). restOn r (joined ls)) (rest-ended l)
     ∙ none-left ls
 
-read-lines : (os : List Operation) → All (λ o. wellFormed o ≡ true) os → operationsIn (textsOf os) ≡ os
+pub read-lines : (os : List Operation) → All (λ o. wellFormed o ≡ true) os → operationsIn (textsOf os) ≡ os
 unfolding operationsIn
 read-lines os a =
     let b : map lineOf (lines (joined (map textOf os))) ≡ map operation os = rw (texts-of os) at (read-back (map operation os) (well-lines os a)) in

@@ -1,5 +1,5 @@
 -- What an operation does to the sets at an epoch, and to the next ids: one definition, for a commit and for a replay. Assumes nothing.
-use mathlib.Core.List.{List}
+use mathlib.Core.List.{List, [], _∷_}
 use Prim.Native.Nat.{ℕ, _+_, max}
 use Rattle.lists.specs.Keyed.{put, without, changed}
 use Rattle.ids.specs.Ids.{Next, next}
@@ -54,3 +54,8 @@ raise o s = withNext s (raised (editsOf o) (nextOf s) .table) (raised (editsOf o
 
 abbrev pub applied : ℕ → Operation → State → State
 applied e o s = raise o (effect e o s)
+
+-- operations in order, at epoch e
+abbrev pub appliedAll : ℕ → List Operation → State → State
+appliedAll e [] s = s
+appliedAll e (o ∷ os) s = appliedAll e os (applied e o s)

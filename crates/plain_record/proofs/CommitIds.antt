@@ -14,12 +14,12 @@ use Rattle.manifest.specs.Operations.{Operation}
 use Rattle.manifest.specs.Edits.{Edit, leaves, adds, deletes, rowsetIn, vectorIn, Edits, editsOf}
 use Rattle.version_state.specs.State.{State}
 use Rattle.version_state.specs.Sets.{nextOf}
-use Rattle.operations.specs.Effect.{applied}
+use Rattle.operations.specs.Effect.{applied, appliedAll}
 use Rattle.operations.specs.Judge.{opRules}
 use Rattle.operations.specs.Steps.{stepsOf}
 use Rattle.operations.proofs.Edits.{Adds, adds-map, Risen, rises, Passed, passed}
 use Rattle.replay.specs.Replay.{reopened, settled}
-use Rattle.recovery.specs.Holds.{appliedAll, followed}
+use Rattle.recovery.specs.Holds.{followed}
 use Rattle.plain_record.specs.Plain.{Id, tableId, rowsetId, vectorId, idAdded, idsBy, idsOf}
 use Rattle.plain_record.specs.Claim.{belowNext}
 use Rattle.plain_record.proofs.CommitSets.{steps-on}
@@ -86,12 +86,12 @@ steps-next e os s t l h g =
     let k = steps-on (λ i ps u. Gathers z ps u) e (λ i o ps u. gathers-on z e i o ps u) 0 os s t (record { ids = l; over = allOf-all (belowNext s) l h; all = refl }) g in
     gathers-done z t (k .1)
 
-replayed-next : (os : List Operation) (s : State) (l : List Id) → Over s l → Over (appliedAll os s) (l ++ idsOf os)
+replayed-next : (os : List Operation) (s : State) (l : List Id) → Over s l → Over (appliedAll reopened os s) (l ++ idsOf os)
 replayed-next [] s l h = rw append-nil h
 replayed-next (o ∷ os) s l h = rw (ids-on l o os) (replayed-next os (applied reopened o s) (l ++ idsBy (editsOf o)) (over-applied reopened o s l h))
 
 pub followed-next : (os : List Operation) (s : State) (l : List Id) → allOf (belowNext s) l ≡ true → allOf (belowNext (followed os s)) (l ++ idsOf os) ≡ true
 followed-next os s l h =
-    let u = appliedAll os s in
+    let u = appliedAll reopened os s in
     all-allOf (belowNext (settled u)) (l ++ idsOf os)
     (over-rise u (settled u) (l ++ idsOf os) (record { table = omega arith; rowset = omega arith; vector = omega arith }) (replayed-next os s l (allOf-all (belowNext s) l h)))

@@ -22,8 +22,8 @@ use Rattle.pins.specs.declared.PinBook.{PinBook}
 use Rattle.pins.specs.Book.{PinEntry, pinsOf, placeOn, Keeps}
 use Rattle.pins.specs.Guards.{guardsBy, bound}
 use Rattle.pins.specs.Counts.{withPin}
-use Rattle.operations.specs.Effect.{applied}
 use Rattle.operations.specs.Steps.{stepOf}
+use Rattle.operations.specs.Effect.{appliedAll}
 use Rattle.commit.specs.Commit.{appendOf, firstRules, finishOf, commitOf}
 use Rattle.vacuum.specs.LetGo.{vacuumList, staysBy, vacuumed}
 use Rattle.vacuum.specs.Says.{boundOf, listOf}
@@ -133,13 +133,9 @@ abbrev pub leavesEpoch : Steps
 leavesEpoch = committing (λ m n os out r out′. CommitEnds (unraised m n os (length out)) m os out r out′)
 
 -- a commit judges no operation, so that a pair that waits may be added again
-abbrev pub appliedAt : ℕ → List Operation → State → State
-appliedAt e [] s = s
-appliedAt e (o ∷ os) s = appliedAt e os (applied e o s)
-
 abbrev pub unjudged : VersionManager → ℕ → List Operation → ℕ → Result State
 unjudged m n os room =
-    onward (judged ((badManager m ⇒ BadManager) ∷ firstRules (heldBy m) n)) (finishOf (heldBy m .epoch + 1) os room (appliedAt (heldBy m .epoch + 1) os (heldBy m)))
+    onward (judged ((badManager m ⇒ BadManager) ∷ firstRules (heldBy m) n)) (finishOf (heldBy m .epoch + 1) os room (appliedAll (heldBy m .epoch + 1) os (heldBy m)))
 
 abbrev pub judgesNothing : Steps
 judgesNothing = committing (λ m n os out r out′. CommitEnds (unjudged m n os (length out)) m os out r out′)

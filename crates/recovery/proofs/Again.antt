@@ -26,7 +26,7 @@ use Rattle.rewrite.specs.Rewritten.{createOf, addOf, addVectorOf, rewriteOf, wr
 use Rattle.rewrite.proofs.Room.{rewritten-fits}
 use Rattle.replay.specs.Replay.{none, carried, reopened, atStart, stands, settled, overLimit, linesRead, tableless, withoutOrphans, replayOf}
 use Rattle.recovery.specs.Rewritable.{Rewritable, Widths, madeOf, namesDiffer}
-use Rattle.recovery.specs.Holds.{Holds, appliedAll}
+use Rattle.recovery.specs.Holds.{Holds}
 use Rattle.recovery.proofs.Framed.{frame-lines, rest-frame}
 use Rattle.recovery.proofs.Reading.{saidRead, said-read, whole-append}
 use Rattle.recovery.proofs.Owned.{allOf-map}
@@ -34,13 +34,14 @@ use Rattle.recovery.proofs.SoundReading.{Whole, whole-replayed}
 use Rattle.recovery.proofs.SoundSets.{all-with, passes-rewritable, manager-passes}
 use Rattle.recovery.proofs.Sound.{standing, pairs-shown, vectors-shown, whole-passes}
 use Rattle.recovery.proofs.AgainBuilt.{Leads, rewrite-leads}
+use Rattle.operations.specs.Effect.{appliedAll}
 
 -- a frame that leads to a state which rests
 frame-read : (os : List Operation) (s : State) → allOf wellFormed os ≡ true → length os ≤ mostOperations → Leads os (withEpoch start reopened 0) s → settled s ≡ s → overLimit s ≡ false
     → linesRead (lines (frameOf os)) atStart ≡ given (carried s none (1 + 1 + length os + 1))
 frame-read os s w few h q o =
     let fresh = withEpoch start reopened 0 in
-    let e : settled (appliedAll os fresh) ≡ s = ap settled (h .1) ∙ q in
+    let e : settled (appliedAll reopened os fresh) ≡ s = ap settled (h .1) ∙ q in
     said-read (lines (frameOf os)) atStart
     ∙ ap (λ (ls : List Line). saidRead ls atStart) (frame-lines os w)
     ∙ whole-append os fresh none 1 few (h .0) (ap overLimit e ∙ o)

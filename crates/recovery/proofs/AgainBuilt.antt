@@ -20,18 +20,17 @@ use Rattle.snapshot.specs.Tables.{TableEntry, byTable, nameTaken}
 use Rattle.version_state.specs.State.{State, start, withTables, withPairs, withVectors, withNext, withEpoch}
 use Rattle.ids.specs.Ids.{Next}
 use Rattle.version_state.specs.Sets.{Sets, sets, unlocked}
-use Rattle.operations.specs.Effect.{applied}
+use Rattle.operations.specs.Effect.{applied, appliedAll}
 use Rattle.rewrite.specs.Rewritten.{createOf, addOf, addVectorOf, rewriteOf}
 use Rattle.replay.specs.Replay.{reopened, conflicts}
 use Rattle.recovery.specs.Rewritable.{Rewritable, madeOf, namesDiffer, idsBelow}
-use Rattle.recovery.specs.Holds.{appliedAll}
 use Rattle.recovery.proofs.Reading.{conflictFree}
 use Rattle.recovery.proofs.SoundState.{Pairwise, Other, two, three}
 use Rattle.recovery.proofs.SoundSets.{all-with, ids-two, ids-three}
 
 -- operations that nowhere conflict lead from s to t
 abbrev pub Leads : List Operation → State → State → Type 0
-Leads os s t = (conflictFree os s ≡ true) × (appliedAll os s ≡ t)
+Leads os s t = (conflictFree os s ≡ true) × (appliedAll reopened os s ≡ t)
 
 leads-append : (a b : List Operation) (s t u : State) → Leads a s t → Leads b t u → Leads (a ++ b) s u
 leads-append [] b s t u p q = subst (λ (x : State). Leads b x u) (sym (p .1)) q
@@ -49,7 +48,7 @@ module _ {A : Type 0} (f : A → Operation) (at : List A → State) (R : A → A
       let b : All (λ z. All (λ y. R y z) (done ++ (x ∷ []))) l = all-with l (λ z h r. all-append (λ y. R y z) done (x ∷ []) h (r, tt)) (a .1) (p .0) in
       let r = leads-on l (done ++ (x ∷ [])) b (p .1) (q .1) in
       let g : at ((done ++ (x ∷ [])) ++ l) ≡ at (done ++ (x ∷ l)) = ap at (append-assoc done (x ∷ []) l) in
-      (rw (e .0, e .1) (r .0), ap (appliedAll (map f l)) (e .1) ∙ r .1 ∙ g)
+      (rw (e .0, e .1) (r .0), ap (appliedAll reopened (map f l)) (e .1) ∙ r .1 ∙ g)
 
   leads-all : (l : List A) → Pairwise R l → All Q l → Leads (map f l) (at []) (at l)
   leads-all l p q = leads-on l [] (all-any l (λ x. tt)) p q

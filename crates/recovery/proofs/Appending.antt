@@ -25,13 +25,14 @@ use Rattle.commit.proofs.Sounds.{Accepts, accepts}
 use Rattle.rewrite.specs.Rewritten.{writtenOf}
 use Rattle.replay.specs.Replay.{none, Carried, carried, reopened, atStart, linesRead, finished, linesReplayed, replayOf}
 use Rattle.recovery.specs.Rewritable.{Rewritable, madeOf}
-use Rattle.recovery.specs.Holds.{Holds, appliedAll, followed, Appended, first, rewritten, committed, other}
+use Rattle.recovery.specs.Holds.{Holds, followed, Appended, first, rewritten, committed, other}
 use Rattle.recovery.proofs.Reading.{saidRead, said-read, read-append, whole-append, torn-append}
 use Rattle.recovery.proofs.Framed.{frame-lines, rest-frame, torn-lines}
 use Rattle.recovery.proofs.Replays.{holds-read, sets-settled}
 use Rattle.recovery.proofs.Besides.{Went, beside-start, beside-steps}
 use Rattle.recovery.proofs.Owned.{none-tableless, none-orphaned, none-over}
 use Rattle.recovery.proofs.Again.{rewritten-holds, rewritten-room, replay-again}
+use Rattle.operations.specs.Effect.{appliedAll}
 
 pub empty-holds : Holds [] (withEpoch start reopened 0)
 unfolding restOn lines linesOn
@@ -86,7 +87,7 @@ module _ (src : List ℕ) (s : State) (m : VersionManagerInner) (n : ℕ) (os : 
   whole-holds : Holds (src ++ frameOf os) (followed os s)
   whole-holds =
       let e = m .epoch + 1 in
-      let v = appliedAll os s in
+      let v = appliedAll reopened os s in
       record {
         whole = rest-frame src os (h .whole);
         frame = none;
@@ -101,7 +102,7 @@ module _ (src : List ℕ) (s : State) (m : VersionManagerInner) (n : ℕ) (os : 
 
   whole-sets : setsOf (followed os s) ≡ setsOf u
   whole-sets =
-      sets-settled (appliedAll os s) (went .beside .read)
+      sets-settled (appliedAll reopened os s) (went .beside .read)
       ∙ sym (went .beside .same)
       ∙ ap setsOf (a .state)
 

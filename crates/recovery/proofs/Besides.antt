@@ -25,14 +25,13 @@ use Rattle.version_state.specs.State.{State, stateOf, pairsAt, vectorsAt}
 use Rattle.version_state.specs.Sets.{Sets, sets, unlocked, setsOf}
 use Rattle.version_state.proofs.Within.{Within, within-of}
 use Rattle.version_state.proofs.Facts.{Ordered, Sound}
-use Rattle.operations.specs.Effect.{applied}
+use Rattle.operations.specs.Effect.{applied, appliedAll}
 use Rattle.operations.specs.Judge.{opRules}
 use Rattle.operations.specs.Steps.{stepOf, stepsOf}
 use Rattle.operations.proofs.Edits.{TableFits, fits}
 use Rattle.operations.proofs.Keeps.{Below, below-applied, ordered-applied, Short, short-applied}
 use Rattle.commit.proofs.Stepwise.{halt, step-given}
 use Rattle.replay.specs.Replay.{reopened, clashes, conflicts}
-use Rattle.recovery.specs.Holds.{appliedAll}
 use Rattle.recovery.proofs.Reading.{conflictFree}
 use Rattle.recovery.proofs.Effects.{setsAt, onSets, on-sets}
 use Rattle.recovery.proofs.Replays.{Read, read-applied}
@@ -93,7 +92,7 @@ beside-applied i e o t v h a b =
 pub record Went (e : ℕ) (os : List Operation) (w v : State) : Type 0 where
   pub well : allOf wellFormed os ≡ true
   pub free : conflictFree os v ≡ true
-  pub beside : Beside e w (appliedAll os v)
+  pub beside : Beside e w (appliedAll reopened os v)
 
 went-on : (e : ℕ) (o : Operation) (os : List Operation) (w v : State) → wellFormed o ≡ true → conflicts o v ≡ false → Went e os w (applied reopened o v) → Went e (o ∷ os) w v
 went-on e o os w v f c g = record { well = join f (g .well); free = rw c (g .free); beside = g .beside }

@@ -8,6 +8,7 @@ use lib.Dec.{leb, eqb}
 use borrow.Author.Tests.{le-leb, ne-eqb}
 use Rattle.lists.specs.Keyed.{keep, put, without, changed, ascending}
 use Rattle.lists.proofs.Keyed.{Ascending, ascend-to}
+use Rattle.lists.proofs.Kept.{keep-put, keep-changed}
 use Rattle.manifest.specs.Operations.{Operation}
 use Rattle.manifest.specs.Edits.{Edit, leaves, adds, deletes, Table, editsOf}
 use Rattle.snapshot.specs.Entries.{Entry, addedAt, deletedAt, goneAt, shownAt, shownBy, shown, byIds}
@@ -16,7 +17,6 @@ use Rattle.version_state.specs.State.{State, pairsAt, vectorsAt}
 use Rattle.version_state.specs.Sets.{Sets, sets, unlocked}
 use Rattle.version_state.proofs.Facts.{Ordered}
 use Rattle.operations.specs.Effect.{edited, marked, asEntry, applied}
-use Rattle.replay.proofs.Light.{keep-put, keep-changed}
 use Rattle.replay.proofs.Maps.{map-put, map-without}
 
 -- the sets at an epoch

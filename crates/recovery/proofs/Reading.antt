@@ -13,8 +13,7 @@ use Rattle.lists.proofs.Tests.{by-cases, clash}
 use Rattle.manifest.specs.Operations.{Operation, Line, begin, end, operation}
 use Rattle.manifest.specs.Lines.{lineOf}
 use Rattle.version_state.specs.State.{State}
-use Rattle.operations.specs.Effect.{applied}
-use Rattle.recovery.specs.Holds.{appliedAll}
+use Rattle.operations.specs.Effect.{applied, appliedAll}
 use Rattle.replay.specs.Replay.{Frame, none, opened, Carried, carried, reopened, conflicts, framed, settled, overLimit, lineRead, linesRead, finished}
 
 -- what lines say, one after another
@@ -52,7 +51,7 @@ abbrev pub conflictFree : List Operation → State → Bool
 conflictFree [] s = true
 conflictFree (o ∷ os) s = cond (conflicts o s) false (conflictFree os (applied reopened o s))
 
-framed-all : (n : ℕ) (os : List Operation) (s : State) → conflictFree os s ≡ true → framed n os s ≡ given (appliedAll os s)
+framed-all : (n : ℕ) (os : List Operation) (s : State) → conflictFree os s ≡ true → framed n os s ≡ given (appliedAll reopened os s)
 framed-all n [] s h = refl
 framed-all n (o ∷ os) s h =
     by-cases (conflicts o s)
@@ -69,8 +68,8 @@ ops-noted (o ∷ os) done s m n h =
     rw (lt-leb mostOperations (length done) few) (ops-noted os (done ++ (o ∷ [])) s m (n + 1) more ∙ rw (append-assoc, k))
 
 -- (2) a whole append; its `B` drops what an open frame held
-pub whole-append : (os : List Operation) (s : State) (f : Frame) (n : ℕ) → length os ≤ mostOperations → conflictFree os s ≡ true → overLimit (settled (appliedAll os s)) ≡ false
-    → saidRead (begin ∷ (map operation os ++ (end ∷ []))) (carried s f n) ≡ given (carried (settled (appliedAll os s)) none (n + 1 + length os + 1))
+pub whole-append : (os : List Operation) (s : State) (f : Frame) (n : ℕ) → length os ≤ mostOperations → conflictFree os s ≡ true → overLimit (settled (appliedAll reopened os s)) ≡ false
+    → saidRead (begin ∷ (map operation os ++ (end ∷ []))) (carried s f n) ≡ given (carried (settled (appliedAll reopened os s)) none (n + 1 + length os + 1))
 whole-append os s f n h c o =
     said-append (map operation os) (end ∷ []) (carried s (opened (n + 1) []) (n + 1))
     ∙ ap (λ (x : Result Carried). andThen x (saidRead (end ∷ []))) (ops-noted os [] s (n + 1) (n + 1) (omega arith))

@@ -1,7 +1,7 @@
 -- The manifest that goes with a state. Assumes nothing.
 use mathlib.Core.Path.{_≡_}
 use mathlib.Core.Bool.{false}
-use mathlib.Core.List.{List, [], _∷_, _++_}
+use mathlib.Core.List.{List, [], _++_}
 use Prim.Native.Nat.{ℕ, _≤_}
 use lib.ListN.{length}
 use Rattle.ids.specs.Results.{given}
@@ -11,7 +11,7 @@ use Rattle.version_state.specs.declared.VersionManagerInner.{VersionManagerInne
 use Rattle.version_state.specs.State.{State, start, stateOf, Hands}
 use Rattle.version_state.specs.Sets.{setsOf}
 use Rattle.version_state.specs.Sound.{badInner}
-use Rattle.operations.specs.Effect.{applied}
+use Rattle.operations.specs.Effect.{appliedAll}
 use Rattle.commit.specs.Commit.{appendOf, commitOf}
 use Rattle.rewrite.specs.Rewritten.{rewrittenOf}
 use Rattle.replay.specs.Replay.{Frame, carried, reopened, atStart, settled, linesRead, tableless, withoutOrphans, replayOf}
@@ -25,14 +25,9 @@ pub record Holds (src : List ℕ) (s : State) : Type 0 where
   pub tables : tableless s ≡ false
   pub rowsets : withoutOrphans s ≡ s
 
--- operations in order, as a replay applies them
-abbrev pub appliedAll : List Operation → State → State
-appliedAll [] s = s
-appliedAll (o ∷ os) s = appliedAll os (applied reopened o s)
-
 -- a replayed state, followed by the operations of a frame
 abbrev pub followed : List Operation → State → State
-followed os s = settled (appliedAll os s)
+followed os s = settled (appliedAll reopened os s)
 
 -- A manifest that the port wrote: none yet, or one that a reopen wrote anew, and after it the bytes that accepted commits hand out for
 -- appending. Between commits a call may hand out any manager that shows the same.

@@ -43,8 +43,8 @@ fn next_change(next: NextIds) -> Change
     }
 }
 
-// `T`.
-fn create_change(table: u32, shape: u32, name: Name) -> Change
+// `T`. Internal, as is what follows.
+pub fn create_change(table: u32, shape: u32, name: Name) -> Change
     ensures { λ r. ⌜ (operationOf r ≡ createTable table shape (nameOf name)) × (length (textsOf (operationOf r ∷ [])) ≤ longestCreate) ⌝ }
 {
     Change {

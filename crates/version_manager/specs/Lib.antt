@@ -3,8 +3,12 @@ pub mod Managers
 pub mod Draw
 pub mod Group
 pub mod Commit
+pub mod Made
+pub mod Create
+pub mod Drop
 pub mod Vacuum
 pub mod Show
 pub mod Lock
 pub mod Select
 pub mod Laws
+pub mod TableLaws

@@ -6,6 +6,7 @@ use ids::VectorNo;
 use ids::limits::LARGEST_32;
 use ids::limits::LARGEST_64;
 use ids::limits::MOST_OPERATIONS;
+use ids::name::Name;
 use ids::refusal::Refusal;
 use ids::refusal::Verdict;
 use manifest::operation::Batch;
@@ -20,17 +21,21 @@ use version_state::Held;
 use version_state::VersionManagerInner;
 ghost use mathlib.Core.Path.{_≡_};
 ghost use lib.ListN.{length};
+ghost use Rattle.ids.specs.Names.{nameOf};
 ghost use Rattle.manifest.specs.Operations.{batchOf};
 ghost use Rattle.commit.specs.Lent.{operationsIn};
 ghost use Rattle.version_manager.specs.Managers.{badManager, FreshSays};
 ghost use Rattle.version_manager.specs.Draw.{DrawRowsetSays, DrawVectorSays};
 ghost use Rattle.version_manager.specs.Group.{GroupSays};
 ghost use Rattle.version_manager.specs.Commit.{CommitSays};
+ghost use Rattle.version_manager.specs.Create.{CreateSays};
+ghost use Rattle.version_manager.specs.Drop.{DropSays};
 ghost use Rattle.version_manager.specs.Vacuum.{VacuumSays};
 ghost use Rattle.version_manager.specs.Show.{ShowTablesSays, ShowPairsSays, ShowVectorsSays};
 ghost use Rattle.version_manager.specs.Lock.{RelockSays, LockSays, UnlockSays};
 ghost use Rattle.version_manager.specs.Select.{SelectSays};
 ghost use Rattle.version_manager.specs.Laws.{DrawLaws};
+ghost use Rattle.version_manager.specs.TableLaws.{TableLaws};
 
 #[repr(C)]
 pub struct VersionManager {
@@ -86,6 +91,17 @@ pub struct Committed {
     pub answer: CommitAnswer,
 }
 
+pub enum CreateAnswer {
+    // The new table's id, the new epoch, and how many bytes there are to append.
+    Table(TableNo, u32, usize),
+    Refused(Refusal),
+}
+
+pub struct Created {
+    pub manager: VersionManager,
+    pub answer: CreateAnswer,
+}
+
 pub enum VacuumAnswer {
     // How many deletions are listed.
     Listed(usize),
@@ -110,9 +126,9 @@ pub fn handed(inner: VersionManagerInner) -> VersionManager
     VersionManager { inner }
 }
 
-// What fresh, draw and group hand out passes 29.
+// What fresh, draw, group, create and drop hand out passes 29.
 pub fn holds()
-    ensures { λ _. ⌜ DrawLaws ⌝ }
+    ensures { λ _. ⌜ DrawLaws × TableLaws ⌝ }
 {}
 
 impl VersionManager {
@@ -492,5 +508,68 @@ impl VersionManager {
         }
         let inner = self.inner;
         compactor::select(inner, table, target, sizes, out)
+    }
+
+    // A table with the next id: judged first, and then committed as one line.
+    pub fn create(self, shape: u32, name: Name, out: &mut [u8]) -> Created
+        ensures { λ r. ⌜ CreateSays self shape (nameOf name) (now (out .entry)) r (now (out .exit)) ⌝ }
+    {
+        if self.bad() {
+            return Created {
+                manager: self,
+                answer: CreateAnswer::Refused(Refusal::BadManager),
+            };
+        }
+        let inner = self.inner;
+        let id = inner.next.table;
+        let room = out.len();
+        let mut lines = commit::typed::buffer();
+        let made = table::create(inner, shape, name, room, &mut lines);
+        let verdict = made.verdict;
+        if let Verdict::Refused(refusal) = verdict {
+            return Created {
+                manager: self,
+                answer: CreateAnswer::Refused(refusal),
+            };
+        }
+        let n = made.length;
+        let done = self.commit_lines(&lines[..n], out);
+        let manager = done.manager;
+        let answer = done.answer;
+        match answer {
+            CommitAnswer::Appended(epoch, length) => Created {
+                manager,
+                answer: CreateAnswer::Table(id, epoch, length),
+            },
+            CommitAnswer::Refused(refusal) => Created {
+                manager,
+                answer: CreateAnswer::Refused(refusal),
+            },
+        }
+    }
+
+    // The table, and all its vectors and rowsets, deleted by one commit; it answers as that does.
+    pub fn drop(self, table: TableNo, out: &mut [u8]) -> Committed
+        ensures { λ r. ⌜ DropSays self (table .0) (now (out .entry)) r (now (out .exit)) ⌝ }
+    {
+        if self.bad() {
+            return Committed {
+                manager: self,
+                answer: CommitAnswer::Refused(Refusal::BadManager),
+            };
+        }
+        let inner = self.inner;
+        let room = out.len();
+        let mut lines = commit::typed::buffer();
+        let made = table::drop(inner, table, room, &mut lines);
+        let verdict = made.verdict;
+        if let Verdict::Refused(refusal) = verdict {
+            return Committed {
+                manager: self,
+                answer: CommitAnswer::Refused(refusal),
+            };
+        }
+        let n = made.length;
+        self.commit_lines(&lines[..n], out)
     }
 }
