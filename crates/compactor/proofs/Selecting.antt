@@ -4,7 +4,7 @@ use mathlib.Core.Bool.{Bool, true, false, cond, not, _&&_}
 use mathlib.Core.List.{List, [], _∷_, map}
 use Prim.Native.Nat.{ℕ, _+_, _≤_, _<_}
 use native.Mathlib.Omega.{arith}
-use lib.Dec.{leb, ltb, eqb}
+use lib.Dec.{leb, eqb}
 use lib.ListN.{length, getD, length-map}
 use borrow.Author.Tests.{eq-eqb, ne-eqb, lt-ltb, le-ltb}
 use Rattle.lists.specs.Keyed.{keep, has}
@@ -16,8 +16,7 @@ use Rattle.ids.specs.Limits.{mostHeld}
 use Rattle.ids.specs.declared.refusal.Refusal.{Refusal}
 use Rattle.ids.specs.declared.refusal.Refusal.the-variants.{Malformed, WrongCount, OutputTooShort, TableNotLive}
 use Rattle.ids.specs.declared.refusal.Verdict.the-variants.{Accepted, Refused}
-use Rattle.ids.specs.Verdicts.{_⇒_, judged}
-use Rattle.ids.proofs.Verdicts.{judged-none, refused-at}
+use Rattle.ids.specs.Verdicts.{judged}
 use Rattle.columns.specs.Rows.{rows, column, across, plain}
 use Rattle.columns.proofs.Rows.{rows-length}
 use Rattle.snapshot.specs.Entries.{Entry, shownAt, shownBy, entryAt}

@@ -1,16 +1,14 @@
 -- Places taken by their sizes, one after another. Assumes nothing.
-use mathlib.Core.Path.{_≡_, refl, sym, ap, ap₂, _∙_}
-use mathlib.Core.Bool.{Bool, true, false}
+use mathlib.Core.Path.{_≡_, refl, sym, ap, _∙_}
 use mathlib.Core.List.{List, [], _∷_, _++_, map, append-nil}
 use Prim.Native.Nat.{ℕ, zero, suc, _+_, _-_, _≤_, _<_}
 use native.Mathlib.Omega.{arith}
 use native.Mathlib.Nat.{not-suc-le-zero, le-of-suc-le-suc}
 use native.Mathlib.Numerals.{add-one}
-use lib.Dec.{leb}
-use lib.ListN.{length, getD, take, drop, set, length-set, length-map}
+use lib.ListN.{length, getD, take, drop, set, length-set}
 use lib.Seq.{take-suc-set, append-snoc, getD-set-same, getD-set-other}
 use borrow.Author.Tests.{le-leb, lt-leb}
-use Rattle.lists.proofs.Tests.{by-cases, tri}
+use Rattle.lists.proofs.Tests.{tri}
 use Rattle.ids.specs.Limits.{mostHeld}
 use Rattle.columns.specs.Rows.{rows, column}
 use Rattle.columns.proofs.Rows.{rows-length, rows-at, rows-are, rows-seen, rows-end, rows-column}

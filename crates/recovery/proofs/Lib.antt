@@ -11,3 +11,4 @@ pub mod SoundReading
 pub mod Sound
 pub mod AgainBuilt
 pub mod Again
+pub mod Locks

@@ -12,6 +12,7 @@ use Rattle.version_state.specs.declared.VersionManagerInner.{VersionManagerInne
 use Rattle.version_state.specs.State.{State, start, withEpoch, stateOf, Hands}
 use Rattle.version_state.specs.Sound.{badInner}
 use Rattle.commit.specs.Commit.{appendOf, commitOf}
+use Rattle.transaction_manager.specs.Locks.{isLocked}
 use Rattle.rewrite.specs.Rewritten.{rewrittenOf, longestRewritten}
 use Rattle.replay.specs.Replay.{reopened, replayOf}
 use Rattle.recovery.specs.Sets.{setsOf}
@@ -41,3 +42,5 @@ pub record ReopenLaws : Type 0 where
   -- the rewritten manifest has its room, and holds the same state
   pub room : (src : List ℕ) (s : State) → replayOf src ≡ given s → length (rewrittenOf s) ≤ longestRewritten
   pub again : (src : List ℕ) (s : State) → replayOf src ≡ given s → Holds (rewrittenOf s) s
+  -- every lock is free
+  pub locks : (src : List ℕ) (s : State) (t : ℕ) → replayOf src ≡ given s → isLocked t s ≡ false

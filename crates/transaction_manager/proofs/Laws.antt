@@ -6,9 +6,8 @@ use Prim.Native.Nat.{ℕ, _≤_}
 use lib.Dec.{ltb}
 use lib.ListN.{take}
 use borrow.Author.Tests.{not-true}
-use Rattle.lists.specs.Order.{same}
-use Rattle.lists.specs.Keyed.{keep, allOf, anyOf, has, isAt, changed, without}
-use Rattle.lists.proofs.Tests.{by-cases, clash, both, neither}
+use Rattle.lists.specs.Keyed.{keep, allOf, anyOf, has, isAt, without}
+use Rattle.lists.proofs.Tests.{by-cases, clash, neither}
 use Rattle.lists.proofs.Keyed.{all-map, kept-all, none-anyOf, ascend-to, ascend-from, ascending-changed}
 use Rattle.ids.specs.Limits.{longestManifest}
 use Rattle.ids.specs.declared.refusal.Verdict.the-variants.{Accepted}

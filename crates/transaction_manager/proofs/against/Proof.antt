@@ -1,5 +1,4 @@
 -- `transaction_manager::against` meets its contract. Assumes nothing.
-use Rattle.lists.proofs.Places.{known}
 use Rattle.transaction_manager.proofs.against.Statement.{statement}
 use Rattle.transaction_manager.proofs.against.Tie as tie
 

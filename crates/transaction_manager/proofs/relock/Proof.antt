@@ -3,7 +3,7 @@ use mathlib.Core.Path.{_≡_, ap, _∙_}
 use mathlib.Core.List.{List}
 use lib.ListN.{length}
 use Rattle.ids.specs.Limits.{mostTables}
-use Rattle.lists.proofs.Places.{known, length-mapped}
+use Rattle.lists.proofs.Places.{length-mapped}
 use Rattle.snapshot.specs.Tables.{TableEntry}
 use Rattle.version_state.specs.State.{stateOf, withTables}
 use Rattle.version_state.proofs.Facts.{sound-of}
