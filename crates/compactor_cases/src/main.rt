@@ -3,7 +3,6 @@
 // manifest's letters. `!` takes or gives back a lock or selects, and prints the answer with what then stands.
 use bench::Bench;
 use libc::STDIN_FILENO;
-ghost use Prim.Native.Nat.{_≤_};
 
 mod bench;
 mod calls;

@@ -12,3 +12,4 @@ pub mod SoundSets
 pub mod Sound
 pub mod AgainBuilt
 pub mod Again
+pub mod Locks

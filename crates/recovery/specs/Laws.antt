@@ -14,6 +14,7 @@ use Rattle.ids.specs.Ids.{Next}
 use Rattle.version_state.specs.Sets.{Sets, setsOf, nextOf}
 use Rattle.version_state.specs.Sound.{badInner}
 use Rattle.commit.specs.Commit.{appendOf, commitOf}
+use Rattle.transaction_manager.specs.Locks.{isLocked}
 use Rattle.rewrite.specs.Rewritten.{writtenOf, rewrittenOf, longestRewritten}
 use Rattle.replay.specs.Replay.{reopened, replayOf}
 use Rattle.recovery.specs.Rewritable.{Rewritable, Widths, madeOf, namesDiffer}
@@ -55,3 +56,5 @@ pub record ReopenLaws : Type 0 where
   pub rewritable : (src : List ℕ) (s : State) → replayOf src ≡ given s → Rewritable (nextOf s) (setsOf s)
   pub room : (src : List ℕ) (s : State) → replayOf src ≡ given s → length (rewrittenOf s) ≤ longestRewritten
   pub again : (src : List ℕ) (s : State) → replayOf src ≡ given s → Holds (rewrittenOf s) s
+  -- every lock is free
+  pub locks : (src : List ℕ) (s : State) (t : ℕ) → replayOf src ≡ given s → isLocked t s ≡ false

@@ -3,6 +3,7 @@ use mathlib.Core.Path.{refl}
 use Rattle.recovery.proofs.Appending.{empty-holds, holds-replayed, torn-replayed, whole-appended, made-replayed, rewritten-replayed}
 use Rattle.recovery.proofs.Sound.{replay-sound}
 use Rattle.recovery.proofs.Again.{made-same, rewritten-holds, rewritten-room, manager-rewritable, replay-rewritable, replay-room, replay-again}
+use Rattle.recovery.proofs.Locks.{replay-locks}
 use Rattle.recovery.proofs.holds.Statement.{statement}
 use Rattle.recovery.proofs.holds.Tie as tie
 
@@ -10,7 +11,7 @@ returns : tie.Need-returns
 returns c = (
   record { empty = empty-holds; replayed = holds-replayed; whole = whole-appended; torn = torn-replayed; made = made-replayed },
   record { room = rewritten-room; holds = rewritten-holds; replayed = rewritten-replayed; same = λ s. (refl, made-same s); manager = manager-rewritable },
-  record { sound = replay-sound; rewritable = replay-rewritable; room = replay-room; again = replay-again },
+  record { sound = replay-sound; rewritable = replay-rewritable; room = replay-room; again = replay-again; locks = replay-locks },
 )
 
 pub holds-spec : {M : Type 1} → statement M
