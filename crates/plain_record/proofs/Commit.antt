@@ -8,7 +8,7 @@ use lib.ListN.{length, take, length-append}
 use lib.Seq.{take-all}
 use Rattle.lists.specs.Keyed.{allOf}
 use Rattle.lists.specs.Written.{over}
-use Rattle.ids.specs.Answers.{Told}
+use Rattle.ids.specs.Answers.{Told, told, after}
 use Rattle.ids.specs.Results.{Result, refused, given}
 use Rattle.manifest.specs.Operations.{Operation}
 use Rattle.frames.specs.Frames.{frameOf}
@@ -16,17 +16,26 @@ use Rattle.version_state.specs.State.{State, pairsAt, vectorsAt}
 use Rattle.pins.specs.Guards.{guardsOf, bound}
 use Rattle.pins.proofs.Bound.{bound-le, bound-rises}
 use Rattle.pins.proofs.Books.{book-later}
-use Rattle.commit.specs.Commit.{commitOf}
+use Rattle.commit.specs.Commit.{commitOf, appendOf}
 use Rattle.commit.proofs.Sounds.{commit-sound}
 use Rattle.commit.proofs.Older.{older-pairs, older-vectors}
 use Rattle.version_manager.specs.declared.VersionManager.{VersionManager}
 use Rattle.version_manager.specs.declared.Committed.{Committed}
-use Rattle.version_manager.specs.Managers.{heldBy, badManager, Manages}
+use Rattle.version_manager.specs.Managers.{heldBy, HandsBack, badManager, Manages}
 use Rattle.version_manager.specs.Commit.{outcomeOf, commitTold, CommitEnds}
+use Rattle.ids.specs.declared.refusal.Verdict.{Verdict}
+use Rattle.ids.specs.declared.refusal.Verdict.the-variants.{Accepted, Refused}
+use Rattle.table.specs.Made.{committed, createOperations, dropOperations}
+use Rattle.table.specs.Create.{createdBy}
+use Rattle.table.specs.Drop.{droppedBy}
+use Rattle.table.specs.Laws.{Accepts}
+use Rattle.table.proofs.Laws.{made-laws}
+use Rattle.version_manager.specs.Create.{createVerdict}
+use Rattle.version_manager.specs.Drop.{dropVerdict}
 use Rattle.plain_record.specs.Sets.{Sets, applyAll}
 use Rattle.plain_record.specs.Calls.{asCommit}
 use Rattle.plain_record.specs.Plain.{byEpochAndPair, deletions, await, setsAt, counted, idsOf, Record, counts, turn}
-use Rattle.plain_record.specs.Run.{port, World, world, isAccepted, value, afterCommit, DidCommit}
+use Rattle.plain_record.specs.Run.{port, World, world, isAccepted, value, afterCommit, DidCommit, DidCreate, DidDrop}
 use Rattle.plain_record.specs.Claim.{waitingIn, waitingOf, belowNext}
 use Rattle.plain_record.proofs.Invariant.{plainSets, Inv}
 use Rattle.plain_record.proofs.Refused.{refused-number}
@@ -118,20 +127,29 @@ module _ (w : World) (r : Record) (i : Inv w r) (z : ℕ) (os : List Operation) 
         torn = torn-after (w .file) p m (n .inner) z os room s (i .sound) few h k (r .place) (i .file) missing (now-at w r i (m .epoch) (omega arith)) plain-after;
       }
 
--- A call that counts as a commit: it hands on the manager n and leaves its buffer as lent. Its answer's values are the id, at which the
--- operations may look, and the append's length.
-module _ (w : World) (r : Record) (i : Inv w r) (made : ℕ → Sets → List Operation) (missing : ℕ) (t : Told) (n : VersionManager) (lent : List ℕ) where
-  pub accepted-kept : (z : ℕ) (os : List Operation) (out : List ℕ) (s : State) → isAccepted t ≡ true → value 1 t ≡ length (frameOf os) → made (value 0 t) (r .whole .now) ≡ os
+-- A call that counts as a commit: it hands on the manager n and leaves its buffer as lent. It answers the id, at which the operations
+-- may look, and the length b of the append.
+module _ (w : World) (r : Record) (i : Inv w r) (made : ℕ → Sets → List Operation) (missing : ℕ) (t : Told) (b : ℕ) (n : VersionManager) (lent : List ℕ) where
+  pub accepted-kept : (z : ℕ) (os : List Operation) (out : List ℕ) (s : State) → isAccepted t ≡ true → b ≡ length (frameOf os) → made (value 0 t) (r .whole .now) ≡ os
       → length os ≤ z → commitOf (heldBy (w .manager)) z os (length out) ≡ given s → Manages n s → lent ≡ over (frameOf os) out
-      → Inv (afterCommit n t lent missing w) (turn (asCommit made missing) (isAccepted t) (value 0 t) r)
-  accepted-kept z os out s a b c few h k q =
+      → Inv (afterCommit n t b lent missing w) (turn (asCommit made missing) (isAccepted t) (value 0 t) r)
+  accepted-kept z os out s a e c few h k q =
       let f = frameOf os in
       let x : take (length f) lent ≡ f = ap (take (length f)) q ∙ append-taken f out (length f) (omega arith) ∙ take-all (length f) f (omega arith) in
       let y : take (length f - missing) lent ≡ take (length f - missing) f = ap (take (length f - missing)) q ∙ append-taken f out (length f - missing) (omega arith) in
-      rw (a, b, c, x, y) (commit-inv w r i z os few (length out) n s h k missing)
+      rw (a, e, c, x, y) (commit-inv w r i z os few (length out) n s h k missing)
 
-  pub refused-kept : isAccepted t ≡ false → n ≡ w .manager → Inv (afterCommit n t lent missing w) (turn (asCommit made missing) (isAccepted t) (value 0 t) r)
+  pub refused-kept : isAccepted t ≡ false → n ≡ w .manager → Inv (afterCommit n t b lent missing w) (turn (asCommit made missing) (isAccepted t) (value 0 t) r)
   refused-kept a q = rw a (inv-stays w (world n (w .book) (w .file) (w .torn)) r (r .place + 1) q refl refl refl i)
+
+  -- one that is judged by rules of its own, and that the commit accepts where these pass
+  pub made-kept : (x : Verdict) (os : List Operation) (vs out : List ℕ) → t ≡ told x vs → HandsBack x (w .manager) (committed os (heldBy (w .manager))) n → lent ≡ after x (over (appendOf os) out) out
+      → (x ≡ Accepted → (b ≡ length (appendOf os)) × (made (value 0 t) (r .whole .now) ≡ os) × Accepts (heldBy (w .manager)) os (length out))
+      → Inv (afterCommit n t b lent missing w) (turn (asCommit made missing) (isAccepted t) (value 0 t) r)
+  made-kept Accepted os vs out e k q h =
+      let y = h refl in
+      accepted-kept (length os) os out (committed os (heldBy (w .manager))) (ap isAccepted e) (y .0) (y .1) (omega arith) (y .2) k q
+  made-kept (Refused j) os vs out e k q h = refused-kept (ap isAccepted e ∙ refused-number j) k
 
 -- A commit.
 module _ (w : World) (t : Told) (l : List (List ℕ)) (v : World) (os : List Operation) (out : List ℕ) (missing : ℕ) (r : Record) (i : Inv w r) where
@@ -143,14 +161,42 @@ module _ (w : World) (t : Told) (l : List (List ℕ)) (v : World) (os : List Ope
   outcome-is z = rw (i .sound)
 
   outcome-inv : (z : ℕ) (c : Committed) (lent : List ℕ) (x : Result State) → length os ≤ z → commitOf (heldBy (w .manager)) z os (length out) ≡ x → CommitEnds x (w .manager) os out c lent
-      → t ≡ commitTold (c .answer) → Inv (afterCommit (c .manager) t lent missing w) (turn (asCommit made missing) (isAccepted t) (value 0 t) r)
+      → t ≡ commitTold (c .answer) → Inv (afterCommit (c .manager) t (value 1 t) lent missing w) (turn (asCommit made missing) (isAccepted t) (value 0 t) r)
   outcome-inv z c lent (given s) few h k e =
       let q = e ∙ k .0 in
-      accepted-kept w r i made missing t (c .manager) lent z os out s (ap isAccepted q) (ap (value 1) q) refl few h (k .1) (k .2)
+      accepted-kept w r i made missing t (value 1 t) (c .manager) lent z os out s (ap isAccepted q) (ap (value 1) q) refl few h (k .1) (k .2)
   outcome-inv z c lent (refused j) few h k e =
-      refused-kept w r i made missing t (c .manager) lent (ap isAccepted (e ∙ k .0) ∙ refused-number j) (k .1)
+      refused-kept w r i made missing t (value 1 t) (c .manager) lent (ap isAccepted (e ∙ k .0) ∙ refused-number j) (k .1)
 
   pub commit-keeps : DidCommit port w t l v os out missing → Inv v (turn (asCommit made missing) (isAccepted t) (value 0 t) r)
   commit-keeps d =
       let says = subst (λ (x : Result State). CommitEnds x (w .manager) os out (d .result) (d .left)) (outcome-is (d .count)) (d .says) in
       rw (d .after) (outcome-inv (d .count) (d .result) (d .left) (commitOf (heldBy (w .manager)) (d .count) os (length out)) (d .counted) refl says (d .told))
+
+-- A create.
+module _ (w : World) (t : Told) (l : List (List ℕ)) (v : World) (shape : ℕ) (name out : List ℕ) (missing : ℕ) (r : Record) (i : Inv w r) where
+  pub create-keeps : DidCreate port w t l v shape name out missing → Inv v (turn (asCommit (λ id s. createOperations id shape name) missing) (isAccepted t) (value 0 t) r)
+  create-keeps d =
+      let s = heldBy (w .manager) in
+      let os = createdBy s shape name in
+      let vs = s .nextTable ∷ (s .epoch + 1) ∷ length (appendOf os) ∷ [] in
+      let x = createVerdict (w .manager) shape name (length out) in
+      let e : t ≡ told x vs = d .told ∙ d .says .answer in
+      rw (d .after)
+      (made-kept w r i (λ id z. createOperations id shape name) missing t (value 2 t) (d .result .manager) (d .left) x os vs out e (d .says .manager) (d .says .bytes)
+      (λ a. let q : t ≡ told Accepted vs = e ∙ ap (λ (y : Verdict). told y vs) a in
+      (ap (value 2) q, ap (λ (y : Told). createOperations (value 0 y) shape name) q, made-laws .create (w .manager .inner) shape name (length out) (i .sound) (d .narrow) (rw (i .sound) at a))))
+
+-- A drop.
+module _ (w : World) (t : Told) (l : List (List ℕ)) (v : World) (n : ℕ) (out : List ℕ) (missing : ℕ) (r : Record) (i : Inv w r) where
+  pub drop-keeps : DidDrop port w t l v n out missing → Inv v (turn (asCommit (λ id s. dropOperations n (s .pairs) (s .vectors)) missing) (isAccepted t) (value 0 t) r)
+  drop-keeps d =
+      let s = heldBy (w .manager) in
+      let os = droppedBy s n in
+      let vs = (s .epoch + 1) ∷ length (appendOf os) ∷ [] in
+      let x = dropVerdict (w .manager) n (length out) in
+      let e : t ≡ told x vs = d .told ∙ d .says .answer in
+      rw (d .after)
+      (made-kept w r i (λ id z. dropOperations n (z .pairs) (z .vectors)) missing t (value 1 t) (d .result .manager) (d .left) x os vs out e (d .says .manager) (d .says .bytes)
+      (λ a. let q : t ≡ told Accepted vs = e ∙ ap (λ (y : Verdict). told y vs) a in
+      (ap (value 1) q, ap (λ (z : Sets). dropOperations n (z .pairs) (z .vectors)) (sym (now-at w r i (w .manager .inner .epoch) (omega arith))), made-laws .drop (w .manager .inner) n (length out) (i .sound) (d .narrow) (rw (i .sound) at a))))

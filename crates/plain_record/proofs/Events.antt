@@ -158,7 +158,7 @@ commits w os m e n out missing =
       call = commit os out missing;
       told = telling (e ∷ n ∷ []);
       listed = [];
-      after = afterCommit m (telling (e ∷ n ∷ [])) out missing w;
+      after = afterCommit m (telling (e ∷ n ∷ [])) n out missing w;
     }
 
 abbrev pub pins : World → ℕ → PinBook → Event
@@ -193,7 +193,7 @@ refusing k = told (Refused k) []
 
 abbrev pub commitRefused : World → List Operation → VersionManager → Refusal → Event
 commitRefused w os m k =
-    record { before = w; call = commit os [] 0; told = refusing k; listed = []; after = afterCommit m (refusing k) [] 0 w }
+    record { before = w; call = commit os [] 0; told = refusing k; listed = []; after = afterCommit m (refusing k) 0 [] 0 w }
 
 abbrev pub pinRefused : World → Refusal → PinBook → Event
 pinRefused w k b = record { before = w; call = pin; told = refusing k; listed = []; after = onward (w .manager) b (refusing k) w }

@@ -5,6 +5,7 @@ use mathlib.Core.List.{List, [], _∷_, _++_}
 use Prim.Native.Nat.{ℕ, _-_, _≤_}
 use lib.Dec.{eqb}
 use lib.ListN.{length, getD, take}
+use Rattle.ids.specs.Ids.{largest32}
 use Rattle.ids.specs.declared.TableNo.{TableNo}
 use Rattle.ids.specs.Answers.{Told}
 use Rattle.ids.specs.Answers as answers
@@ -12,6 +13,7 @@ use Rattle.manifest.specs.Operations.{Operation, batchOf}
 use Rattle.manifest.specs.declared.operation.Batch.{Batch}
 use Rattle.pins.specs.declared.PinBook.{PinBook}
 use Rattle.show.specs.declared.ShowAnswer.{ShowAnswer}
+use Rattle.table.specs.Laws.{Narrow}
 use Rattle.version_manager.specs.declared.VersionManager.{VersionManager}
 use Rattle.version_manager.specs.declared.Opened.{Opened}
 use Rattle.version_manager.specs.declared.DrawnRowset.{DrawnRowset}
@@ -20,12 +22,15 @@ use Rattle.transaction.specs.declared.Handles.{Handles}
 use Rattle.version_manager.specs.declared.Grouped.{Grouped}
 use Rattle.version_manager.specs.declared.Locked.{Locked}
 use Rattle.version_manager.specs.declared.Committed.{Committed}
+use Rattle.version_manager.specs.declared.Created.{Created}
 use Rattle.version_manager.specs.declared.Vacuumed.{Vacuumed}
-use Rattle.version_manager.specs.Managers.{FreshSays}
+use Rattle.version_manager.specs.Managers.{heldBy, FreshSays}
 use Rattle.version_manager.specs.Draw.{rowsetTold, vectorTold, DrawRowsetSays, DrawVectorSays}
 use Rattle.version_manager.specs.Group.{groupTold, GroupSays}
 use Rattle.version_manager.specs.Lock.{LockSays, UnlockSays}
 use Rattle.version_manager.specs.Commit.{commitTold, CommitSays}
+use Rattle.version_manager.specs.Create.{createTold, CreateSays}
+use Rattle.version_manager.specs.Drop.{DropSays}
 use Rattle.version_manager.specs.Vacuum.{vacuumTold, VacuumSays}
 use Rattle.version_manager.specs.Show.{ShowTablesSays, ShowPairsSays, ShowVectorsSays}
 use Rattle.pinning.specs.declared.PinAnswer.{PinAnswer}
@@ -33,7 +38,7 @@ use Rattle.pinning.specs.declared.UnpinAnswer.{UnpinAnswer}
 use Rattle.pinning.specs.Says.{pinTold, unpinTold, PinSays, UnpinSays}
 use Rattle.storage.specs.declared.Reopened.{Reopened}
 use Rattle.storage.specs.Reopen.{reopenTold, ReopenSays}
-use Rattle.plain_record.specs.Calls.{Call, drawRowset, drawVector, group, lock, unlock, commit, pin, unpin, vacuum, reopen}
+use Rattle.plain_record.specs.Calls.{Call, drawRowset, drawVector, group, lock, unlock, commit, create, drop, pin, unpin, vacuum, reopen}
 
 -- what each entry point may return and leave
 pub record Steps : Type 1 where
@@ -44,6 +49,8 @@ pub record Steps : Type 1 where
   pub lock : VersionManager → TableNo → Locked → Type 0
   pub unlock : VersionManager → TableNo → Locked → Type 0
   pub commit : VersionManager → ℕ → List Operation → List ℕ → Committed → List ℕ → Type 0
+  pub create : VersionManager → ℕ → List ℕ → List ℕ → Created → List ℕ → Type 0
+  pub drop : VersionManager → ℕ → List ℕ → Committed → List ℕ → Type 0
   pub pin : VersionManager → PinBook → PinAnswer → PinBook → Type 0
   pub unpin : VersionManager → ℕ → PinBook → UnpinAnswer → PinBook → Type 0
   pub vacuum : VersionManager → PinBook → List ℕ → List ℕ → Vacuumed → List ℕ → List ℕ → Type 0
@@ -63,6 +70,8 @@ port =
       lock = LockSays;
       unlock = UnlockSays;
       commit = CommitSays;
+      create = CreateSays;
+      drop = DropSays;
       pin = PinSays;
       unpin = UnpinSays;
       vacuum = VacuumSays;
@@ -101,10 +110,10 @@ value n t = getD (t .values) n 0
 abbrev pub onward : VersionManager → PinBook → Told → World → World
 onward m b t w = world m b (w .file) (cond (isAccepted t) (w .file) (w .torn))
 
--- the append of a commit, of which the last bytes may be missing: how many bytes it has is the answer's second value
-abbrev pub afterCommit : VersionManager → Told → List ℕ → ℕ → World → World
-afterCommit m t out missing w =
-    world m (w .book) (cond (isAccepted t) (w .file ++ take (value 1 t) out) (w .file)) (cond (isAccepted t) (w .file ++ take (value 1 t - missing) out) (w .torn))
+-- the append of a commit, of n bytes, of which the last ones may be missing
+abbrev pub afterCommit : VersionManager → Told → ℕ → List ℕ → ℕ → World → World
+afterCommit m t n out missing w =
+    world m (w .book) (cond (isAccepted t) (w .file ++ take n out) (w .file)) (cond (isAccepted t) (w .file ++ take (n - missing) out) (w .torn))
 
 -- a rewritten manifest replaces the old one whole; only where the next accepted call is a reopen may the old one still stand
 abbrev pub replaced : VersionManager → PinBook → List ℕ → List ℕ → Bool → World
@@ -170,7 +179,26 @@ module _ (S : Steps) (w : World) (t : Told) (l : List (List ℕ)) (v : World) wh
     pub says : S .commit (w .manager) count os out result left
     pub told : t ≡ commitTold (result .answer)
     pub none : l ≡ []
-    pub after : v ≡ afterCommit (result .manager) t left missing w
+    pub after : v ≡ afterCommit (result .manager) t (value 1 t) left missing w
+
+  -- a manager's numbers are of their widths: `Narrow`, which every manager of the code has
+  pub record DidCreate (shape : ℕ) (name out : List ℕ) (missing : ℕ) : Type 0 where
+    pub narrow : shape ≤ largest32
+    pub result : Created
+    pub left : List ℕ
+    pub says : S .create (w .manager) shape name out result left
+    pub told : t ≡ createTold (result .answer)
+    pub none : l ≡ []
+    pub after : v ≡ afterCommit (result .manager) t (value 2 t) left missing w
+
+  pub record DidDrop (n : ℕ) (out : List ℕ) (missing : ℕ) : Type 0 where
+    pub narrow : Narrow (heldBy (w .manager))
+    pub result : Committed
+    pub left : List ℕ
+    pub says : S .drop (w .manager) n out result left
+    pub told : t ≡ commitTold (result .answer)
+    pub none : l ≡ []
+    pub after : v ≡ afterCommit (result .manager) t (value 1 t) left missing w
 
   pub record DidPin : Type 0 where
     pub answer : PinAnswer
@@ -213,6 +241,8 @@ module _ (S : Steps) (w : World) (t : Told) (l : List (List ℕ)) (v : World) wh
   LinkBy (lock n) = DidLock (S .lock) n
   LinkBy (unlock n) = DidLock (S .unlock) n
   LinkBy (commit os out missing) = DidCommit os out missing
+  LinkBy (create shape name out missing) = DidCreate shape name out missing
+  LinkBy (drop n out missing) = DidDrop n out missing
   LinkBy pin = DidPin
   LinkBy (unpin e) = DidUnpin e
   LinkBy (vacuum ts rs) = DidVacuum ts rs

@@ -1,5 +1,8 @@
 // The plain record, and demand 3: after every list of calls the manager agrees with it. Only the calls in `steps` are code; the
 // functions here pin what is claimed to the check.
+use version_manager::VersionManager;
+ghost use Rattle.table.specs.Laws.{Narrow};
+ghost use Rattle.version_manager.specs.Managers.{heldBy};
 ghost use Rattle.plain_record.specs.Run.{port, BatchCounted};
 ghost use Rattle.plain_record.specs.Claim.{Claim};
 ghost use Rattle.plain_record.specs.Examples.{Examples};
@@ -14,6 +17,11 @@ pub fn agrees()
 // Every typed commit is a step of the claim: its batch has no more operations than its count.
 pub fn batch_counted()
     ensures { λ _. ⌜ BatchCounted ⌝ }
+{}
+
+// What a drop's link asks of a manager, every one has: its next ids are of their widths.
+pub fn narrow(manager: VersionManager)
+    ensures { λ _. ⌜ Narrow (heldBy manager) ⌝ }
 {}
 
 // The claim is no empty one: it is false of managers that are wrong in one call.

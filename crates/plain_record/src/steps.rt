@@ -1,6 +1,7 @@
 // The claim's `port` names propositions. Each call here has one of them as its contract, so that an entry point that says less, or a
 // field that says something else, is refused by the check.
 use ids::TableNo;
+use ids::name::Name;
 use manifest::operation::Batch;
 use pinning::PinStep;
 use pinning::UnpinStep;
@@ -9,6 +10,7 @@ use show::ShowAnswer;
 use storage::Reopened;
 use transaction::Handles;
 use version_manager::Committed;
+use version_manager::Created;
 use version_manager::DrawnRowset;
 use version_manager::DrawnVector;
 use version_manager::Grouped;
@@ -17,6 +19,7 @@ use version_manager::Opened;
 use version_manager::Vacuumed;
 use version_manager::VersionManager;
 ghost use lib.ListN.{length};
+ghost use Rattle.ids.specs.Names.{nameOf};
 ghost use Rattle.manifest.specs.Operations.{batchOf};
 ghost use Rattle.commit.specs.Lent.{operationsIn};
 ghost use Rattle.plain_record.specs.Run.{port};
@@ -75,6 +78,18 @@ pub fn commit_lines(manager: VersionManager, ops: &[u8], out: &mut [u8]) -> Comm
     ensures { λ r. ⌜ port .commit manager (length (operationsIn (now (ops .entry)))) (operationsIn (now (ops .entry))) (now (out .entry)) r (now (out .exit)) ⌝ }
 {
     manager.commit_lines(ops, out)
+}
+
+pub fn create(manager: VersionManager, shape: u32, name: Name, out: &mut [u8]) -> Created
+    ensures { λ r. ⌜ port .create manager shape (nameOf name) (now (out .entry)) r (now (out .exit)) ⌝ }
+{
+    manager.create(shape, name, out)
+}
+
+pub fn drop(manager: VersionManager, table: TableNo, out: &mut [u8]) -> Committed
+    ensures { λ r. ⌜ port .drop manager (table .0) (now (out .entry)) r (now (out .exit)) ⌝ }
+{
+    manager.drop(table, out)
 }
 
 pub fn pin(manager: VersionManager, book: PinBook) -> PinStep
