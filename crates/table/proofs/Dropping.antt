@@ -11,7 +11,7 @@ use Rattle.lists.specs.Order.{same}
 use Rattle.lists.specs.Keyed.{keep, allOf, isAt, has, without}
 use Rattle.lists.proofs.Tests.{both}
 use Rattle.lists.proofs.Order.{same-true}
-use Rattle.lists.proofs.Keyed.{All, all-map, all-allOf, allOf-all, all-keep, kept-all, length-keep}
+use Rattle.lists.proofs.Keyed.{All, all-map, all-allOf, allOf-all, all-keep, kept-all, keep-map, length-keep}
 use Rattle.ids.specs.Ids.{isId32}
 use Rattle.ids.specs.Limits.{mostOperations, mostHeld, lastEpoch, longestManifest}
 use Rattle.ids.specs.Results.{given}
@@ -26,11 +26,11 @@ use Rattle.operations.specs.Effect.{applied}
 use Rattle.operations.specs.Judge.{isLive}
 use Rattle.operations.specs.Steps.{stepOf, stepsOf}
 use Rattle.commit.specs.Commit.{appendOf, commitOf}
-use Rattle.table.specs.Made.{committed, ofTable, deleteRowsetOf, deleteVectorOf, dropOperations}
+use Rattle.table.specs.Made.{appliedAll, committed, ofTable, deleteRowsetOf, deleteVectorOf, dropOperations}
 use Rattle.table.specs.Laws.{Narrow}
 use Rattle.table.proofs.Deletes.{marked, has-keep}
 use Rattle.table.proofs.Shown.{Held, few-rows, few-part, part-forms, part-below, part-rises, part-shown, part-deleted}
-use Rattle.table.proofs.Accepted.{two, three, vectors-deleted, pairs-deleted, commit-accepts, pair-well, vector-well, pairs-held, vectors-held}
+use Rattle.table.proofs.Accepted.{two, three, vectors-deleted, pairs-deleted, steps-applied, commit-accepts, pair-well, vector-well, pairs-held, vectors-held}
 
 pub all-both : {A : Type 0} {P Q R : A → Type 0} (l : List A) → ((x : A) → P x → Q x → R x) → All P l → All Q l → All R l
 all-both [] f p q = tt
@@ -136,3 +136,21 @@ module _ (m : VersionManagerInner) (g : Sound m) (w : Narrow (stateOf m)) (t : �
   pub drop-accepts : (room : ℕ) → m .epoch < lastEpoch → m .manifest + length (appendOf operations) ≤ longestManifest → length (appendOf operations) ≤ room
       → commitOf s (length operations) operations room ≡ given (committed operations s)
   drop-accepts room early fits lent = commit-accepts s operations room drop-few early left drop-steps drop-whole fits lent
+
+  -- what the new epoch shows
+  dropped-is : left ≡ appliedAll e operations s
+  dropped-is = steps-applied 0 e operations s left drop-steps
+
+  pub drop-pairs : pairsAt e (committed operations s) ≡ keep (λ k. not (ofTable t k)) (pairsAt (m .epoch) s)
+  unfolding dropped unvectored left
+  drop-pairs =
+      ap (λ (u : State). pairsAt e u) (sym dropped-is)
+      ∙ ap (map byIds) (part-deleted two (m .epoch) _ (s .pairs) (pairs-held m g) (ofTable t))
+      ∙ sym (keep-map byIds (λ k. not (ofTable t k)) pairsNow)
+
+  pub drop-vectors : vectorsAt e (committed operations s) ≡ keep (λ k. not (ofTable t k)) (vectorsAt (m .epoch) s)
+  unfolding dropped unvectored left
+  drop-vectors =
+      ap (λ (u : State). vectorsAt e u) (sym dropped-is)
+      ∙ ap (map byIds) (part-deleted three (m .epoch) _ (s .vectors) (vectors-held m g) (ofTable t))
+      ∙ sym (keep-map byIds (λ k. not (ofTable t k)) vectorsNow)

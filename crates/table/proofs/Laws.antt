@@ -7,7 +7,7 @@ use native.Mathlib.Omega.{arith}
 use lib.Dec.{leb, ltb}
 use lib.ListN.{length}
 use borrow.Author.Tests.{leb-false, ltb-false, not-false}
-use Rattle.lists.specs.Keyed.{allOf, anyOf, has, ascending}
+use Rattle.lists.specs.Keyed.{keep, allOf, has, ascending}
 use Rattle.lists.proofs.Tests.{both, neither}
 use Rattle.lists.proofs.Keyed.{allOf-all, ascend-to}
 use Rattle.ids.specs.Ids.{largest32, isId32}
@@ -17,17 +17,17 @@ use Rattle.ids.specs.Verdicts.{judged}
 use Rattle.ids.proofs.Verdicts.{none-judged}
 use Rattle.snapshot.specs.Entries.{byIds}
 use Rattle.version_state.specs.declared.VersionManagerInner.{VersionManagerInner}
-use Rattle.version_state.specs.State.{State, stateOf}
+use Rattle.version_state.specs.State.{stateOf, pairsAt, vectorsAt}
 use Rattle.version_state.specs.Sound.{badInner}
 use Rattle.version_state.proofs.Facts.{Sound, sound-of}
 use Rattle.commit.specs.Commit.{appendOf}
-use Rattle.table.specs.Made.{byNumber}
+use Rattle.table.specs.Made.{committed, ofTable, byNumber}
 use Rattle.table.specs.Create.{createdBy, createRules}
 use Rattle.table.specs.Drop.{droppedBy, dropRules}
 use Rattle.table.specs.Compact.{compactedBy, validCompaction, compactRules}
 use Rattle.table.specs.Laws.{Narrow, Accepts, MadeLaws}
 use Rattle.table.proofs.Creating.{create-accepts}
-use Rattle.table.proofs.Dropping.{drop-accepts}
+use Rattle.table.proofs.Dropping.{drop-accepts, drop-pairs, drop-vectors}
 use Rattle.table.proofs.Compacting.{none-accepts, one-accepts}
 
 create-law : (m : VersionManagerInner) (shape : ℕ) (name : List ℕ) (room : ℕ) → badInner m ≡ false → shape ≤ largest32
@@ -45,6 +45,14 @@ drop-law m t room b w j =
     let p = none-judged (dropRules s t room) j in
     drop-accepts m (sound-of m b) w t (not-false _ (p .0)) (not-false _ (p .1 .0))
     room (leb-false lastEpoch (s .epoch) (p .1 .1 .0)) (ltb-false longestManifest (s .manifest + length (appendOf (droppedBy s t))) (p .1 .1 .1 .0)) (ltb-false room (length (appendOf (droppedBy s t))) (p .1 .1 .1 .1 .0))
+
+-- what a drop that is accepted shows
+module _ (m : VersionManagerInner) (t room : ℕ) (b : badInner m ≡ false) (w : Narrow (stateOf m)) (j : judged (dropRules (stateOf m) t room) ≡ Accepted) where
+  pairs-law : pairsAt (m .epoch + 1) (committed (droppedBy (stateOf m) t) (stateOf m)) ≡ keep (λ k. not (ofTable t k)) (pairsAt (m .epoch) (stateOf m))
+  pairs-law = let p = none-judged (dropRules (stateOf m) t room) j in drop-pairs m (sound-of m b) w t (not-false _ (p .0)) (not-false _ (p .1 .0))
+
+  vectors-law : vectorsAt (m .epoch + 1) (committed (droppedBy (stateOf m) t) (stateOf m)) ≡ keep (λ k. not (ofTable t k)) (vectorsAt (m .epoch) (stateOf m))
+  vectors-law = let p = none-judged (dropRules (stateOf m) t room) j in drop-vectors m (sound-of m b) w t (not-false _ (p .0)) (not-false _ (p .1 .0))
 
 compact-law : (m : VersionManagerInner) (t : ℕ) (new taken : List ℕ) (room : ℕ) → badInner m ≡ false → Narrow (stateOf m) → length new ≤ 1
     → judged (compactRules (stateOf m) t new taken room) ≡ Accepted → Accepts (stateOf m) (compactedBy (stateOf m) t new taken) room
@@ -72,4 +80,4 @@ compact-law m t (r ∷ []) taken room b w few j =
 compact-law m t (r ∷ q ∷ new) taken room b w few j = absurd (omega arith)
 
 pub made-laws : MadeLaws
-made-laws = record { create = create-law; drop = drop-law; compact = compact-law }
+made-laws = record { create = create-law; drop = drop-law; compact = compact-law; dropPairs = pairs-law; dropVectors = vectors-law }

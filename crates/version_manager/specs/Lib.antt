@@ -3,6 +3,9 @@ pub mod Managers
 pub mod Draw
 pub mod Commit
 pub mod Made
+pub mod Create
+pub mod Drop
 pub mod Vacuum
 pub mod Show
 pub mod Laws
+pub mod TableLaws

@@ -1,9 +1,11 @@
 // The version manager: every public method. 29 is judged here; what works below is given a state that passed.
 use ids::RowsetNo;
+use ids::TableNo;
 use ids::VectorNo;
 use ids::limits::LARGEST_32;
 use ids::limits::LARGEST_64;
 use ids::limits::MOST_OPERATIONS;
+use ids::name::Name;
 use ids::refusal::Refusal;
 use ids::refusal::Verdict;
 use manifest::operation::Batch;
@@ -16,14 +18,18 @@ use version_state::Held;
 use version_state::VersionManagerInner;
 ghost use mathlib.Core.Path.{_≡_};
 ghost use lib.ListN.{length};
+ghost use Rattle.ids.specs.Names.{nameOf};
 ghost use Rattle.manifest.specs.Operations.{batchOf};
 ghost use Rattle.commit.specs.Lent.{operationsIn};
 ghost use Rattle.version_manager.specs.Managers.{badManager, FreshSays};
 ghost use Rattle.version_manager.specs.Draw.{DrawRowsetSays, DrawVectorSays};
 ghost use Rattle.version_manager.specs.Commit.{CommitSays};
+ghost use Rattle.version_manager.specs.Create.{CreateSays};
+ghost use Rattle.version_manager.specs.Drop.{DropSays};
 ghost use Rattle.version_manager.specs.Vacuum.{VacuumSays};
 ghost use Rattle.version_manager.specs.Show.{ShowTablesSays, ShowPairsSays, ShowVectorsSays};
 ghost use Rattle.version_manager.specs.Laws.{DrawLaws};
+ghost use Rattle.version_manager.specs.TableLaws.{TableLaws};
 
 #[repr(C)]
 pub struct VersionManager {
@@ -68,6 +74,17 @@ pub struct Committed {
     pub answer: CommitAnswer,
 }
 
+pub enum CreateAnswer {
+    // The new table's id, the new epoch, and how many bytes there are to append.
+    Table(TableNo, u32, usize),
+    Refused(Refusal),
+}
+
+pub struct Created {
+    pub manager: VersionManager,
+    pub answer: CreateAnswer,
+}
+
 pub enum VacuumAnswer {
     // How many deletions are listed.
     Listed(usize),
@@ -86,9 +103,9 @@ pub fn handed(inner: VersionManagerInner) -> VersionManager
     VersionManager { inner }
 }
 
-// What fresh and draw hand out passes 29.
+// What fresh, draw, create and drop hand out passes 29.
 pub fn holds()
-    ensures { λ _. ⌜ DrawLaws ⌝ }
+    ensures { λ _. ⌜ DrawLaws × TableLaws ⌝ }
 {}
 
 impl VersionManager {
@@ -364,5 +381,68 @@ impl VersionManager {
         }
         let inner = self.inner;
         show::show_vectors(inner, book, epoch, tables, rowsets, vectors)
+    }
+
+    // A table with the next id: judged first, and then committed as one line.
+    pub fn create(self, shape: u32, name: Name, out: &mut [u8]) -> Created
+        ensures { λ r. ⌜ CreateSays self shape (nameOf name) (now (out .entry)) r (now (out .exit)) ⌝ }
+    {
+        if self.bad() {
+            return Created {
+                manager: self,
+                answer: CreateAnswer::Refused(Refusal::BadManager),
+            };
+        }
+        let inner = self.inner;
+        let id = inner.next.table;
+        let room = out.len();
+        let mut lines = commit::typed::buffer();
+        let made = table::create(inner, shape, name, room, &mut lines);
+        let verdict = made.verdict;
+        if let Verdict::Refused(refusal) = verdict {
+            return Created {
+                manager: self,
+                answer: CreateAnswer::Refused(refusal),
+            };
+        }
+        let n = made.length;
+        let done = self.commit_lines(&lines[..n], out);
+        let manager = done.manager;
+        let answer = done.answer;
+        match answer {
+            CommitAnswer::Appended(epoch, length) => Created {
+                manager,
+                answer: CreateAnswer::Table(id, epoch, length),
+            },
+            CommitAnswer::Refused(refusal) => Created {
+                manager,
+                answer: CreateAnswer::Refused(refusal),
+            },
+        }
+    }
+
+    // The table, and all its vectors and rowsets, deleted by one commit; it answers as that does.
+    pub fn drop(self, table: TableNo, out: &mut [u8]) -> Committed
+        ensures { λ r. ⌜ DropSays self (table .0) (now (out .entry)) r (now (out .exit)) ⌝ }
+    {
+        if self.bad() {
+            return Committed {
+                manager: self,
+                answer: CommitAnswer::Refused(Refusal::BadManager),
+            };
+        }
+        let inner = self.inner;
+        let room = out.len();
+        let mut lines = commit::typed::buffer();
+        let made = table::drop(inner, table, room, &mut lines);
+        let verdict = made.verdict;
+        if let Verdict::Refused(refusal) = verdict {
+            return Committed {
+                manager: self,
+                answer: CommitAnswer::Refused(refusal),
+            };
+        }
+        let n = made.length;
+        self.commit_lines(&lines[..n], out)
     }
 }
