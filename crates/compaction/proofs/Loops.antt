@@ -13,7 +13,7 @@ use Rattle.lists.specs.Order.{less, same}
 use Rattle.lists.specs.Keyed.{allOf, anyOf, has, above, ascending, rank}
 use Rattle.lists.proofs.Tests.{by-cases}
 use Rattle.lists.proofs.Order.{lex-last}
-use Rattle.lists.proofs.Keyed.{anyOf-map, ascend-to}
+use Rattle.lists.proofs.Keyed.{ascend-to}
 use Rattle.lists.proofs.Places.{has-here, has-end}
 use Rattle.lists.proofs.Views.{map-drop}
 use Rattle.ids.specs.Ids.{largest32, isId32}

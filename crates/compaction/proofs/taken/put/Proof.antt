@@ -6,7 +6,7 @@ use lib.ListN.{length, take, length-map}
 use lib.Seq.{take-all}
 use Rattle.lists.specs.Written.{Wrote}
 use Rattle.lists.proofs.Written.{wrote-none, wrote-length}
-use Rattle.manifest.specs.Operations.{Operation, deleteRowset}
+use Rattle.manifest.specs.Operations.{deleteRowset}
 use Rattle.frames.specs.Frames.{textsOf}
 use Rattle.frames.proofs.Texts.{texts-le, wrote-turn, place-turn}
 use Rattle.compaction.proofs.Loops.{turn}
