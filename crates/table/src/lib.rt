@@ -32,7 +32,7 @@ ghost use Rattle.table.specs.Laws.{MadeLaws};
 pub mod lines;
 
 // The bytes of `B` and `E` with their newlines, which stand around a commit's lines.
-const FRAME_BYTES: usize = 4;
+pub const FRAME_BYTES: usize = 4;
 
 // A call's verdict, and the length of the lines where it accepts.
 pub struct Made {
@@ -45,7 +45,7 @@ pub fn holds()
     ensures { λ _. ⌜ MadeLaws ⌝ }
 {}
 
-fn refused(refusal: Refusal) -> Made
+pub fn refused(refusal: Refusal) -> Made
     ensures { λ r. ⌜ r .verdict ≡ Refused refusal ⌝ }
 {
     Made {
