@@ -9,7 +9,7 @@ use lib.Seq.{take-append-seam}
 use borrow.Author.Tests.{leb-true, le-leb, lt-leb}
 use Rattle.lists.proofs.Tests.{by-cases}
 use Rattle.compactor.specs.Selection.{Sized, takenOn, taken}
-use Rattle.compactor.specs.Laws.{total, Part, none, more, past, TakenLaws}
+use Rattle.compactor.specs.Laws.{total, Part, none, more, past}
 
 module _ (target : ℕ) where
   total-on : (n : ℕ) (l : List Sized) → n ≤ target → n + total (takenOn target n l) ≤ target
@@ -18,6 +18,9 @@ module _ (target : ℕ) where
       by-cases (leb (n + x .size) target)
       (λ e. let w = total-on (n + x .size) l (leb-true (n + x .size) target e) in rw e (omega arith))
       (λ e. rw e (total-on n l h))
+
+  pub taken-within : (l : List Sized) → total (taken target l) ≤ target
+  taken-within l = let w = total-on 0 l (omega arith) in omega arith
 
   -- what is taken of entries after others
   taken-append : (n : ℕ) (a b : List Sized) → takenOn target n (a ++ b) ≡ takenOn target n a ++ takenOn target (n + total (takenOn target n a)) b
@@ -28,7 +31,7 @@ module _ (target : ℕ) where
       rw (e, taken-append (n + x .size) a b, z))
       (λ e. rw e (taken-append n a b))
 
-  part-on : (n : ℕ) (l : List Sized) → Part (takenOn target n l) l
+  pub part-on : (n : ℕ) (l : List Sized) → Part (takenOn target n l) l
   part-on n [] = none
   part-on n (x ∷ l) =
       by-cases (leb (n + x .size) target) (λ e. rw e (more (part-on (n + x .size) l))) (λ e. rw e (past (part-on n l)))
@@ -44,13 +47,3 @@ module _ (target : ℕ) where
     pub taken-unfitting : (x : Sized) → target < total (taken target a) + x .size → taken target (a ++ (x ∷ [])) ≡ taken target a
     taken-unfitting x h =
         taken-append 0 a (x ∷ []) ∙ rw (lt-leb (0 + total (taken target a) + x .size) target (omega arith)) (append-nil (taken target a))
-
-pub taken-laws : TakenLaws
-taken-laws =
-    record {
-      within = λ t l. let w = total-on t 0 l (omega arith) in omega arith;
-      fitting = taken-fitting;
-      unfitting = taken-unfitting;
-      later = taken-later;
-      part = λ t l. part-on t 0 l;
-    }

@@ -3,3 +3,4 @@ pub mod Runs
 pub mod Taking
 pub mod Selecting
 pub mod Laws
+pub mod Rising

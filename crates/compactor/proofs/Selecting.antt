@@ -57,7 +57,7 @@ module _ (m : VersionManagerInner) (t target : ℕ) (ns : List ℕ) where
   abbrev rowsetAt : ℕ → ℕ
   rowsetAt = column (m .rowsets .rowsets)
 
-  here-now : map rowsetAt (placesOf isHere (m .rowsets .count)) ≡ rowsetsNow t (stateOf m)
+  pub here-now : map rowsetAt (placesOf isHere (m .rowsets .count)) ≡ rowsetsNow t (stateOf m)
   here-now =
       let f = entryAt (m .rowsets .tables ∷ m .rowsets .rowsets ∷ []) (m .rowsets .added) (m .rowsets .deleted) in
       let l = rows f (m .rowsets .count) in
