@@ -1,4 +1,4 @@
--- A compaction's commit is accepted. Assumes nothing.
+-- A compaction's commit is accepted, and what it leaves. Assumes nothing.
 use mathlib.Core.Path.{_≡_, refl, sym, ap, subst, _∙_}
 use mathlib.Core.Bool.{Bool, true, false, not, _&&_, _||_}
 use mathlib.Core.List.{List, [], _∷_, _++_, map, append-nil}
@@ -9,9 +9,9 @@ use lib.ListN.{length, getD, take, length-append, length-map}
 use borrow.Author.Tests.{le-leb, lt-leb, not-false}
 use Rattle.lists.specs.Order.{less, same}
 use Rattle.lists.specs.Keyed.{keep, allOf, anyOf, isAt, has, put}
-use Rattle.lists.proofs.Tests.{both, join}
+use Rattle.lists.proofs.Tests.{both, join, by-cases}
 use Rattle.lists.proofs.Order.{lex-eq, same-true}
-use Rattle.lists.proofs.Keyed.{All, Ascending, all-map, all-mapped, all-allOf, allOf-all, all-keep, all-put, length-keep, kept-all, has-put}
+use Rattle.lists.proofs.Keyed.{All, Ascending, all-map, all-mapped, all-allOf, allOf-all, all-keep, all-put, length-keep, kept-all, has-put, keep-map}
 use Rattle.lists.proofs.Kept.{has-keep, few-among, keep-put}
 use Rattle.ids.specs.Ids.{isId32}
 use Rattle.ids.specs.Limits.{mostOperations, mostHeld, lastEpoch, longestManifest}
@@ -19,23 +19,19 @@ use Rattle.ids.specs.Results.{given}
 use Rattle.manifest.specs.Operations.{Operation, addRowset, deleteRowset, wellFormed}
 use Rattle.snapshot.specs.Entries.{Entry, byIds, addedAt, goneAt, shownAt, shownBy}
 use Rattle.version_state.specs.declared.VersionManagerInner.{VersionManagerInner}
-use Rattle.version_state.specs.State.{State, stateOf, withPairs, withVectors, vectorsAt}
+use Rattle.version_state.specs.State.{State, stateOf, withPairs, withVectors, vectorsAt, pairsAt}
 use Rattle.version_state.specs.Sound.{hasTable, hasRowset, leftBehind}
 use Rattle.version_state.proofs.Facts.{Sound}
-use Rattle.operations.specs.Effect.{applied}
+use Rattle.operations.specs.Effect.{appliedAll, applied}
 use Rattle.operations.specs.Judge.{isLive, isShown}
 use Rattle.operations.specs.Steps.{stepOf, stepsOf}
-use Rattle.commit.specs.Commit.{appendOf, commitOf}
-use Rattle.table.specs.Made.{committed, byNumber, ofTable, isOver, deleteRowsetOf, deleteVectorOf, compactOperations}
-use Rattle.table.specs.Laws.{Narrow}
+use Rattle.commit.specs.Commit.{appendOf}
+use Rattle.table.specs.Made.{byNumber, ofTable, isOver, deleteRowsetOf, deleteVectorOf, compactOperations}
+use Rattle.table.specs.Laws.{Narrow, pairsWith, Compacts}
 use Rattle.table.proofs.Deletes.{among, deletedAll, shown-marked}
 use Rattle.table.proofs.Shown.{or-second, few-rows, few-part, next-same, part-forms, part-below, part-rises, part-shown, part-deleted}
-use Rattle.table.proofs.Accepted.{two, three, vectors-deleted, pairs-deleted, commit-accepts, vector-well, pairs-held, vectors-held}
+use Rattle.table.proofs.Accepted.{two, three, vectors-deleted, pairs-deleted, commit-accepts, vector-well, pairs-held, vectors-held, steps-applied}
 use Rattle.table.proofs.Dropping.{all-both}
-
--- the pairs of the table t with these rowsets
-abbrev pairsWith : ℕ → List ℕ → List (List ℕ)
-pairsWith t rs = map (λ r. t ∷ r ∷ []) rs
 
 pairs-rise : (t : ℕ) (rs : List ℕ) → Ascending byNumber rs → Ascending (λ k. k) (pairsWith t rs)
 pairs-rise t [] a = tt
@@ -128,6 +124,22 @@ module _ (m : VersionManagerInner) (g : Sound m) (w : Narrow (stateOf m)) (t : �
         (all-keep (λ x. hasRowset pairsNow x ≡ true) isFree vectorsNow (allOf-all (hasRowset pairsNow) vectorsNow (whole-now .0)))),
         all-allOf (hasTable (u .tables)) (keep stays (keep (shownBy e) (u .pairs))) (all-keep (λ x. hasTable (u .tables) x ≡ true) stays (keep (shownBy e) (u .pairs)) tables))
 
+    -- what the new epoch shows
+    left-pairs : pairsAt e left ≡ keep (λ k. not (anyOf (same k) (pairsWith t rs))) (pairsAt e u)
+    unfolding unvectored left
+    left-pairs = ap (map byIds) (shown-marked e (omega arith) (pairsWith t rs) (u .pairs)) ∙ sym (keep-map byIds (λ k. not (anyOf (same k) (pairsWith t rs))) (keep (shownBy e) (u .pairs)))
+
+    left-vectors : vectorsAt e left ≡ keep (λ k. not (isOver t rs k)) (vectorsAt (m .epoch) s)
+    unfolding unvectored left
+    left-vectors =
+        ap (λ (l : List Entry). shown e (deletedAll e vectorKeys l)) vectors
+        ∙ ap (map byIds) (part-deleted three (m .epoch) _ (s .vectors) (vectors-held m g) (isOver t rs))
+        ∙ sym (keep-map byIds (λ k. not (isOver t rs k)) vectorsNow)
+
+    left-tables : left .tables ≡ u .tables
+    unfolding unvectored left
+    left-tables = refl
+
   module _ (taken : All (λ r. has byIds (t ∷ r ∷ []) pairsNow ≡ true) rs) where
     few-taken : length rs ≤ mostHeld
     few-taken =
@@ -137,7 +149,7 @@ module _ (m : VersionManagerInner) (g : Sound m) (w : Narrow (stateOf m)) (t : �
         let d : length (s .pairs) ≤ mostHeld = few-rows _ (m .rowsets .count) mostHeld (g .fits .rowsets) in
         omega arith
 
-    few : (n : ℕ) → n ≤ 1 → n + length (map deleteVectorOf vectorKeys ++ map (deleteRowset t) rs) ≤ mostOperations
+    pub few : (n : ℕ) → n ≤ 1 → n + length (map deleteVectorOf vectorKeys ++ map (deleteRowset t) rs) ≤ mostOperations
     few n h =
         let a = length-append (map deleteVectorOf vectorKeys) (map (deleteRowset t) rs) in
         let b = length-map vectorKeys deleteVectorOf in
@@ -155,10 +167,17 @@ module _ (m : VersionManagerInner) (g : Sound m) (w : Narrow (stateOf m)) (t : �
     same-more : (k : List ℕ) → has byIds k pairsNow ≡ true → isShown e k (s .pairs) ≡ true
     same-more k h = ap (has byIds k) next-pairs ∙ h
 
-    pub none-accepts : (room : ℕ) → m .epoch < lastEpoch → m .manifest + length (appendOf (operations [])) ≤ longestManifest → length (appendOf (operations [])) ≤ room
-        → commitOf s (length (operations [])) (operations []) room ≡ given (committed (operations []) s)
-    none-accepts room early fits lent =
-        commit-accepts s (operations []) room (omega (arith, few 0 (omega arith))) early (left s refl same-more taken same-tables) (delete-steps s refl same-more taken same-tables 0) (delete-whole s refl same-more taken same-tables) fits lent
+    pub none-compacts : (room : ℕ) → m .epoch < lastEpoch → m .manifest + length (appendOf (operations [])) ≤ longestManifest → length (appendOf (operations [])) ≤ room
+        → Compacts s t [] rs room
+    none-compacts room early fits lent =
+        let steps = delete-steps s refl same-more taken same-tables 0 in
+        let is : left s refl same-more taken same-tables ≡ appliedAll e (operations []) s = steps-applied 0 e (operations []) s (left s refl same-more taken same-tables) steps in
+        record {
+          accepts = commit-accepts s (operations []) room (omega (arith, few 0 (omega arith))) early (left s refl same-more taken same-tables) steps (delete-whole s refl same-more taken same-tables) fits lent;
+          pairs = ap (pairsAt e) (sym is) ∙ left-pairs s refl same-more taken same-tables ∙ ap (λ (l : List Entry). keep (λ k. not (anyOf (same k) (pairsWith t rs))) (map byIds l)) next-pairs;
+          vectors = ap (vectorsAt e) (sym is) ∙ left-vectors s refl same-more taken same-tables;
+          tables = ap (λ (u : State). u .tables) (sym is) ∙ left-tables s refl same-more taken same-tables;
+        }
 
     -- with the new rowset r
     module _ (r : ℕ) (new : isId32 r ≡ true) (live : isLive t s ≡ true) (drawn : r < s .nextRowset) (unheld : has byIds (t ∷ r ∷ []) (s .pairs) ≡ false) (space : length (s .pairs) < mostHeld) where
@@ -184,8 +203,25 @@ module _ (m : VersionManagerInner) (g : Sound m) (w : Narrow (stateOf m)) (t : �
       added-tables : All (λ x. hasTable (s .tables) x ≡ true) (keep (shownBy e) (added .pairs))
       added-tables = rw added-pairs (all-put byIds (λ x. hasTable (s .tables) x ≡ true) (addedAt e (t ∷ r ∷ [])) pairsNow live (allOf-all (hasTable (s .tables)) pairsNow (whole-now .1)))
 
-      pub one-accepts : (room : ℕ) → m .epoch < lastEpoch → m .manifest + length (appendOf (operations (r ∷ []))) ≤ longestManifest → length (appendOf (operations (r ∷ []))) ≤ room
-          → commitOf s (length (operations (r ∷ []))) (operations (r ∷ [])) room ≡ given (committed (operations (r ∷ [])) s)
-      one-accepts room early fits lent =
-          commit-accepts s (operations (r ∷ [])) room (omega (arith, few 1 (omega arith))) early (left added refl added-more taken added-tables)
-          (add-step (map deleteVectorOf vectorKeys ++ map (deleteRowset t) rs) ∙ delete-steps added refl added-more taken added-tables 1) (delete-whole added refl added-more taken added-tables) fits lent
+      map-put : (x : Entry) (l : List Entry) → map byIds (put byIds x l) ≡ put (λ k. k) (byIds x) (map byIds l)
+      map-put x [] = refl
+      map-put x (y ∷ l) =
+          by-cases (less (byIds y) (byIds x))
+          (λ h. rw h (ap (λ (k : List (List ℕ)). byIds y ∷ k) (map-put x l)))
+          (λ h. by-cases (isAt byIds (byIds x) y) (λ i. rw (h, i)) (λ i. rw (h, i)))
+
+      pub one-compacts : (room : ℕ) → m .epoch < lastEpoch → m .manifest + length (appendOf (operations (r ∷ []))) ≤ longestManifest → length (appendOf (operations (r ∷ []))) ≤ room
+          → Compacts s t (r ∷ []) rs room
+      one-compacts room early fits lent =
+          let steps : stepsOf 0 e (operations (r ∷ [])) s ≡ given (left added refl added-more taken added-tables) =
+          add-step (map deleteVectorOf vectorKeys ++ map (deleteRowset t) rs) ∙ delete-steps added refl added-more taken added-tables 1 in
+          let is : left added refl added-more taken added-tables ≡ appliedAll e (operations (r ∷ [])) s = steps-applied 0 e (operations (r ∷ [])) s (left added refl added-more taken added-tables) steps in
+          record {
+            accepts = commit-accepts s (operations (r ∷ [])) room (omega (arith, few 1 (omega arith))) early (left added refl added-more taken added-tables) steps (delete-whole added refl added-more taken added-tables) fits lent;
+            pairs =
+                ap (pairsAt e) (sym is)
+                ∙ left-pairs added refl added-more taken added-tables
+                ∙ ap (keep (λ k. not (anyOf (same k) (pairsWith t rs)))) (ap (map byIds) added-pairs ∙ map-put (addedAt e (t ∷ r ∷ [])) pairsNow);
+            vectors = ap (vectorsAt e) (sym is) ∙ left-vectors added refl added-more taken added-tables;
+            tables = ap (λ (u : State). u .tables) (sym is) ∙ left-tables added refl added-more taken added-tables;
+          }
