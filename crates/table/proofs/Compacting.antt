@@ -17,7 +17,7 @@ use Rattle.ids.specs.Ids.{isId32}
 use Rattle.ids.specs.Limits.{mostOperations, mostHeld, lastEpoch, longestManifest}
 use Rattle.ids.specs.Results.{given}
 use Rattle.manifest.specs.Operations.{Operation, addRowset, deleteRowset, wellFormed}
-use Rattle.snapshot.specs.Entries.{Entry, byIds, addedAt, goneAt, shownAt, shownBy}
+use Rattle.snapshot.specs.Entries.{Entry, byIds, addedAt, goneAt, shownAt, shownBy, shown}
 use Rattle.version_state.specs.declared.VersionManagerInner.{VersionManagerInner}
 use Rattle.version_state.specs.State.{State, stateOf, withPairs, withVectors, vectorsAt, pairsAt}
 use Rattle.version_state.specs.Sound.{hasTable, hasRowset, leftBehind}

@@ -11,7 +11,7 @@ use Rattle.lists.specs.Keyed.{keep, allOf, has, ascending}
 use Rattle.lists.proofs.Tests.{both, neither}
 use Rattle.lists.proofs.Keyed.{allOf-all, ascend-to}
 use Rattle.ids.specs.Ids.{largest32, isId32}
-use Rattle.ids.specs.Limits.{mostTables, mostHeld, lastEpoch, longestManifest}
+use Rattle.ids.specs.Limits.{mostTables, mostHeld, lastEpoch, longestManifest, mostOperations}
 use Rattle.ids.specs.declared.refusal.Verdict.the-variants.{Accepted}
 use Rattle.ids.specs.Verdicts.{judged}
 use Rattle.ids.proofs.Verdicts.{none-judged}
