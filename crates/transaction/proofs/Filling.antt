@@ -28,7 +28,7 @@ module _ (s : List ℕ) (at : ℕ) (run t : List ℕ) (e : ℕ) (room : at + len
       let l : length (take at s ++ run) ≡ e = length-append (take at s) run ∙ omega (arith, length-take at s, w .next) in
       ap (take e) front ∙ take-at (take at s ++ run) (drop (at + length run) s) e l
 
-  pub part : take (e - at) (drop at t) ≡ run
+  part : take (e - at) (drop at t) ≡ run
   unfolding written
   part =
       let n : length (take at s) ≡ at = length-take-le at s (omega arith) in

@@ -31,7 +31,7 @@ paired-none : (rs : List ℕ) → paired rs [] ≡ []
 paired-none [] = refl
 paired-none (r ∷ rs) = refl
 
-pub paired-drop : (i : ℕ) (rs ws : List ℕ) → drop i (paired rs ws) ≡ paired (drop i rs) (drop i ws)
+paired-drop : (i : ℕ) (rs ws : List ℕ) → drop i (paired rs ws) ≡ paired (drop i rs) (drop i ws)
 paired-drop zero rs ws = refl
 paired-drop (suc i) [] ws = refl
 paired-drop (suc i) (r ∷ rs) [] = sym (paired-none (drop i rs))
@@ -65,7 +65,7 @@ found r (x ∷ rs) (w ∷ ws) =
     (λ e. rw (eqb-true x r e, eq-eqb r r refl, eq-eqb r r refl))
     (λ e. rw (e, add-one) (found r rs ws))
 
-pub chain-from : (rs ws : List ℕ) (r i : ℕ) → rowsOf r (drop i (paired rs ws)) ≡ chainOf rs ws (firstFrom r i rs)
+chain-from : (rs ws : List ℕ) (r i : ℕ) → rowsOf r (drop i (paired rs ws)) ≡ chainOf rs ws (firstFrom r i rs)
 unfolding chainOf firstFrom
 chain-from rs ws r i =
     let f = firstIn r (drop i rs) in
@@ -76,20 +76,20 @@ chain-from rs ws r i =
     ∙ ap (λ (l : List Handle). rowsOf (getD rs (i + f) 0) (drop f l)) (sym e)
     ∙ ap (rowsOf (getD rs (i + f) 0)) (drop-drop f i (paired rs ws))
 
-pub first-within : (r i : ℕ) (l : List ℕ) → i ≤ length l → (i ≤ firstFrom r i l) × (firstFrom r i l ≤ length l)
+first-within : (r i : ℕ) (l : List ℕ) → i ≤ length l → (i ≤ firstFrom r i l) × (firstFrom r i l ≤ length l)
 unfolding firstFrom
 first-within r i l h = let f = first-le r (drop i l) in let n = length-drop i l in (omega arith, omega arith)
 
 module _ (r i : ℕ) (l : List ℕ) where
-  pub first-here : i < length l → getD l i 0 ≡ r → firstFrom r i l ≡ i
+  first-here : i < length l → getD l i 0 ≡ r → firstFrom r i l ≡ i
   unfolding firstFrom
   first-here h e = rw (drop-cons l i 0 h, eq-eqb (getD l i 0) r e) (omega arith)
 
-  pub first-next : i < length l → (getD l i 0 ≡ r → ⊥) → firstFrom r i l ≡ firstFrom r (i + 1) l
+  first-next : i < length l → (getD l i 0 ≡ r → ⊥) → firstFrom r i l ≡ firstFrom r (i + 1) l
   unfolding firstFrom
   first-next h e = rw (drop-cons l i 0 h, ne-eqb (getD l i 0) r e, add-one i) (omega arith)
 
-  pub first-end : length l ≤ i → firstFrom r i l ≡ i
+  first-end : length l ≤ i → firstFrom r i l ≡ i
   unfolding firstFrom
   first-end h = rw (drop-of-length-le l {i = i} h) (omega arith)
 

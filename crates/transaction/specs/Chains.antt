@@ -1,4 +1,4 @@
--- How the handles of a rowset are found in their order: the first of each rowset, and after each handle the next of its rowset. Assumes nothing.
+-- Internal: how the handles of a rowset are found in their order, by the first of each rowset and after each handle the next of its rowset. Assumes nothing.
 use mathlib.Core.Path.{_≡_}
 use mathlib.Core.Bool.{cond}
 use mathlib.Core.List.{List, [], _∷_, _++_, map}

@@ -1,4 +1,4 @@
-// Handles of one rowset after another, in their order: each handle has the place of the next one of its rowset. All here is internal.
+// The handles of a rowset in their order: each handle has the place of the next one of its rowset. All here is internal.
 ghost use mathlib.Core.Path.{_≡_};
 ghost use mathlib.Core.Bool.{true};
 ghost use Prim.Native.Nat.{ℕ, _+_, _≤_, _<_};
@@ -27,7 +27,7 @@ fn place(rising: &[u32], x: u32) -> usize
     low
 }
 
-// From the last handle back: each has before it those of its rowset that follow. No handle is told by their count.
+// From the last handle back: each is put before those of its rowset that follow. The count of handles stands for none.
 pub fn link(rowsets: &[u32], named: &[u32], heads: &mut [u32], nexts: &mut [u32])
     requires { ⌜ (now named ≡ inMemory (now rowsets)) × (length (now rowsets) ≤ mostHandles) × (length (now named) ≤ length (now heads)) × (length (now rowsets) ≤ length (now nexts)) × ((g : ℕ) → g < length (now named) → getD (now heads) g 0 ≡ length (now rowsets)) ⌝ }
     ensures { λ _. ⌜ Headed (now (rowsets .entry)) (now (named .entry)) 0 (now (heads .exit)) × Chained (now (rowsets .entry)) 0 (now (nexts .exit)) ⌝ }
