@@ -13,7 +13,7 @@ use manifest::operation::Change;
 use manifest::operation::EpochOp;
 
 // So many times the one byte.
-fn name(byte: u8, len: usize) -> Name {
+pub fn name(byte: u8, len: usize) -> Name {
     Name {
         bytes: [byte; 32],
         len,

@@ -5,6 +5,7 @@ use crate::fields::part;
 use crate::pinnings;
 use crate::say;
 use crate::shows;
+use crate::tables;
 use version_manager::CommitAnswer;
 use version_manager::Committed;
 use version_manager::RowsetAnswer;
@@ -51,8 +52,8 @@ fn draw_vector(bench: Bench) -> Bench {
 }
 
 // The answer and the manager; how many bytes are to append.
-fn committed(done: Committed) -> usize {
-    say::say(b"commit:");
+pub fn committed(word: &[u8], done: Committed) -> usize {
+    say::say(word);
     let answer = done.answer;
     let n = match answer {
         CommitAnswer::Appended(epoch, n) => {
@@ -69,7 +70,7 @@ fn committed(done: Committed) -> usize {
 fn commit_into(bench: Bench, out: &mut [u8]) -> Bench {
     let manager = bench.manager;
     let done = manager.commit(bench.batch, out);
-    let n = committed(done);
+    let n = committed(b"commit:", done);
     say::ends(out, n);
     bench.with_manager(done.manager)
 }
@@ -124,7 +125,7 @@ fn lend(bench: Bench, letter: u8, f: [u64; 6]) -> Bench {
 }
 
 // `r` and `w` draw a rowset's and a vector's id, `c` commits into so many bytes, `a` prints the append too, `u` is a vacuum
-// into slices of two lengths, `n` and `m` pin and unpin; `p`, `v` and `t` show pairs, vectors and tables of an epoch into slices of so many lengths.
+// into slices of two lengths, `n` and `m` pin and unpin, `k` and `x` create and drop a table; `p`, `v` and `t` show pairs, vectors and tables of an epoch into slices of so many lengths.
 pub fn call(bench: Bench, letter: u8, f: [u64; 6]) -> Bench {
     match letter {
         b'r' => draw_rowset(bench),
@@ -134,6 +135,8 @@ pub fn call(bench: Bench, letter: u8, f: [u64; 6]) -> Bench {
         b'u' => vacuum(bench, f),
         b'n' => lend(bench, letter, f),
         b'm' => lend(bench, letter, f),
+        b'k' => tables::create(bench, f, f[2]),
+        b'x' => tables::drop(bench, id(f[0]), f[1]),
         b'p' => {
             shows::pairs(bench, f);
             bench

@@ -14,6 +14,7 @@ mod pinnings;
 mod say;
 mod sets;
 mod shows;
+mod tables;
 
 // One word: its sign, its letter, and after each comma a number.
 fn word(bench: Bench, s: &[u8]) -> Bench {
