@@ -5,7 +5,9 @@ pub mod Commit
 pub mod Made
 pub mod Create
 pub mod Drop
+pub mod Compact
 pub mod Vacuum
 pub mod Show
 pub mod Laws
 pub mod TableLaws
+pub mod CompactLaws
