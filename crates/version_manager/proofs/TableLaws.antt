@@ -24,7 +24,7 @@ use Rattle.version_manager.specs.Made.{MadeSays}
 use Rattle.version_manager.specs.TableLaws.{TableLaws}
 
 -- 29 passes, and then the call's own rules
-passed : (b : Bool) (r : Refusal) (l : List Rule) → judged ((b ⇒ r) ∷ l) ≡ Accepted → (b ≡ false) × (judged l ≡ Accepted)
+pub passed : (b : Bool) (r : Refusal) (l : List Rule) → judged ((b ⇒ r) ∷ l) ≡ Accepted → (b ≡ false) × (judged l ≡ Accepted)
 passed true r l h = absurd (let z : _≡_ {A = ℕ} 0 1 = cc in omega arith)
 passed false r l h = (refl, h)
 

@@ -6,9 +6,11 @@ pub mod Commit
 pub mod Made
 pub mod Create
 pub mod Drop
+pub mod Compact
 pub mod Vacuum
 pub mod Show
 pub mod Lock
 pub mod Select
 pub mod Laws
 pub mod TableLaws
+pub mod CompactLaws

@@ -1,4 +1,5 @@
 // The version manager: every public method. 29 is judged here; what works below is given a state that passed.
+use compaction::NewRowset;
 use compactor::SelectAnswer;
 use ids::RowsetNo;
 use ids::TableNo;
@@ -24,18 +25,21 @@ ghost use lib.ListN.{length};
 ghost use Rattle.ids.specs.Names.{nameOf};
 ghost use Rattle.manifest.specs.Operations.{batchOf};
 ghost use Rattle.commit.specs.Lent.{operationsIn};
+ghost use Rattle.compaction.specs.New.{newOf};
 ghost use Rattle.version_manager.specs.Managers.{badManager, FreshSays};
 ghost use Rattle.version_manager.specs.Draw.{DrawRowsetSays, DrawVectorSays};
 ghost use Rattle.version_manager.specs.Group.{GroupSays};
 ghost use Rattle.version_manager.specs.Commit.{CommitSays};
 ghost use Rattle.version_manager.specs.Create.{CreateSays};
 ghost use Rattle.version_manager.specs.Drop.{DropSays};
+ghost use Rattle.version_manager.specs.Compact.{CompactSays};
 ghost use Rattle.version_manager.specs.Vacuum.{VacuumSays};
 ghost use Rattle.version_manager.specs.Show.{ShowTablesSays, ShowPairsSays, ShowVectorsSays};
 ghost use Rattle.version_manager.specs.Lock.{RelockSays, LockSays, UnlockSays};
 ghost use Rattle.version_manager.specs.Select.{SelectSays};
 ghost use Rattle.version_manager.specs.Laws.{DrawLaws};
 ghost use Rattle.version_manager.specs.TableLaws.{TableLaws};
+ghost use Rattle.version_manager.specs.CompactLaws.{CompactLaws};
 
 #[repr(C)]
 pub struct VersionManager {
@@ -126,9 +130,9 @@ pub fn handed(inner: VersionManagerInner) -> VersionManager
     VersionManager { inner }
 }
 
-// What fresh, draw, group, create and drop hand out passes 29.
+// What fresh, draw, group, create, drop and a compaction hand out passes 29.
 pub fn holds()
-    ensures { λ _. ⌜ DrawLaws × TableLaws ⌝ }
+    ensures { λ _. ⌜ DrawLaws × TableLaws × CompactLaws ⌝ }
 {}
 
 impl VersionManager {
@@ -562,6 +566,31 @@ impl VersionManager {
         let room = out.len();
         let mut lines = commit::typed::buffer();
         let made = table::drop(inner, table, room, &mut lines);
+        let verdict = made.verdict;
+        if let Verdict::Refused(refusal) = verdict {
+            return Committed {
+                manager: self,
+                answer: CommitAnswer::Refused(refusal),
+            };
+        }
+        let n = made.length;
+        self.commit_lines(&lines[..n], out)
+    }
+
+    // The taken rowsets, lent as rising ids, and their vectors deleted and the new rowset added, by one commit; it answers as that does.
+    pub fn compact(self, table: TableNo, new: NewRowset, taken: &[u32], out: &mut [u8]) -> Committed
+        ensures { λ r. ⌜ CompactSays self (table .0) (newOf new) (now (taken .entry)) (now (out .entry)) r (now (out .exit)) ⌝ }
+    {
+        if self.bad() {
+            return Committed {
+                manager: self,
+                answer: CommitAnswer::Refused(Refusal::BadManager),
+            };
+        }
+        let inner = self.inner;
+        let room = out.len();
+        let mut lines = commit::typed::buffer();
+        let made = compaction::compact(inner, table, new, taken, room, &mut lines);
         let verdict = made.verdict;
         if let Verdict::Refused(refusal) = verdict {
             return Committed {
