@@ -25,17 +25,22 @@ use Rattle.version_manager.specs.Managers.{heldBy, HandsBack, badManager, Manag
 use Rattle.version_manager.specs.Commit.{outcomeOf, commitTold, CommitEnds}
 use Rattle.ids.specs.declared.refusal.Verdict.{Verdict}
 use Rattle.ids.specs.declared.refusal.Verdict.the-variants.{Accepted, Refused}
-use Rattle.table.specs.Made.{committed, createOperations, dropOperations}
+use Rattle.table.specs.Made.{committed, createOperations, dropOperations, compactOperations}
 use Rattle.table.specs.Create.{createdBy}
 use Rattle.table.specs.Drop.{droppedBy}
+use Rattle.table.specs.Compact.{compactedBy}
+use Rattle.compaction.specs.declared.NewRowset.{NewRowset}
+use Rattle.compaction.specs.declared.NewRowset.the-variants as new
+use Rattle.compaction.specs.New.{newOf}
 use Rattle.table.specs.Laws.{Accepts}
 use Rattle.table.proofs.Laws.{made-laws}
 use Rattle.version_manager.specs.Create.{createVerdict}
 use Rattle.version_manager.specs.Drop.{dropVerdict}
+use Rattle.version_manager.specs.Compact.{compactVerdict}
 use Rattle.plain_record.specs.Sets.{Sets, applyAll}
 use Rattle.plain_record.specs.Calls.{asCommit}
 use Rattle.plain_record.specs.Plain.{byEpochAndPair, deletions, await, setsAt, counted, idsOf, Record, counts, turn}
-use Rattle.plain_record.specs.Run.{port, World, world, isAccepted, value, afterCommit, DidCommit, DidCreate, DidDrop}
+use Rattle.plain_record.specs.Run.{port, World, world, isAccepted, value, afterCommit, DidCommit, DidCreate, DidDrop, DidCompact}
 use Rattle.plain_record.specs.Claim.{waitingIn, waitingOf, belowNext}
 use Rattle.plain_record.proofs.Invariant.{plainSets, Inv}
 use Rattle.plain_record.proofs.Refused.{refused-number}
@@ -200,3 +205,21 @@ module _ (w : World) (t : Told) (l : List (List ℕ)) (v : World) (n : ℕ) (out
       (made-kept w r i (λ id z. dropOperations n (z .pairs) (z .vectors)) missing t (value 1 t) (d .result .manager) (d .left) x os vs out e (d .says .manager) (d .says .bytes)
       (λ a. let q : t ≡ told Accepted vs = e ∙ ap (λ (y : Verdict). told y vs) a in
       (ap (value 1) q, ap (λ (z : Sets). dropOperations n (z .pairs) (z .vectors)) (sym (now-at w r i (w .manager .inner .epoch) (omega arith))), made-laws .drop (w .manager .inner) n (length out) (i .sound) (d .narrow) (rw (i .sound) at a))))
+
+-- A compaction.
+few-new : (n : NewRowset) → length (newOf n) ≤ 1
+few-new new.None = omega arith
+few-new (new.One r) = omega arith
+
+module _ (w : World) (t : Told) (l : List (List ℕ)) (v : World) (n : ℕ) (o : NewRowset) (taken out : List ℕ) (missing : ℕ) (r : Record) (i : Inv w r) where
+  pub compact-keeps : DidCompact port w t l v n o taken out missing → Inv v (turn (asCommit (λ id s. compactOperations n (newOf o) taken (s .vectors)) missing) (isAccepted t) (value 0 t) r)
+  compact-keeps d =
+      let s = heldBy (w .manager) in
+      let os = compactedBy s n (newOf o) taken in
+      let vs = (s .epoch + 1) ∷ length (appendOf os) ∷ [] in
+      let x = compactVerdict (w .manager) n (newOf o) taken (length out) in
+      let e : t ≡ told x vs = d .told ∙ d .says .answer in
+      rw (d .after)
+      (made-kept w r i (λ id z. compactOperations n (newOf o) taken (z .vectors)) missing t (value 1 t) (d .result .manager) (d .left) x os vs out e (d .says .manager) (d .says .bytes)
+      (λ a. let q : t ≡ told Accepted vs = e ∙ ap (λ (y : Verdict). told y vs) a in
+      (ap (value 1) q, ap (λ (z : Sets). compactOperations n (newOf o) taken (z .vectors)) (sym (now-at w r i (w .manager .inner .epoch) (omega arith))), made-laws .compact (w .manager .inner) n (newOf o) taken (length out) (i .sound) (d .narrow) (few-new o) (rw (i .sound) at a) .accepts)))

@@ -11,7 +11,7 @@ use Rattle.version_manager.proofs.Laws.{draw-laws}
 use Rattle.replay.specs.Replay.{reopened}
 use Rattle.recovery.proofs.Appending.{empty-holds, holds-replayed}
 use Rattle.plain_record.specs.Sets.{Sets, none}
-use Rattle.plain_record.specs.Calls.{Call, drawRowset, drawVector, group, lock, unlock, commit, create, drop, pin, unpin, vacuum, reopen, kindOf}
+use Rattle.plain_record.specs.Calls.{Call, drawRowset, drawVector, group, lock, unlock, commit, create, drop, compact, pin, unpin, vacuum, reopen, kindOf}
 use Rattle.plain_record.specs.Plain.{Record, atStart}
 use Rattle.plain_record.specs.Plain.{start as plain-start}
 use Rattle.plain_record.specs.Run.{World, world, Event, value, port, LinkBy, Starts}
@@ -19,7 +19,7 @@ use Rattle.plain_record.specs.Claim.{waitingIn, Claim}
 use Rattle.plain_record.proofs.Invariant.{plainTable, Torn, Inv, Kept}
 use Rattle.plain_record.proofs.CommitShows.{shows-now}
 use Rattle.plain_record.proofs.Draw.{draw-rowset-kept, draw-vector-kept, group-kept, relock-kept}
-use Rattle.plain_record.proofs.Commit.{commit-keeps, create-keeps, drop-keeps}
+use Rattle.plain_record.proofs.Commit.{commit-keeps, create-keeps, drop-keeps, compact-keeps}
 use Rattle.plain_record.proofs.Pin.{pin-kept, pin-answers}
 use Rattle.plain_record.proofs.Unpin.{unpin-kept}
 use Rattle.plain_record.proofs.Vacuum.{vacuum-kept, vacuum-lists}
@@ -69,6 +69,7 @@ turned (unlock n) e r i d = record { inv = relock-kept (value 0 (e .told)) (e .b
 turned (commit os out missing) e r i d = record { inv = commit-keeps (e .before) (e .told) (e .listed) (e .after) os out missing r i d; answer = tt }
 turned (create shape name out missing) e r i d = record { inv = create-keeps (e .before) (e .told) (e .listed) (e .after) shape name out missing r i d; answer = tt }
 turned (drop n out missing) e r i d = record { inv = drop-keeps (e .before) (e .told) (e .listed) (e .after) n out missing r i d; answer = tt }
+turned (compact n new taken out missing) e r i d = record { inv = compact-keeps (e .before) (e .told) (e .listed) (e .after) n new taken out missing r i d; answer = tt }
 turned pin e r i d =
     record { inv = pin-kept (e .before) r (e .told) (e .listed) (e .after) i d (value 0 (e .told)); answer = pin-answers (e .before) r (e .told) (e .listed) (e .after) i d }
 turned (unpin n) e r i d = record { inv = unpin-kept (e .before) r (e .told) (e .listed) (e .after) n i d (value 0 (e .told)); answer = tt }

@@ -6,7 +6,9 @@ use lib.ListN.{length}
 use Rattle.ids.specs.declared.TableNo.{TableNo}
 use Rattle.manifest.specs.Operations.{Operation}
 use Rattle.transaction.specs.declared.Handles.{Handles}
-use Rattle.table.specs.Made.{createOperations, dropOperations}
+use Rattle.table.specs.Made.{createOperations, dropOperations, compactOperations}
+use Rattle.compaction.specs.declared.NewRowset.{NewRowset}
+use Rattle.compaction.specs.New.{newOf}
 use Rattle.plain_record.specs.Sets.{Sets}
 
 -- Show and the other calls that only read are in no list: they settle nothing.
@@ -19,9 +21,10 @@ pub data Call : Type 0 where
   unlock : TableNo → Call
   -- the operations, the lent buffer, and how many of the append's last bytes are missing where the next accepted call is a reopen
   commit : List Operation → List ℕ → ℕ → Call
-  -- the shape and the name; and the table. What follows is as for a commit
+  -- the shape and the name; the table; the table, the new rowset and the taken ones. What follows is as for a commit
   create : ℕ → List ℕ → List ℕ → ℕ → Call
   drop : ℕ → List ℕ → ℕ → Call
+  compact : ℕ → NewRowset → List ℕ → List ℕ → ℕ → Call
   pin : Call
   unpin : ℕ → Call
   -- the lent slices for tables and rowsets
@@ -51,6 +54,7 @@ kindOf (unlock n) = quiet
 kindOf (commit os out missing) = asCommit (λ id s. os) missing
 kindOf (create shape name out missing) = asCommit (λ id s. createOperations id shape name) missing
 kindOf (drop t out missing) = asCommit (λ id s. dropOperations t (s .pairs) (s .vectors)) missing
+kindOf (compact t new taken out missing) = asCommit (λ id s. compactOperations t (newOf new) taken (s .vectors)) missing
 kindOf pin = asPin
 kindOf (unpin e) = asUnpin e
 kindOf (vacuum ts rs) = asVacuum

@@ -14,6 +14,8 @@ use Rattle.manifest.specs.declared.operation.Batch.{Batch}
 use Rattle.pins.specs.declared.PinBook.{PinBook}
 use Rattle.show.specs.declared.ShowAnswer.{ShowAnswer}
 use Rattle.table.specs.Laws.{Narrow}
+use Rattle.compaction.specs.declared.NewRowset.{NewRowset}
+use Rattle.compaction.specs.New.{newOf}
 use Rattle.version_manager.specs.declared.VersionManager.{VersionManager}
 use Rattle.version_manager.specs.declared.Opened.{Opened}
 use Rattle.version_manager.specs.declared.DrawnRowset.{DrawnRowset}
@@ -31,6 +33,7 @@ use Rattle.version_manager.specs.Lock.{LockSays, UnlockSays}
 use Rattle.version_manager.specs.Commit.{commitTold, CommitSays}
 use Rattle.version_manager.specs.Create.{createTold, CreateSays}
 use Rattle.version_manager.specs.Drop.{DropSays}
+use Rattle.version_manager.specs.Compact.{CompactSays}
 use Rattle.version_manager.specs.Vacuum.{vacuumTold, VacuumSays}
 use Rattle.version_manager.specs.Show.{ShowTablesSays, ShowPairsSays, ShowVectorsSays}
 use Rattle.pinning.specs.declared.PinAnswer.{PinAnswer}
@@ -38,7 +41,7 @@ use Rattle.pinning.specs.declared.UnpinAnswer.{UnpinAnswer}
 use Rattle.pinning.specs.Says.{pinTold, unpinTold, PinSays, UnpinSays}
 use Rattle.storage.specs.declared.Reopened.{Reopened}
 use Rattle.storage.specs.Reopen.{reopenTold, ReopenSays}
-use Rattle.plain_record.specs.Calls.{Call, drawRowset, drawVector, group, lock, unlock, commit, create, drop, pin, unpin, vacuum, reopen}
+use Rattle.plain_record.specs.Calls.{Call, drawRowset, drawVector, group, lock, unlock, commit, create, drop, compact, pin, unpin, vacuum, reopen}
 
 -- what each entry point may return and leave
 pub record Steps : Type 1 where
@@ -51,6 +54,7 @@ pub record Steps : Type 1 where
   pub commit : VersionManager → ℕ → List Operation → List ℕ → Committed → List ℕ → Type 0
   pub create : VersionManager → ℕ → List ℕ → List ℕ → Created → List ℕ → Type 0
   pub drop : VersionManager → ℕ → List ℕ → Committed → List ℕ → Type 0
+  pub compact : VersionManager → ℕ → List ℕ → List ℕ → List ℕ → Committed → List ℕ → Type 0
   pub pin : VersionManager → PinBook → PinAnswer → PinBook → Type 0
   pub unpin : VersionManager → ℕ → PinBook → UnpinAnswer → PinBook → Type 0
   pub vacuum : VersionManager → PinBook → List ℕ → List ℕ → Vacuumed → List ℕ → List ℕ → Type 0
@@ -72,6 +76,7 @@ port =
       commit = CommitSays;
       create = CreateSays;
       drop = DropSays;
+      compact = CompactSays;
       pin = PinSays;
       unpin = UnpinSays;
       vacuum = VacuumSays;
@@ -181,7 +186,7 @@ module _ (S : Steps) (w : World) (t : Told) (l : List (List ℕ)) (v : World) wh
     pub none : l ≡ []
     pub after : v ≡ afterCommit (result .manager) t (value 1 t) left missing w
 
-  -- a manager's numbers are of their widths: `Narrow`, which every manager of the code has
+  -- `Narrow`: next ids of their widths, as every manager of the code has them
   pub record DidCreate (shape : ℕ) (name out : List ℕ) (missing : ℕ) : Type 0 where
     pub narrow : shape ≤ largest32
     pub result : Created
@@ -196,6 +201,15 @@ module _ (S : Steps) (w : World) (t : Told) (l : List (List ℕ)) (v : World) wh
     pub result : Committed
     pub left : List ℕ
     pub says : S .drop (w .manager) n out result left
+    pub told : t ≡ commitTold (result .answer)
+    pub none : l ≡ []
+    pub after : v ≡ afterCommit (result .manager) t (value 1 t) left missing w
+
+  pub record DidCompact (n : ℕ) (new : NewRowset) (taken out : List ℕ) (missing : ℕ) : Type 0 where
+    pub narrow : Narrow (heldBy (w .manager))
+    pub result : Committed
+    pub left : List ℕ
+    pub says : S .compact (w .manager) n (newOf new) taken out result left
     pub told : t ≡ commitTold (result .answer)
     pub none : l ≡ []
     pub after : v ≡ afterCommit (result .manager) t (value 1 t) left missing w
@@ -243,6 +257,7 @@ module _ (S : Steps) (w : World) (t : Told) (l : List (List ℕ)) (v : World) wh
   LinkBy (commit os out missing) = DidCommit os out missing
   LinkBy (create shape name out missing) = DidCreate shape name out missing
   LinkBy (drop n out missing) = DidDrop n out missing
+  LinkBy (compact n new taken out missing) = DidCompact n new taken out missing
   LinkBy pin = DidPin
   LinkBy (unpin e) = DidUnpin e
   LinkBy (vacuum ts rs) = DidVacuum ts rs

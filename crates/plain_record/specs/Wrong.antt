@@ -84,6 +84,7 @@ exchanged c p u v o t s x =
       commit = c;
       create = port .create;
       drop = port .drop;
+      compact = port .compact;
       pin = p;
       unpin = u;
       vacuum = v;

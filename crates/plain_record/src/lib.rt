@@ -19,7 +19,7 @@ pub fn batch_counted()
     ensures { λ _. ⌜ BatchCounted ⌝ }
 {}
 
-// What a drop's link asks of a manager, every one has: its next ids are of their widths.
+// What the links of a drop and a compaction ask of a manager, every one has: its next ids are of their widths.
 pub fn narrow(manager: VersionManager)
     ensures { λ _. ⌜ Narrow (heldBy manager) ⌝ }
 {}

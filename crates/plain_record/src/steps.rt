@@ -1,5 +1,6 @@
 // The claim's `port` names propositions. Each call here has one of them as its contract, so that an entry point that says less, or a
 // field that says something else, is refused by the check.
+use compaction::NewRowset;
 use ids::TableNo;
 use ids::name::Name;
 use manifest::operation::Batch;
@@ -21,6 +22,7 @@ use version_manager::VersionManager;
 ghost use lib.ListN.{length};
 ghost use Rattle.ids.specs.Names.{nameOf};
 ghost use Rattle.manifest.specs.Operations.{batchOf};
+ghost use Rattle.compaction.specs.New.{newOf};
 ghost use Rattle.commit.specs.Lent.{operationsIn};
 ghost use Rattle.plain_record.specs.Run.{port};
 
@@ -90,6 +92,18 @@ pub fn drop(manager: VersionManager, table: TableNo, out: &mut [u8]) -> Committe
     ensures { λ r. ⌜ port .drop manager (table .0) (now (out .entry)) r (now (out .exit)) ⌝ }
 {
     manager.drop(table, out)
+}
+
+pub fn compact(
+    manager: VersionManager,
+    table: TableNo,
+    new: NewRowset,
+    taken: &[u32],
+    out: &mut [u8],
+) -> Committed
+    ensures { λ r. ⌜ port .compact manager (table .0) (newOf new) (now (taken .entry)) (now (out .entry)) r (now (out .exit)) ⌝ }
+{
+    manager.compact(table, new, taken, out)
 }
 
 pub fn pin(manager: VersionManager, book: PinBook) -> PinStep
