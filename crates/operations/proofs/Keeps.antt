@@ -87,11 +87,11 @@ module _ (h : Held) (c : Columns) (s : State) (q : stateIn h c ≡ s) where
         whole = w;
         sized = z;
         fits =
-          record {
-            tables = omega (arith, g .tables, rows-length (tableAt (c .ids) (c .shapes) (c .lengths) (c .names) (c .locked)) (h .tables));
-            rowsets = omega (arith, g .pairs, rows-length (entryAt (c .pairTables ∷ c .pairRowsets ∷ []) (c .pairAdded) (c .pairDeleted)) (h .rowsets));
-            vectors = omega (arith, g .vectors, rows-length (entryAt (c .tables ∷ c .rowsets ∷ c .vectors ∷ []) (c .added) (c .deleted)) (h .vectors));
-          };
+            record {
+              tables = omega (arith, g .tables, rows-length (tableAt (c .ids) (c .shapes) (c .lengths) (c .names) (c .locked)) (h .tables));
+              rowsets = omega (arith, g .pairs, rows-length (entryAt (c .pairTables ∷ c .pairRowsets ∷ []) (c .pairAdded) (c .pairDeleted)) (h .rowsets));
+              vectors = omega (arith, g .vectors, rows-length (entryAt (c .tables ∷ c .rowsets ∷ c .vectors ∷ []) (c .added) (c .deleted)) (h .vectors));
+            };
         tables = p .tables;
         pairs = p .pairs;
         vectors = p .vectors;

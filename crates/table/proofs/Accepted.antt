@@ -70,7 +70,6 @@ steps-applied i e (o ∷ os) s t h = go (stepOf i e o s) refl h (λ u. steps-app
 module _ (s : State) (os : List Operation) (room : ℕ) (few : length os ≤ mostOperations) (early : s .epoch < lastEpoch) (t : State)
     (steps : stepsOf 0 (s .epoch + 1) os s ≡ given t) (whole : leftBehind (s .epoch + 1) t ≡ false)
     (fits : s .manifest + length (appendOf os) ≤ longestManifest) (lent : length (appendOf os) ≤ room) where
-
   stays : t .manifest ≡ s .manifest
   stays = steps-manifest (s .epoch + 1) os s t steps
 

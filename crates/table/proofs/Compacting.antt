@@ -49,9 +49,11 @@ over-pair t k rs f = ap (λ (j : List ℕ). anyOf (same (take 2 j)) (pairsWith t
     either true true c = refl
     either true false c = refl
     either false b c = refl
+
     none : (a : Bool) → false ≡ a && false
     none true = refl
     none false = refl
+
     go : (rs : List ℕ) → anyOf (same (getD k 0 0 ∷ getD k 1 0 ∷ [])) (pairsWith t rs) ≡ isOver t rs k
     go [] = none (ofTable t k)
     go (r ∷ rs) = ap (λ (b : Bool). (eqb (getD k 0 0) t && (eqb (getD k 1 0) r && true)) || b) (go rs) ∙ either (eqb (getD k 0 0) t) (eqb (getD k 1 0) r) (anyOf (eqb (getD k 1 0)) rs)
@@ -117,12 +119,16 @@ module _ (m : VersionManagerInner) (g : Sound m) (w : Narrow (stateOf m)) (t : �
     delete-whole : leftBehind e left ≡ false
     unfolding unvectored left
     delete-whole =
-        rw (vectors, part-deleted three (m .epoch) _ (s .vectors) (vectors-held m g) (isOver t rs), shown-marked e (omega arith) (pairsWith t rs) (u .pairs),
-        all-allOf (hasRowset (keep stays (keep (shownBy e) (u .pairs)))) (keep isFree vectorsNow)
-        (all-both {P = λ x. (three (byIds x) ≡ byIds x) × (isFree x ≡ true)} (keep isFree vectorsNow) (λ x a b. rowset-stays x (a .0) (a .1) b)
-        (all-both (keep isFree vectorsNow) (λ x a b. (a, b)) (all-keep (λ x. three (byIds x) ≡ byIds x) isFree vectorsNow (all-keep (λ x. three (byIds x) ≡ byIds x) (shownBy (m .epoch)) (s .vectors) (vectors-held m g .forms))) (kept-all isFree vectorsNow))
-        (all-keep (λ x. hasRowset pairsNow x ≡ true) isFree vectorsNow (allOf-all (hasRowset pairsNow) vectorsNow (whole-now .0)))),
-        all-allOf (hasTable (u .tables)) (keep stays (keep (shownBy e) (u .pairs))) (all-keep (λ x. hasTable (u .tables) x ≡ true) stays (keep (shownBy e) (u .pairs)) tables))
+        rw (
+          vectors,
+          part-deleted three (m .epoch) _ (s .vectors) (vectors-held m g) (isOver t rs),
+          shown-marked e (omega arith) (pairsWith t rs) (u .pairs),
+          all-allOf (hasRowset (keep stays (keep (shownBy e) (u .pairs)))) (keep isFree vectorsNow)
+              (all-both {P = λ x. (three (byIds x) ≡ byIds x) × (isFree x ≡ true)} (keep isFree vectorsNow) (λ x a b. rowset-stays x (a .0) (a .1) b)
+              (all-both (keep isFree vectorsNow) (λ x a b. (a, b)) (all-keep (λ x. three (byIds x) ≡ byIds x) isFree vectorsNow (all-keep (λ x. three (byIds x) ≡ byIds x) (shownBy (m .epoch)) (s .vectors) (vectors-held m g .forms))) (kept-all isFree vectorsNow))
+              (all-keep (λ x. hasRowset pairsNow x ≡ true) isFree vectorsNow (allOf-all (hasRowset pairsNow) vectorsNow (whole-now .0)))),
+          all-allOf (hasTable (u .tables)) (keep stays (keep (shownBy e) (u .pairs))) (all-keep (λ x. hasTable (u .tables) x ≡ true) stays (keep (shownBy e) (u .pairs)) tables),
+        )
 
     -- what the new epoch shows
     left-pairs : pairsAt e left ≡ keep (λ k. not (anyOf (same k) (pairsWith t rs))) (pairsAt e u)

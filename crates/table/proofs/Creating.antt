@@ -57,8 +57,12 @@ module _ (m : VersionManagerInner) (g : Sound m) (h : ℕ) (n : List ℕ) (shape
   create-whole : leftBehind e left ≡ false
   create-whole =
       let z = both (allOf (hasRowset pairsNow) vectorsNow) (allOf (hasTable (s .tables)) pairsNow) (not-false _ (g .whole)) in
-      rw (next-same three (m .epoch) _ (s .vectors) (vectors-held m g), next-same two (m .epoch) _ (s .pairs) (pairs-held m g), z .0,
-      all-allOf (hasTable (put byTable (created (s .nextTable) h n) (s .tables))) pairsNow (all-map pairsNow table-stays (allOf-all (hasTable (s .tables)) pairsNow (z .1))))
+      rw (
+        next-same three (m .epoch) _ (s .vectors) (vectors-held m g),
+        next-same two (m .epoch) _ (s .pairs) (pairs-held m g),
+        z .0,
+        all-allOf (hasTable (put byTable (created (s .nextTable) h n) (s .tables))) pairsNow (all-map pairsNow table-stays (allOf-all (hasTable (s .tables)) pairsNow (z .1))),
+      )
 
   pub create-accepts : (room : ℕ) → m .epoch < lastEpoch → m .manifest + length (appendOf operations) ≤ longestManifest → length (appendOf operations) ≤ room
       → commitOf s (length operations) operations room ≡ given (committed operations s)

@@ -69,7 +69,6 @@ module _ (e : ℕ) (late : 1 ≤ e) where
       (got : (s : State) (l : List Entry) → get (set s l) ≡ l)
       (again : (s : State) (l m : List Entry) → set (set s l) m ≡ set s m)
       (same-set : (s : State) → set s (get s) ≡ s) where
-
     pub deletes : (i : ℕ) (ks : List (List ℕ)) (rest : List Operation) (s : State)
         → All (λ k. form k ≡ k) ks → All (λ k. wellFormed (op k) ≡ true) ks → Ascending (λ k. k) ks → All (λ k. isShown e k (get s) ≡ true) ks
         → stepsOf i e (map op ks ++ rest) s ≡ stepsOf (i + length ks) e rest (set s (deletedAll e ks (get s)))
@@ -79,7 +78,7 @@ module _ (e : ℕ) (late : 1 ≤ e) where
         let q : t ≡ set s (changed byIds k (deletedAt e) (get s)) = acts k s ∙ ap (λ (j : List ℕ). set s (changed byIds j (deletedAt e) (get s))) (f .0) in
         let g : get t ≡ changed byIds k (deletedAt e) (get s) = ap get q ∙ got s (changed byIds k (deletedAt e) (get s)) in
         let shows : All (λ j. isShown e j (get t) ≡ true) ks =
-          subst (λ (l : List Entry). All (λ j. isShown e j l ≡ true) ks) (sym g) (later k ks (get s) (a .0) (h .1)) in
+        subst (λ (l : List Entry). All (λ j. isShown e j l ≡ true) ks) (sym g) (later k ks (get s) (a .0) (h .1)) in
         rw (accepted i k s (w .0) (subst (λ (j : List ℕ). isShown e j (get s) ≡ true) (sym (f .0)) (h .0)))
         (deletes (i + 1) ks rest t (f .1) (w .1) (a .1) shows
         ∙ ap (λ (j : ℕ). stepsOf j e rest (set t (deletedAll e ks (get t)))) (omega arith)

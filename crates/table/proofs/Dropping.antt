@@ -119,11 +119,14 @@ module _ (m : VersionManagerInner) (g : Sound m) (w : Narrow (stateOf m)) (t : �
   drop-whole : leftBehind e left ≡ false
   unfolding dropped unvectored left
   drop-whole =
-      rw (part-deleted three (m .epoch) _ (s .vectors) (vectors-held m g) (ofTable t), part-deleted two (m .epoch) _ (s .pairs) (pairs-held m g) (ofTable t),
-      all-allOf (hasRowset (keep stays pairsNow)) (keep stays vectorsNow)
-      (all-both (keep stays vectorsNow) rowset-stays (kept-all stays vectorsNow) (all-keep (λ x. hasRowset pairsNow x ≡ true) stays vectorsNow (allOf-all (hasRowset pairsNow) vectorsNow (whole-now .0)))),
-      all-allOf (hasTable (without byTable (t ∷ []) (s .tables))) (keep stays pairsNow)
-      (all-both (keep stays pairsNow) table-stays (kept-all stays pairsNow) (all-keep (λ x. hasTable (s .tables) x ≡ true) stays pairsNow (allOf-all (hasTable (s .tables)) pairsNow (whole-now .1)))))
+      rw (
+        part-deleted three (m .epoch) _ (s .vectors) (vectors-held m g) (ofTable t),
+        part-deleted two (m .epoch) _ (s .pairs) (pairs-held m g) (ofTable t),
+        all-allOf (hasRowset (keep stays pairsNow)) (keep stays vectorsNow)
+            (all-both (keep stays vectorsNow) rowset-stays (kept-all stays vectorsNow) (all-keep (λ x. hasRowset pairsNow x ≡ true) stays vectorsNow (allOf-all (hasRowset pairsNow) vectorsNow (whole-now .0)))),
+        all-allOf (hasTable (without byTable (t ∷ []) (s .tables))) (keep stays pairsNow)
+            (all-both (keep stays pairsNow) table-stays (kept-all stays pairsNow) (all-keep (λ x. hasTable (s .tables) x ≡ true) stays pairsNow (allOf-all (hasTable (s .tables)) pairsNow (whole-now .1)))),
+      )
 
   drop-few : length operations ≤ mostOperations
   drop-few =
