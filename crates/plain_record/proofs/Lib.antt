@@ -25,3 +25,4 @@ pub mod Worked
 pub mod Events
 pub mod WrongManifests
 pub mod Wrong
+pub mod Story

@@ -7,3 +7,4 @@ pub mod Shows
 pub mod Claim
 pub mod Examples
 pub mod Wrong
+pub mod Story

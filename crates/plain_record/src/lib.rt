@@ -5,6 +5,7 @@ ghost use Rattle.table.specs.Laws.{Narrow};
 ghost use Rattle.version_manager.specs.Managers.{heldBy};
 ghost use Rattle.plain_record.specs.Run.{port, BatchCounted};
 ghost use Rattle.plain_record.specs.Claim.{Claim};
+ghost use Rattle.plain_record.specs.Story.{Story};
 ghost use Rattle.plain_record.specs.Examples.{Examples};
 ghost use Rattle.plain_record.specs.Wrong.{WrongRefuted};
 
@@ -22,6 +23,11 @@ pub fn batch_counted()
 // What the links of a drop and a compaction ask of a manager, every one has: its next ids are of their widths.
 pub fn narrow(manager: VersionManager)
     ensures { λ _. ⌜ Narrow (heldBy manager) ⌝ }
+{}
+
+// After a compaction, cut off anywhere, and a reopen: the rowsets that were merged are shown, or the merged one, never both.
+pub fn never_both()
+    ensures { λ _. ⌜ Story port ⌝ }
 {}
 
 // The claim is no empty one: it is false of managers that are wrong in one call.
