@@ -186,7 +186,7 @@ module _ (S : Steps) (w : World) (t : Told) (l : List (List ℕ)) (v : World) wh
     pub none : l ≡ []
     pub after : v ≡ afterCommit (result .manager) t (value 1 t) left missing w
 
-  -- `Narrow`: next ids of their widths, as every manager of the code has them
+  -- a shape has 32 bits
   pub record DidCreate (shape : ℕ) (name out : List ℕ) (missing : ℕ) : Type 0 where
     pub narrow : shape ≤ largest32
     pub result : Created
@@ -196,6 +196,7 @@ module _ (S : Steps) (w : World) (t : Told) (l : List (List ℕ)) (v : World) wh
     pub none : l ≡ []
     pub after : v ≡ afterCommit (result .manager) t (value 2 t) left missing w
 
+  -- `Narrow`: next ids of their widths, as every manager of the code has them
   pub record DidDrop (n : ℕ) (out : List ℕ) (missing : ℕ) : Type 0 where
     pub narrow : Narrow (heldBy (w .manager))
     pub result : Committed
