@@ -5,12 +5,17 @@ use pins::PinBook;
 use version_manager::VersionManager;
 use version_state::VersionManagerInner;
 
+pub const MOST_NUMBERS: usize = 700;
+
 pub struct Bench {
     pub manager: VersionManager,
     // A manager kept for later cases.
     pub kept: VersionManager,
     pub batch: Batch,
     pub book: PinBook,
+    // Sizes for a selection, rowsets for a compaction.
+    pub numbers: [u64; MOST_NUMBERS],
+    pub count: usize,
 }
 
 impl Bench {
@@ -24,6 +29,8 @@ impl Bench {
             kept: manager,
             batch,
             book,
+            numbers: [0; MOST_NUMBERS],
+            count: 0,
         }
     }
 

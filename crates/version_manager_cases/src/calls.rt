@@ -1,7 +1,9 @@
 // Calls that hand a manager back; the others are in `shows`.
 use crate::bench::Bench;
+use crate::compactions;
 use crate::fields::id;
 use crate::fields::part;
+use crate::locks;
 use crate::pinnings;
 use crate::say;
 use crate::shows;
@@ -124,8 +126,27 @@ fn lend(bench: Bench, letter: u8, f: [u64; 6]) -> Bench {
     }
 }
 
+// `k` and `x` create and drop a table, `l` and `o` take a lock and give it back, `s` selects, `y` and `z` compact without a new
+// rowset and with one.
+fn table_call(bench: Bench, letter: u8, f: [u64; 6]) -> Bench {
+    match letter {
+        b'k' => tables::create(bench, f, f[2]),
+        b'x' => tables::drop(bench, id(f[0]), f[1]),
+        b'l' => locks::lock(bench, id(f[0])),
+        b'o' => locks::unlock(bench, id(f[0])),
+        b's' => {
+            compactions::select(bench, f);
+            bench
+        }
+        b'y' => compactions::emptied(bench, f),
+        b'z' => compactions::merged(bench, f),
+        _ => bench,
+    }
+}
+
 // `r` and `w` draw a rowset's and a vector's id, `c` commits into so many bytes, `a` prints the append too, `u` is a vacuum
-// into slices of two lengths, `n` and `m` pin and unpin, `k` and `x` create and drop a table; `p`, `v` and `t` show pairs, vectors and tables of an epoch into slices of so many lengths.
+// into slices of two lengths, `n` and `m` pin and unpin; `p`, `v` and `t` show pairs, vectors and tables of an epoch into slices
+// of so many lengths.
 pub fn call(bench: Bench, letter: u8, f: [u64; 6]) -> Bench {
     match letter {
         b'r' => draw_rowset(bench),
@@ -135,8 +156,6 @@ pub fn call(bench: Bench, letter: u8, f: [u64; 6]) -> Bench {
         b'u' => vacuum(bench, f),
         b'n' => lend(bench, letter, f),
         b'm' => lend(bench, letter, f),
-        b'k' => tables::create(bench, f, f[2]),
-        b'x' => tables::drop(bench, id(f[0]), f[1]),
         b'p' => {
             shows::pairs(bench, f);
             bench
@@ -149,6 +168,6 @@ pub fn call(bench: Bench, letter: u8, f: [u64; 6]) -> Bench {
             shows::tables(bench, f);
             bench
         }
-        _ => bench,
+        _ => table_call(bench, letter, f),
     }
 }

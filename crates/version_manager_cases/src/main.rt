@@ -1,6 +1,6 @@
 // Cases of the version manager's calls, read from the input. A line that begins with `#` says what follows and is printed.
 // Every other line has words. `+` adds an operation to the batch, in the manifest's letters; a name is a byte and how often
-// it stands. `=` sets something of the manager, the pin book or the batch. `!` calls a method and prints the answer, with
+// it stands. `=` sets something of the manager, the pin book, the batch or the numbers that are lent. `!` calls a method and prints the answer, with
 // what the manager and the lent outputs then hold.
 use bench::Bench;
 use libc::STDIN_FILENO;
@@ -9,7 +9,9 @@ ghost use Prim.Native.Nat.{_≤_};
 mod batches;
 mod bench;
 mod calls;
+mod compactions;
 mod fields;
+mod locks;
 mod pinnings;
 mod say;
 mod sets;

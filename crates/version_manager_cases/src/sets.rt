@@ -1,8 +1,10 @@
 // Managers, pin books and batches made by hand.
 use crate::bench::Bench;
+use crate::bench::MOST_NUMBERS;
 use crate::fields::byte;
 use crate::fields::id;
 use crate::fields::long;
+use crate::fields::part;
 use crate::fields::short;
 use ids::RowsetNo;
 use ids::TableNo;
@@ -164,6 +166,21 @@ fn length(bench: Bench, letter: u8, f: [u64; 6]) -> Bench {
     }
 }
 
+// Numbers from one place up to another, the first and how much each next one is more. The last is the last one.
+fn with_numbers(bench: Bench, f: [u64; 6]) -> Bench {
+    let mut s = bench;
+    let to = part(f[1], MOST_NUMBERS);
+    let mut n = f[2];
+    let mut i = long(f[0]);
+    while i < to {
+        s.numbers[i] = n;
+        n = std::num::wrapping_add_u64(n, f[3]);
+        i += 1;
+    }
+    s.count = to;
+    s
+}
+
 // `f` a fresh manager, `s` the manager is kept, `l` the kept one is taken again; the last with no pins.
 fn whole(bench: Bench, letter: u8) -> Bench {
     let kept = bench.kept;
@@ -186,6 +203,7 @@ pub fn set(bench: Bench, letter: u8, f: [u64; 6]) -> Bench {
         b'b' => length(bench, letter, f),
         b'k' => length(bench, letter, f),
         b'g' => length(bench, letter, f),
+        b'i' => with_numbers(bench, f),
         _ => whole(bench, letter),
     }
 }

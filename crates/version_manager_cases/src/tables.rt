@@ -28,7 +28,7 @@ fn created(done: Created) -> usize {
     n
 }
 
-fn ended(out: &[u8], n: usize) {
+pub fn ended(out: &[u8], n: usize) {
     say::ends(out, n);
     if out.len() <= 64 {
         say::line(out);

@@ -1,14 +1,14 @@
--- `compactor_cases::say::locks` meets its contract. Assumes nothing.
+-- `version_manager_cases::locks::locks` meets its contract. Assumes nothing.
 use Prim.Native.Nat.{_≤_, _-_}
 use borrow.Author.Needs.{needs}
-use Rattle.compactor_cases.proofs.say.locks.Statement.{statement}
-use Rattle.compactor_cases.proofs.say.locks.Tie as tie
+use Rattle.version_manager_cases.proofs.locks.locks.Statement.{statement}
+use Rattle.version_manager_cases.proofs.locks.locks.Tie as tie
 
 abbrev Inv-loop : tie.InvT-loop
-Inv-loop inner i₀ t5 i = 0 ≤ i
+Inv-loop inner i₀ i = 0 ≤ i
 
 abbrev μ-loop : tie.MeasureT-loop
-μ-loop inner i₀ t5 i = 16 - i
+μ-loop inner i₀ i = 16 - i
 
 slice-aggregate-say : tie.Need-slice-aggregate-say Inv-loop μ-loop
 slice-aggregate-say c = search needs
@@ -31,12 +31,6 @@ loop-less c = search needs
 loop-again : tie.Need-loop-again Inv-loop μ-loop
 loop-again c = search needs
 
-slice-aggregate-say-2 : tie.Need-slice-aggregate-say-2 Inv-loop μ-loop
-slice-aggregate-say-2 c = search needs
-
-say-requires-2 : tie.Need-say-requires-2 Inv-loop μ-loop
-say-requires-2 c κs = search needs
-
 returns : tie.Need-returns Inv-loop μ-loop
 returns c = search needs
 
@@ -53,6 +47,4 @@ locks-spec =
     add-i
     loop-less
     loop-again
-    slice-aggregate-say-2
-    say-requires-2
     returns)
