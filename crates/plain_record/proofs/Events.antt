@@ -404,6 +404,13 @@ pub says-T : CommitSays afterNone (length opsT) opsT frameT (appended (afterT ta
 unfolding rows stepOf textOf fieldsText digits digitsBy isName isNameByte isDigit isLower goneAt shownAt
 says-T = (refl, record { fits = few 2 1 0 tables noPairs 16 (omega arith) (omega arith); state = refl }, refl)
 
+-- the table is created at epoch 1
+abbrev pub createdT : VersionManager
+createdT = holding 1 1 0 tables noPairs 12
+
+pub fits-T : Fit (createdT .inner)
+fits-T = few 1 1 0 tables noPairs 12 (omega arith) (omega arith)
+
 -- a manager without tables, where the record has one; and one with a table, where it has none
 pub no-table : (S : Steps) (w : World) (d : ℕ) (t : Table) → S .showTables (w .manager) (w .book) d [] [] [] [] (Shown 0) [] [] [] [] → ShowsTables S w d (t ∷ []) → ⊥
 no-table S w d t says h = apart (ap (λ (x : Told). x .number) (h [] [] [] [] (Shown 0) [] [] [] [] says .0)) refl

@@ -38,7 +38,7 @@ use Rattle.plain_record.specs.Run.{Steps, World, Event, Chain}
 use Rattle.plain_record.specs.Claim.{Claim, Holds}
 use Rattle.plain_record.specs.Shows.{ShowsVectors}
 use Rattle.plain_record.specs.Wrong.{unchanged, keepsSets, unraised, leavesEpoch, unjudged, judgesNothing, unaware, forgetsWaiting, CommitLeaves, leavesPart, PinsNext, answersNext, PinsNothing, countsNoPin, PinsAnyway, countsRefused, UnpinsNothing, keepsPin, VacuumsTo, nothing, listsNothing, portBound, keepsListed, countsOneMore, loweredBound, keepsOwnEpoch, unguarded, ignoresPins, losesPairs, losesVectors, VacuumsAnyway, letsGoRefused, showsCurrent, showsCurrentVectors, refusesShow, Refuted, WrongRefuted}
-use Rattle.plain_record.proofs.Events.{apart, not-empty, holdsPairs, noTables, noPairs, noVectors, holdingAll, holding, few-all, few, unpinned, once, first, begun, drawn, drawnVector, appended, listedBy, draws, drawsVector, commits, pins, unpins, vacuums, commitRefused, pinRefused, vacuumRefused, begins, drew, drew-vector, committed, pinned, released, vacuumed, fresh-says, draw-says, draw-vector-says, creates, adds, deletes, tables, pair, vectorOf, opsTAD, frameTAD, afterTAD, commitTAD, fits-TAD, says-TAD, on-TAD, opsNone, frameNone, afterNone, opsT, frameT, afterT, commitNone, commitT, says-none, no-table, a-table, recorded, opsTA, frameTA, afterTA, commitTA, says-TA, opsTAV, frameTAV, afterTAV, commitTAV, says-TAV, frameD, no-pair, recordedPair}
+use Rattle.plain_record.proofs.Events.{apart, not-empty, holdsPairs, noTables, noPairs, noVectors, holdingAll, holding, few-all, few, unpinned, once, first, begun, drawn, drawnVector, appended, listedBy, draws, drawsVector, commits, pins, unpins, vacuums, commitRefused, pinRefused, vacuumRefused, begins, drew, drew-vector, committed, pinned, released, vacuumed, fresh-says, draw-says, draw-vector-says, adds, deletes, tables, pair, vectorOf, opsTAD, frameTAD, afterTAD, commitTAD, fits-TAD, says-TAD, on-TAD, opsNone, frameNone, afterNone, opsT, frameT, afterT, commitNone, commitT, says-none, no-table, a-table, recorded, opsTA, frameTA, afterTA, commitTA, says-TA, opsTAV, frameTAV, afterTAV, commitTAV, says-TAV, frameD, no-pair, recordedPair}
 use Rattle.plain_record.proofs.WrongManifests.{opens-empty, reads-first, reads-to-room, counts-early, forgets-ids, appends-no-end, rewrites-no-end, refuses-reopen}
 use Rattle.plain_record.proofs.WrongTables.{forgets-pairs, reuses-id, creates-refused, leaves-rowsets, leaves-vectors, keeps-taken, appends-new-alone}
 

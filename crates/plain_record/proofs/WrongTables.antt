@@ -4,7 +4,6 @@ use mathlib.Core.Bool.{false, true≢false}
 use mathlib.Core.List.{List, [], _∷_, _++_}
 use Prim.Native.Nat.{ℕ}
 use native.Mathlib.Omega.{arith}
-use lib.ListN.{take}
 use Rattle.columns.specs.Rows.{rows}
 use Rattle.ids.specs.declared.TableNo.{TableNo}
 use Rattle.ids.specs.declared.refusal.Refusal.the-variants.{OutputTooShort, BadManager}
@@ -12,7 +11,7 @@ use Rattle.ids.specs.Answers.{Told}
 use Rattle.text.specs.Class.{isDigit, isLower}
 use Rattle.text.specs.Name.{isNameByte, isName}
 use Rattle.text.specs.Decimal.{digitsBy, digits, readOn, readIn, readAt}
-use Rattle.manifest.specs.Lines.{fieldAt, named as namedAt, twoFields, threeFields, tableFields, lineBy, lineOf, fieldsText, textOf}
+use Rattle.manifest.specs.Lines.{fieldAt, named as namedAt, twoFields, tableFields, lineBy, lineOf, fieldsText, textOf}
 use Rattle.manifest.specs.Split.{linesOn, lines}
 use Rattle.snapshot.specs.declared.rowsets.Rowsets.{Rowsets}
 use Rattle.snapshot.specs.Entries.{goneAt, shownAt}
@@ -35,7 +34,7 @@ use Rattle.plain_record.specs.Run.{Steps, World, Event, onward, Chain}
 use Rattle.plain_record.specs.Claim.{Claim, Holds}
 use Rattle.plain_record.specs.Shows.{ShowsPairs}
 use Rattle.plain_record.specs.Wrong.{LocksForgetting, forgetsPairs, reusesId, createsRefused, leavesRowsets, leavesVectors, keepsTaken, appendsNewAlone, Refuted}
-use Rattle.plain_record.proofs.Events.{apart, not-empty, places, holdsPairs, noTables, noPairs, holdingAll, holding, few-all, few, unpinned, no-pins, first, begun, drawn, appended, createdBy, lockedBy, rewrittenBy, draws, drawsVector, createsTable, drops, compacts, locks, reopens, createRefused, telling, begins, drew, drew-vector, committed, made-table, dropped, compacted, took-lock, reopened, fresh-says, draw-says, draw-vector-says, name, tables, locked, pair, vectorOf, frameT, frameTA, afterTA, commitTA, says-TA, CommitsTA, on-TA, opsTAV, frameTAV, afterTAV, commitTAV, says-TAV, frameD, no-pair, recordedPair}
+use Rattle.plain_record.proofs.Events.{apart, not-empty, places, holdsPairs, noTables, noPairs, holdingAll, holding, few-all, few, unpinned, no-pins, first, begun, drawn, appended, createdBy, lockedBy, rewrittenBy, draws, drawsVector, createsTable, drops, compacts, locks, reopens, createRefused, telling, begins, drew, drew-vector, committed, made-table, dropped, compacted, took-lock, reopened, fresh-says, draw-says, draw-vector-says, name, tables, locked, pair, vectorOf, frameT, createdT, fits-T, frameTA, afterTA, commitTA, says-TA, CommitsTA, on-TA, opsTAV, frameTAV, afterTAV, commitTAV, says-TAV, frameD, no-pair, recordedPair}
 
 abbrev table : TableNo
 table = record { 0 = 0 }
@@ -57,16 +56,13 @@ reuses-id claim =
     true≢false (sym (h .agrees .next))
 
 -- a create that is lent nothing leaves the table
-abbrev createdT : VersionManager
-createdT = holding 1 1 0 tables noPairs 12
-
 abbrev notCreated : Created
 notCreated = record { manager = createdT; answer = NotCreated OutputTooShort }
 
 anyway-says : createsRefused .create (first .manager) 7 name [] notCreated []
 unfolding rows textOf fieldsText digits digitsBy isName isNameByte isDigit isLower
 anyway-says =
-    record { answer = refl; manager = record { fits = few 1 1 0 tables noPairs 12 (omega arith) (omega arith); state = refl }; bytes = refl }
+    record { answer = refl; manager = record { fits = fits-T; state = refl }; bytes = refl }
 
 pub creates-refused : Refuted createsRefused
 creates-refused claim =

@@ -33,7 +33,6 @@ use Rattle.table.specs.Create.{createdBy}
 use Rattle.table.specs.Compact.{compactedBy}
 use Rattle.vacuum.specs.LetGo.{vacuumList, staysBy, vacuumed}
 use Rattle.vacuum.specs.Says.{boundOf, listOf}
-use Rattle.show.specs.declared.ShowAnswer.{ShowAnswer}
 use Rattle.show.specs.Says.{TablesShown}
 use Rattle.version_manager.specs.declared.VersionManager.{VersionManager}
 use Rattle.version_manager.specs.declared.Locked.{Locked}
@@ -57,98 +56,64 @@ use Rattle.storage.specs.declared.Reopened.{Reopened}
 use Rattle.storage.specs.Reopen.{openedOf, reopenOf, reopenTold, ReopenIs, ReopenSays}
 use Rattle.plain_record.specs.Run.{Steps, port}
 use Rattle.plain_record.specs.Claim.{Claim}
+open Steps port using (lock, commit, create, drop, compact, pin, unpin, vacuum, reopen, showTables, showPairs, showVectors)
 
--- what a call may return and leave
-abbrev pub Locks : Type 1
-Locks = VersionManager → TableNo → Locked → Type 0
-
-abbrev pub Commits : Type 1
-Commits = VersionManager → ℕ → List Operation → List ℕ → Committed → List ℕ → Type 0
-
-abbrev pub Creates : Type 1
-Creates = VersionManager → ℕ → List ℕ → List ℕ → Created → List ℕ → Type 0
-
-abbrev pub Drops : Type 1
-Drops = VersionManager → ℕ → List ℕ → Committed → List ℕ → Type 0
-
-abbrev pub Compacts : Type 1
-Compacts = VersionManager → ℕ → List ℕ → List ℕ → List ℕ → Committed → List ℕ → Type 0
-
-abbrev pub PinsBy : Type 1
-PinsBy = VersionManager → PinBook → PinAnswer → PinBook → Type 0
-
-abbrev pub Unpins : Type 1
-Unpins = VersionManager → ℕ → PinBook → UnpinAnswer → PinBook → Type 0
-
-abbrev pub Vacuums : Type 1
-Vacuums = VersionManager → PinBook → List ℕ → List ℕ → Vacuumed → List ℕ → List ℕ → Type 0
-
-abbrev pub Reopens : Type 1
-Reopens = List ℕ → List ℕ → Reopened → List ℕ → Type 0
-
-abbrev pub ShowsTablesBy : Type 1
-ShowsTablesBy = VersionManager → PinBook → ℕ → List ℕ → List ℕ → List ℕ → List ℕ → ShowAnswer → List ℕ → List ℕ → List ℕ → List ℕ → Type 0
-
-abbrev pub ShowsPairsBy : Type 1
-ShowsPairsBy = VersionManager → PinBook → ℕ → List ℕ → List ℕ → ShowAnswer → List ℕ → List ℕ → Type 0
-
-abbrev pub ShowsVectorsBy : Type 1
-ShowsVectorsBy = VersionManager → PinBook → ℕ → List ℕ → List ℕ → List ℕ → ShowAnswer → List ℕ → List ℕ → List ℕ → Type 0
+-- what may stand in the place of a call's contract
+abbrev pub Like : {A : Type 1} → A → Type 1
+Like {A} says = A
 
 -- the port with these calls in place of its own
-abbrev pub exchanged : Locks → Commits → Creates → Drops → Compacts → PinsBy → Unpins → Vacuums → Reopens → ShowsTablesBy → ShowsPairsBy → ShowsVectorsBy → Steps
-exchanged l c k d m p u v o t s x =
+abbrev pub exchanged : Like lock → Like commit → Like create → Like drop → Like compact → Like pin → Like unpin → Like vacuum → Like reopen → Like showTables → Like showPairs → Like showVectors → Steps
+exchanged lock commit create drop compact pin unpin vacuum reopen showTables showPairs showVectors =
     record {
       fresh = port .fresh;
       drawRowset = port .drawRowset;
       drawVector = port .drawVector;
       group = port .group;
-      lock = l;
+      lock = lock;
       unlock = port .unlock;
-      commit = c;
-      create = k;
-      drop = d;
-      compact = m;
-      pin = p;
-      unpin = u;
-      vacuum = v;
-      reopen = o;
-      showTables = t;
-      showPairs = s;
-      showVectors = x;
+      commit = commit;
+      create = create;
+      drop = drop;
+      compact = compact;
+      pin = pin;
+      unpin = unpin;
+      vacuum = vacuum;
+      reopen = reopen;
+      showTables = showTables;
+      showPairs = showPairs;
+      showVectors = showVectors;
     }
 
-open Steps port using (lock, commit, create, drop, compact, pin, unpin, vacuum, reopen, showTables, showPairs, showVectors)
-
--- with one of them, f, and the port's others
-abbrev pub locking : Locks → Steps
+-- with one of them
+abbrev pub locking : Like lock → Steps
 locking f = exchanged f commit create drop compact pin unpin vacuum reopen showTables showPairs showVectors
 
-abbrev pub committing : Commits → Steps
+abbrev pub committing : Like commit → Steps
 committing f = exchanged lock f create drop compact pin unpin vacuum reopen showTables showPairs showVectors
 
-abbrev pub creating : Creates → Steps
+abbrev pub creating : Like create → Steps
 creating f = exchanged lock commit f drop compact pin unpin vacuum reopen showTables showPairs showVectors
 
-abbrev pub dropping : Drops → Steps
+abbrev pub dropping : Like drop → Steps
 dropping f = exchanged lock commit create f compact pin unpin vacuum reopen showTables showPairs showVectors
 
-abbrev pub compacting : Compacts → Steps
+abbrev pub compacting : Like compact → Steps
 compacting f = exchanged lock commit create drop f pin unpin vacuum reopen showTables showPairs showVectors
 
-abbrev pub pinning : PinsBy → Steps
+abbrev pub pinning : Like pin → Steps
 pinning f = exchanged lock commit create drop compact f unpin vacuum reopen showTables showPairs showVectors
 
-abbrev pub unpinning : Unpins → Steps
+abbrev pub unpinning : Like unpin → Steps
 unpinning f = exchanged lock commit create drop compact pin f vacuum reopen showTables showPairs showVectors
 
-abbrev pub vacuuming : Vacuums → Steps
+abbrev pub vacuuming : Like vacuum → Steps
 vacuuming f = exchanged lock commit create drop compact pin unpin f reopen showTables showPairs showVectors
 
-abbrev pub reopening : Reopens → Steps
+abbrev pub reopening : Like reopen → Steps
 reopening f = exchanged lock commit create drop compact pin unpin vacuum f showTables showPairs showVectors
 
-abbrev pub showing : ShowsTablesBy → ShowsPairsBy → ShowsVectorsBy → Steps
+abbrev pub showing : Like showTables → Like showPairs → Like showVectors → Steps
 showing t s x = exchanged lock commit create drop compact pin unpin vacuum reopen t s x
 
 -- an accepted lock forgets the pairs
@@ -237,13 +202,13 @@ CommitLeaves (refused k) m os out r out′ =
 abbrev pub leavesPart : Steps
 leavesPart = committing (λ m n os out r out′. CommitLeaves (outcomeOf m n os (length out)) m os out r out′)
 
--- a create answers and appends as the port's does, under its verdict v; what it hands back is said of v, the manager before it and the state after the commit
+-- a create answers and appends as the port's does; `Leaves` says what it hands back, of its verdict, the manager before it and the state that the commit makes
 pub record CreatesTo (Leaves : Verdict → VersionManager → State → VersionManager → Type 0) (m : VersionManager) (shape : ℕ) (name out : List ℕ) (r : Created) (out′ : List ℕ) : Type 0 where
   pub answer : createTold (r .answer) ≡ told (createVerdict m shape name (length out)) (heldBy m .nextTable ∷ (current m + 1) ∷ length (appendOf (createdBy (heldBy m) shape name)) ∷ [])
   pub manager : Leaves (createVerdict m shape name (length out)) m (committed (createdBy (heldBy m) shape name) (heldBy m)) (r .manager)
   pub bytes : out′ ≡ after (createVerdict m shape name (length out)) (over (appendOf (createdBy (heldBy m) shape name)) out) out
 
--- it leaves the next table id as it is, which is to be used again
+-- it does not raise the next table id, so that the same one would come again
 abbrev pub reusesId : Steps
 reusesId = creating (CreatesTo (λ v m s. HandsBack v m (withNext s (heldBy m .nextTable) (s .nextRowset) (s .nextVector))))
 
@@ -251,7 +216,7 @@ reusesId = creating (CreatesTo (λ v m s. HandsBack v m (withNext s (heldBy m .n
 abbrev pub createsRefused : Steps
 createsRefused = creating (CreatesTo (λ v m s n. Manages n s))
 
--- a drop or a compaction commits os under the port's verdict v, and appends the lines of `written`
+-- a drop or a compaction commits os under the port's verdict v, and appends the frame of `written`
 pub record Makes (v : Verdict) (os written : List Operation) (m : VersionManager) (out : List ℕ) (r : Committed) (out′ : List ℕ) : Type 0 where
   pub answer : commitTold (r .answer) ≡ told v ((current m + 1) ∷ length (appendOf written) ∷ [])
   pub manager : HandsBack v m (committed os (heldBy m)) (r .manager)
@@ -272,7 +237,7 @@ abbrev pub keepsTaken : Steps
 keepsTaken =
     compacting (λ m t new taken out. let os = compactOperations t new [] [] in Makes (compactVerdict m t new taken (length out)) os os m out)
 
--- a compaction deletes the taken rowsets, and appends the new one's line alone
+-- a compaction commits what the port does, and appends the new rowset's line alone
 abbrev pub appendsNewAlone : Steps
 appendsNewAlone =
     compacting (λ m t new taken out. Makes (compactVerdict m t new taken (length out)) (compactedBy (heldBy m) t new taken) (compactOperations t new [] []) m out)
