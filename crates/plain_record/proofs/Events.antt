@@ -74,7 +74,7 @@ not-empty {A} e = true≢false (ap isNone e)
 abbrev pub places : ℕ → List ℕ → List ℕ
 places n l = l ++ replicate (n - length l) 0
 
-abbrev holds : List ℕ → List ℕ → List ℕ → List ℕ → List Bool → ℕ → Tables
+abbrev pub holds : List ℕ → List ℕ → List ℕ → List ℕ → List Bool → ℕ → Tables
 holds i h l s k n =
     record {
       ids = places mostTables i;
@@ -118,10 +118,10 @@ holdingAll e t r v ts rs vs n =
 abbrev pub holding : ℕ → ℕ → ℕ → Tables → Rowsets → ℕ → VersionManager
 holding e t r ts rs n = holdingAll e t r 0 ts rs noVectors n
 
-pub few-all : (e t r v : ℕ) (ts : Tables) (rs : Rowsets) (vs : Vectors) (n : ℕ) → ts .count ≤ 1 → rs .count ≤ 2 → vs .count ≤ 1 → Fit (holdingAll e t r v ts rs vs n .inner)
+pub few-all : (e t r v : ℕ) (ts : Tables) (rs : Rowsets) (vs : Vectors) (n : ℕ) → ts .count ≤ 2 → rs .count ≤ 3 → vs .count ≤ 1 → Fit (holdingAll e t r v ts rs vs n .inner)
 few-all e t r v ts rs vs n h k l = record { tables = omega arith; rowsets = omega arith; vectors = omega arith }
 
-pub few : (e t r : ℕ) (ts : Tables) (rs : Rowsets) (n : ℕ) → ts .count ≤ 1 → rs .count ≤ 2 → Fit (holding e t r ts rs n .inner)
+pub few : (e t r : ℕ) (ts : Tables) (rs : Rowsets) (n : ℕ) → ts .count ≤ 2 → rs .count ≤ 3 → Fit (holding e t r ts rs n .inner)
 few e t r ts rs n h k = few-all e t r 0 ts rs noVectors n h k (omega arith)
 
 abbrev pub unpinned : PinBook
@@ -141,11 +141,18 @@ abbrev pub begun : World
 begun = world (first .manager) unpinned [] []
 
 -- Accepted calls. A commit and a reopen are lent what they then write, a vacuum a place in each slice.
-abbrev pub telling : List ℕ → Told
+abbrev telling : List ℕ → Told
 telling l = record { number = 0; place = 0; values = l }
 
+abbrev pub drawnBy : VersionManager → ℕ → DrawnRowset
+drawnBy m i = record { manager = m; answer = rowset.Id (record { 0 = i }) }
+
+-- the rowset ids below n drawn
+abbrev pub drawnTo : ℕ → VersionManager
+drawnTo n = holding 0 0 n noTables noPairs 0
+
 abbrev pub drawn : DrawnRowset
-drawn = record { manager = holding 0 0 1 noTables noPairs 0; answer = rowset.Id (record { 0 = 0 }) }
+drawn = drawnBy (drawnTo 1) 0
 
 abbrev pub drawnVector : DrawnVector
 drawnVector = record { manager = holdingAll 0 0 1 1 noTables noPairs noVectors 0; answer = vector.Id (record { 0 = 0 }) }
@@ -165,8 +172,12 @@ listedBy m n = record { manager = m; answer = Listed n }
 abbrev pub rewrittenBy : VersionManager → ℕ → Reopened
 rewrittenBy m n = record { manager = m; book = unpinned; answer = Rewritten n }
 
+abbrev pub drawsOn : World → VersionManager → ℕ → Event
+drawsOn w m i =
+    record { before = w; call = drawRowset; told = telling (i ∷ []); listed = []; after = onward m (w .book) (telling (i ∷ [])) w }
+
 abbrev pub draws : Event
-draws = record { before = begun; call = drawRowset; told = telling (0 ∷ []); listed = []; after = world (drawn .manager) unpinned [] [] }
+draws = drawsOn begun (drawn .manager) 0
 
 abbrev pub drawsVector : Event
 drawsVector =
@@ -263,8 +274,11 @@ module _ (S : Steps) where
   pub begins : S .fresh first → Starts S begun
   begins h = record { opened = first; says = h; fresh = refl }
 
+  pub drew-on : (w : World) (m : VersionManager) (i : ℕ) → S .drawRowset (w .manager) (drawnBy m i) → Link S (drawsOn w m i)
+  drew-on w m i h = record { result = drawnBy m i; says = h; told = refl; none = refl; after = refl }
+
   pub drew : S .drawRowset (first .manager) drawn → Link S draws
-  drew h = record { result = drawn; says = h; told = refl; none = refl; after = refl }
+  drew h = drew-on begun (drawn .manager) 0 h
 
   pub drew-vector : S .drawVector (drawn .manager) drawnVector → Link S drawsVector
   drew-vector h = record { result = drawnVector; says = h; told = refl; none = refl; after = refl }
@@ -363,7 +377,7 @@ pub says-TAD : CommitSays (drawn .manager) (length opsTAD) opsTAD frameTAD (appe
 unfolding rows stepOf textOf fieldsText digits digitsBy isName isNameByte isDigit isLower goneAt shownAt
 says-TAD = (refl, record { fits = fits-TAD; state = refl }, refl)
 
-abbrev pub CommitsTAD : Steps → Type 0
+abbrev CommitsTAD : Steps → Type 0
 CommitsTAD S = S .commit (drawn .manager) (length opsTAD) opsTAD frameTAD (appended afterTAD 1 24) frameTAD
 
 -- the claim of a draw, this commit and further calls
@@ -438,7 +452,7 @@ pub says-TA : CommitSays (drawn .manager) (length opsTA) opsTA frameTA (appended
 unfolding rows stepOf textOf fieldsText digits digitsBy isName isNameByte isDigit isLower goneAt shownAt
 says-TA = (refl, record { fits = few 1 1 1 tables (pair 1 0) 18 (omega arith) (omega arith); state = refl }, refl)
 
-abbrev pub CommitsTA : Steps → Type 0
+abbrev CommitsTA : Steps → Type 0
 CommitsTA S = S .commit (drawn .manager) (length opsTA) opsTA frameTA (appended afterTA 1 18) frameTA
 
 -- the claim of a draw, this commit and further calls

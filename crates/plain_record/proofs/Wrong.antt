@@ -38,7 +38,7 @@ use Rattle.plain_record.specs.Run.{Steps, World, Event, Chain}
 use Rattle.plain_record.specs.Claim.{Claim, Holds}
 use Rattle.plain_record.specs.Shows.{ShowsVectors}
 use Rattle.plain_record.specs.Wrong.{unchanged, keepsSets, unraised, leavesEpoch, unjudged, judgesNothing, unaware, forgetsWaiting, CommitLeaves, leavesPart, PinsNext, answersNext, PinsNothing, countsNoPin, PinsAnyway, countsRefused, UnpinsNothing, keepsPin, VacuumsTo, nothing, listsNothing, portBound, keepsListed, countsOneMore, loweredBound, keepsOwnEpoch, unguarded, ignoresPins, losesPairs, losesVectors, VacuumsAnyway, letsGoRefused, showsCurrent, showsCurrentVectors, refusesShow, Refuted, WrongRefuted}
-use Rattle.plain_record.proofs.Events.{apart, not-empty, holdsPairs, noTables, noPairs, noVectors, holdingAll, holding, few-all, few, unpinned, once, first, begun, drawn, drawnVector, appended, listedBy, draws, drawsVector, commits, pins, unpins, vacuums, commitRefused, pinRefused, vacuumRefused, begins, drew, drew-vector, committed, pinned, released, vacuumed, fresh-says, draw-says, draw-vector-says, adds, deletes, tables, pair, vectorOf, opsTAD, frameTAD, afterTAD, commitTAD, fits-TAD, says-TAD, on-TAD, opsNone, frameNone, afterNone, opsT, frameT, afterT, commitNone, commitT, says-none, no-table, a-table, recorded, opsTA, frameTA, afterTA, commitTA, says-TA, opsTAV, frameTAV, afterTAV, commitTAV, says-TAV, frameD, no-pair, recordedPair}
+use Rattle.plain_record.proofs.Events.{apart, not-empty, holdsPairs, noTables, noPairs, noVectors, holdingAll, holding, few-all, few, unpinned, once, first, begun, drawn, drawnVector, appended, listedBy, draws, drawsVector, commits, pins, unpins, vacuums, commitRefused, pinRefused, vacuumRefused, begins, drew, drew-vector, committed, pinned, released, vacuumed, fresh-says, draw-says, draw-vector-says, adds, deletes, tables, pair, vectorOf, opsTAD, frameTAD, afterTAD, commitTAD, fits-TAD, says-TAD, on-TAD, opsNone, frameNone, afterNone, opsT, frameT, afterT, commitNone, commitT, says-none, no-table, a-table, recorded, opsTA, frameTA, afterTA, commitTA, says-TA, on-TA, opsTAV, frameTAV, afterTAV, commitTAV, says-TAV, frameD, no-pair, recordedPair}
 use Rattle.plain_record.proofs.WrongManifests.{opens-empty, reads-first, reads-to-room, counts-early, forgets-ids, appends-no-end, rewrites-no-end, refuses-reopen}
 use Rattle.plain_record.proofs.WrongTables.{forgets-pairs, reuses-id, creates-refused, leaves-rowsets, leaves-vectors, keeps-taken, appends-new-alone}
 
@@ -259,18 +259,10 @@ module _ (S : Steps) (claim : Claim S) (fresh : S .fresh first) (draw : S .drawR
     (delete : S .commit afterTA (length opsD) opsD frameD (appended (afterD (pair 1 2)) 2 10) frameD) where
   on-D : (es : List Event) → Chain S (commitD .after) es → Holds S begun (draws ∷ commitTA ∷ pinTA ∷ commitD ∷ es)
   on-D es c =
-      claim begun (draws ∷ commitTA ∷ pinTA ∷ commitD ∷ es) (begins S fresh) (
+      on-TA S claim fresh draw add (pinTA ∷ commitD ∷ es) (
         refl,
-        drew S draw,
-        (
-          refl,
-          committed S (draws .after) opsTA afterTA 1 18 frameTA 0 add,
-          (
-            refl,
-            pinned S (commitTA .after) 1 once guard,
-            (refl, committed S (pinTA .after) opsD (afterD (pair 1 2)) 2 10 frameD 0 delete, c),
-          ),
-        ),
+        pinned S (commitTA .after) 1 once guard,
+        (refl, committed S (pinTA .after) opsD (afterD (pair 1 2)) 2 10 frameD 0 delete, c),
       )
 
 -- a vacuum ignores the pin

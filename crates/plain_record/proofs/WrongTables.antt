@@ -4,74 +4,114 @@ use mathlib.Core.Bool.{false, true≢false}
 use mathlib.Core.List.{List, [], _∷_, _++_}
 use Prim.Native.Nat.{ℕ}
 use native.Mathlib.Omega.{arith}
+use lib.ListN.{length}
 use Rattle.columns.specs.Rows.{rows}
 use Rattle.ids.specs.declared.TableNo.{TableNo}
-use Rattle.ids.specs.declared.refusal.Refusal.the-variants.{OutputTooShort, BadManager}
+use Rattle.ids.specs.declared.refusal.Refusal.the-variants.{NameTaken, OutputTooShort, BadManager}
+use Rattle.ids.specs.Names.{longestName}
 use Rattle.ids.specs.Answers.{Told}
 use Rattle.text.specs.Class.{isDigit, isLower}
 use Rattle.text.specs.Name.{isNameByte, isName}
 use Rattle.text.specs.Decimal.{digitsBy, digits, readOn, readIn, readAt}
+use Rattle.manifest.specs.Operations.{Operation, createTable, dropTable, addRowset}
 use Rattle.manifest.specs.Lines.{fieldAt, named as namedAt, twoFields, tableFields, lineBy, lineOf, fieldsText, textOf}
 use Rattle.manifest.specs.Split.{linesOn, lines}
 use Rattle.snapshot.specs.declared.rowsets.Rowsets.{Rowsets}
+use Rattle.snapshot.specs.declared.tables.Tables.{Tables}
 use Rattle.snapshot.specs.Entries.{goneAt, shownAt}
+use Rattle.operations.specs.Steps.{stepOf}
 use Rattle.table.specs.Laws.{Narrow}
 use Rattle.compaction.specs.declared.NewRowset.{NewRowset}
 use Rattle.compaction.specs.declared.NewRowset.the-variants as new
 use Rattle.version_manager.specs.declared.VersionManager.{VersionManager}
-use Rattle.version_manager.specs.declared.RowsetAnswer.the-variants as rowset
-use Rattle.version_manager.specs.declared.DrawnRowset.{DrawnRowset}
 use Rattle.version_manager.specs.declared.CreateAnswer.the-variants.{Refused as NotCreated}
 use Rattle.version_manager.specs.declared.Created.{Created}
 use Rattle.version_manager.specs.Managers.{heldBy}
 use Rattle.version_manager.specs.Draw.{DrawRowsetSays}
 use Rattle.version_manager.specs.Lock.{LockSays}
+use Rattle.version_manager.specs.Commit.{CommitSays}
+use Rattle.version_manager.specs.Compact.{CompactSays}
 use Rattle.version_manager.specs.Show.{ShowPairsSays, ShowVectorsSays}
 use Rattle.show.specs.declared.ShowAnswer.the-variants.{Shown, Refused as NotShown}
 use Rattle.storage.specs.Reopen.{ReopenSays}
-use Rattle.plain_record.specs.Calls.{drawRowset}
-use Rattle.plain_record.specs.Run.{Steps, World, Event, onward, Chain}
+use Rattle.plain_record.specs.Run.{Steps, World, Event, Chain}
 use Rattle.plain_record.specs.Claim.{Claim, Holds}
 use Rattle.plain_record.specs.Shows.{ShowsPairs}
-use Rattle.plain_record.specs.Wrong.{LocksForgetting, forgetsPairs, reusesId, createsRefused, leavesRowsets, leavesVectors, keepsTaken, appendsNewAlone, Refuted}
-use Rattle.plain_record.proofs.Events.{apart, not-empty, places, holdsPairs, noTables, noPairs, holdingAll, holding, few-all, few, unpinned, no-pins, first, begun, drawn, appended, createdBy, lockedBy, rewrittenBy, draws, drawsVector, createsTable, drops, compacts, locks, reopens, createRefused, telling, begins, drew, drew-vector, committed, made-table, dropped, compacted, took-lock, reopened, fresh-says, draw-says, draw-vector-says, name, tables, locked, pair, vectorOf, frameT, createdT, fits-T, frameTA, afterTA, commitTA, says-TA, CommitsTA, on-TA, opsTAV, frameTAV, afterTAV, commitTAV, says-TAV, frameD, no-pair, recordedPair}
+use Rattle.plain_record.specs.Wrong.{Like, compacting, LocksForgetting, forgetsPairs, reusesId, createsRefused, leavesRowsets, leavesVectors, keepsTaken, appendsNewAlone, Refuted}
+use Rattle.plain_record.proofs.Events.{apart, not-empty, places, holds, holdsPairs, noTables, noPairs, holdingAll, holding, few-all, few, unpinned, no-pins, first, begun, drawnBy, drawnTo, appended, createdBy, lockedBy, rewrittenBy, drawsOn, draws, drawsVector, commits, createsTable, drops, compacts, locks, reopens, createRefused, begins, drew-on, drew, drew-vector, committed, made-table, dropped, compacted, took-lock, reopened, fresh-says, draw-says, draw-vector-says, name, tables, locked, pair, vectorOf, frameT, createdT, fits-T, afterTA, commitTA, says-TA, on-TA, opsTAV, frameTAV, afterTAV, commitTAV, says-TAV, frameD, no-pair, recordedPair}
 
 abbrev table : TableNo
 table = record { 0 = 0 }
 
--- a create leaves the next table id at 0
-abbrev again : VersionManager
-again = holding 1 0 0 tables noPairs 12
+-- Two tables are created and dropped, so that their ids are used; a create then takes 0 again.
+abbrev opsTXTX : List Operation
+opsTXTX = createTable 0 7 name ∷ dropTable 0 ∷ createTable 1 7 name ∷ dropTable 1 ∷ []
 
-again-says : reusesId .create (first .manager) 7 name frameT (createdBy again 0 1 12) frameT
+abbrev frameTXTX : List ℕ
+frameTXTX = 66 ∷ 10 ∷ 84 ∷ 44 ∷ 48 ∷ 44 ∷ 55 ∷ 44 ∷ 97 ∷ 10 ∷ 88 ∷ 44 ∷ 48 ∷ 10 ∷ 84 ∷ 44 ∷ 49 ∷ 44 ∷ 55 ∷ 44 ∷ 97 ∷ 10 ∷ 88 ∷ 44 ∷ 49 ∷ 10 ∷ 69 ∷ 10 ∷ []
+
+abbrev afterTXTX : VersionManager
+afterTXTX = holding 1 2 0 noTables noPairs 28
+
+abbrev commitTXTX : Event
+commitTXTX = commits begun opsTXTX afterTXTX 1 28 frameTXTX 0
+
+abbrev again : VersionManager
+again = holding 2 1 0 tables noPairs 40
+
+says-TXTX : CommitSays (first .manager) (length opsTXTX) opsTXTX frameTXTX (appended afterTXTX 1 28) frameTXTX
+unfolding rows stepOf textOf fieldsText digits digitsBy isName isNameByte isDigit isLower goneAt shownAt
+says-TXTX = (refl, record { fits = few 1 2 0 noTables noPairs 28 (omega arith) (omega arith); state = refl }, refl)
+
+again-says : reusesId .create afterTXTX 7 name frameT (createdBy again 0 2 12) frameT
 unfolding rows textOf fieldsText digits digitsBy isName isNameByte isDigit isLower
 again-says =
-    record { answer = refl; manager = record { fits = few 1 0 0 tables noPairs 12 (omega arith) (omega arith); state = refl }; bytes = refl }
+    record { answer = refl; manager = record { fits = few 2 1 0 tables noPairs 40 (omega arith) (omega arith); state = refl }; bytes = refl }
 
 pub reuses-id : Refuted reusesId
 reuses-id claim =
     let S = reusesId in
+    let w = commitTXTX .after in
     let h =
-    claim begun (createsTable begun 7 name again 0 1 12 frameT ∷ []) (begins S fresh-says) (refl, made-table S begun 7 name again 0 1 12 frameT (omega arith) again-says, tt) in
+    claim begun (commitTXTX ∷ createsTable w 7 name again 0 2 12 frameT ∷ []) (begins S fresh-says) (
+      refl,
+      committed S begun opsTXTX afterTXTX 1 28 frameTXTX 0 says-TXTX,
+      (refl, made-table S w 7 name again 0 2 12 frameT (omega arith) again-says, tt),
+    ) in
     true≢false (sym (h .agrees .next))
 
--- a create that is lent nothing leaves the table
-abbrev notCreated : Created
-notCreated = record { manager = createdT; answer = NotCreated OutputTooShort }
+-- A table's name is taken: 15 refuses the create, which leaves a second table of that name.
+abbrev createT : Event
+createT = createsTable begun 7 name createdT 0 1 12 frameT
 
-anyway-says : createsRefused .create (first .manager) 7 name [] notCreated []
+abbrev twice : VersionManager
+twice = holding 2 2 0 (holds (0 ∷ 1 ∷ []) (7 ∷ 7 ∷ []) (1 ∷ 1 ∷ []) (places longestName name ++ name) [] 2) noPairs 24
+
+abbrev notCreated : Created
+notCreated = record { manager = twice; answer = NotCreated (NameTaken 0) }
+
+create-says : createsRefused .create (first .manager) 7 name frameT (createdBy createdT 0 1 12) frameT
+unfolding rows textOf fieldsText digits digitsBy isName isNameByte isDigit isLower
+create-says = record { answer = refl; manager = record { fits = fits-T; state = refl }; bytes = refl }
+
+anyway-says : createsRefused .create createdT 7 name [] notCreated []
 unfolding rows textOf fieldsText digits digitsBy isName isNameByte isDigit isLower
 anyway-says =
-    record { answer = refl; manager = record { fits = fits-T; state = refl }; bytes = refl }
+    record { answer = refl; manager = record { fits = few 2 2 0 (twice .inner .tables) noPairs 24 (omega arith) (omega arith); state = refl }; bytes = refl }
 
 pub creates-refused : Refuted createsRefused
 creates-refused claim =
     let S = createsRefused in
+    let w = createT .after in
     let h =
-    claim begun (createRefused begun 7 name createdT OutputTooShort ∷ []) (begins S fresh-says) (
+    claim begun (createT ∷ createRefused w 7 name twice (NameTaken 0) ∷ []) (begins S fresh-says) (
       refl,
-      record { narrow = omega arith; result = notCreated; left = []; says = anyway-says; told = refl; none = refl; after = refl },
-      tt,
+      made-table S begun 7 name createdT 0 1 12 frameT (omega arith) create-says,
+      (
+        refl,
+        record { narrow = omega arith; result = notCreated; left = []; says = anyway-says; told = refl; none = refl; after = refl },
+        tt,
+      ),
     ) in
     apart (h .agrees .epoch) refl
 
@@ -184,117 +224,146 @@ leaves-vectors claim =
     ) in
     apart (ap (λ (x : Told). x .number) (h .agrees .vectors 2 refl [] [] [] (NotShown BadManager) [] [] [] stays-shows .0)) refl
 
--- Rowset 0 is merged into rowset 1.
-abbrev drawnOne : DrawnRowset
-drawnOne = record { manager = holding 1 1 2 tables (pair 1 0) 18; answer = rowset.Id (record { 0 = 1 }) }
+-- Rowsets 0 and 1 are merged into 2, by a manager whose compactions alone are wrong.
+abbrev drawsTwo : Event
+drawsTwo = drawsOn (draws .after) (drawnTo 2) 1
 
-abbrev drawsOne : Event
-drawsOne =
-    record {
-      before = commitTA .after;
-      call = drawRowset;
-      told = telling (1 ∷ []);
-      listed = [];
-      after = onward (drawnOne .manager) unpinned (telling (1 ∷ [])) (commitTA .after);
-    }
+abbrev drawsThree : Event
+drawsThree = drawsOn (drawsTwo .after) (drawnTo 3) 2
 
-abbrev ready : VersionManager
-ready = holding 1 1 2 locked (pair 1 0) 18
+abbrev opsTAA : List Operation
+opsTAA = createTable 0 7 name ∷ addRowset 0 0 ∷ addRowset 0 1 ∷ []
 
-abbrev lockTA : Event
-lockTA = locks (drawsOne .after) table ready
+abbrev frameTAA : List ℕ
+frameTAA = 66 ∷ 10 ∷ 84 ∷ 44 ∷ 48 ∷ 44 ∷ 55 ∷ 44 ∷ 97 ∷ 10 ∷ 65 ∷ 44 ∷ 48 ∷ 44 ∷ 48 ∷ 10 ∷ 65 ∷ 44 ∷ 48 ∷ 44 ∷ 49 ∷ 10 ∷ 69 ∷ 10 ∷ []
+
+abbrev two : Rowsets
+two = holdsPairs (0 ∷ 0 ∷ []) (0 ∷ 1 ∷ []) (1 ∷ 1 ∷ []) (0 ∷ 0 ∷ []) 2
+
+abbrev afterTAA : Tables → VersionManager
+afterTAA l = holding 1 1 3 l two 24
+
+abbrev commitTAA : Event
+commitTAA = commits (drawsThree .after) opsTAA (afterTAA tables) 1 24 frameTAA 0
+
+abbrev lockTAA : Event
+lockTAA = locks (commitTAA .after) table (afterTAA locked)
+
+-- the third is added at a, and the two are deleted at d
+abbrev three : ℕ → ℕ → Rowsets
+three a d = holdsPairs (0 ∷ 0 ∷ 0 ∷ []) (0 ∷ 1 ∷ 2 ∷ []) (1 ∷ 1 ∷ a ∷ []) (d ∷ d ∷ 0 ∷ []) 3
 
 abbrev merged : NewRowset
-merged = new.One (record { 0 = 1 })
+merged = new.One (record { 0 = 2 })
 
-abbrev both : ℕ → ℕ → ℕ → Rowsets
-both a d b = holdsPairs (0 ∷ 0 ∷ []) (0 ∷ 1 ∷ []) (a ∷ b ∷ []) (d ∷ 0 ∷ []) 2
+abbrev frameA : List ℕ
+frameA = 66 ∷ 10 ∷ 65 ∷ 44 ∷ 48 ∷ 44 ∷ 50 ∷ 10 ∷ 69 ∷ 10 ∷ []
 
-abbrev frameA1 : List ℕ
-frameA1 = 66 ∷ 10 ∷ 65 ∷ 44 ∷ 48 ∷ 44 ∷ 49 ∷ 10 ∷ 69 ∷ 10 ∷ []
+abbrev lent : List ℕ
+lent = places 22 frameA
 
--- it is added, whatever becomes of the taken one: deleted at d, of a manifest of so many bytes
-abbrev afterA1 : ℕ → ℕ → VersionManager
-afterA1 d n = holding 2 1 2 locked (both 1 d 2) n
+abbrev afterMerge : ℕ → ℕ → VersionManager
+afterMerge d n = holding 2 1 3 locked (three 2 d) n
 
 abbrev merges : ℕ → ℕ → Event
-merges d n = compacts (lockTA .after) 0 merged (0 ∷ []) (afterA1 d n) 2 10 (places 16 frameA1)
+merges d n = compacts (lockTAA .after) 0 merged (0 ∷ 1 ∷ []) (afterMerge d n) 2 10 lent
 
-draw-says-one : DrawRowsetSays afterTA drawnOne
+draw-two : DrawRowsetSays (drawnTo 1) (drawnBy (drawnTo 2) 1)
+unfolding rows
+draw-two = record { answer = refl; manager = record { fits = few 0 0 2 noTables noPairs 0 (omega arith) (omega arith); state = refl } }
+
+draw-three : DrawRowsetSays (drawnTo 2) (drawnBy (drawnTo 3) 2)
+unfolding rows
+draw-three = record { answer = refl; manager = record { fits = few 0 0 3 noTables noPairs 0 (omega arith) (omega arith); state = refl } }
+
+says-TAA : CommitSays (drawnTo 3) (length opsTAA) opsTAA frameTAA (appended (afterTAA tables) 1 24) frameTAA
+unfolding rows stepOf textOf fieldsText digits digitsBy isName isNameByte isDigit isLower goneAt shownAt
+says-TAA = (refl, record { fits = few 1 1 3 tables two 24 (omega arith) (omega arith); state = refl }, refl)
+
+lock-says-TAA : LockSays (afterTAA tables) table (lockedBy (afterTAA locked))
 unfolding rows isName isNameByte isDigit isLower goneAt shownAt
-draw-says-one = record { answer = refl; manager = record { fits = few 1 1 2 tables (pair 1 0) 18 (omega arith) (omega arith); state = refl } }
+lock-says-TAA = record { answer = refl; manager = record { fits = few 1 1 3 locked two 24 (omega arith) (omega arith); state = refl } }
 
-lock-says-TA : LockSays (drawnOne .manager) table (lockedBy ready)
-unfolding rows isName isNameByte isDigit isLower goneAt shownAt
-lock-says-TA = record { answer = refl; manager = record { fits = few 1 1 2 locked (pair 1 0) 18 (omega arith) (omega arith); state = refl } }
+narrow-TAA : Narrow (heldBy (afterTAA locked))
+narrow-TAA = record { table = omega arith; rowset = omega arith; vector = omega arith }
 
-narrow-ready : Narrow (heldBy ready)
-narrow-ready = record { table = omega arith; rowset = omega arith; vector = omega arith }
+-- the claim of these calls and further ones
+module _ (f : Like CompactSays) (claim : Claim (compacting f)) (d n : ℕ) (says : f (afterTAA locked) 0 (2 ∷ []) (0 ∷ 1 ∷ []) lent (appended (afterMerge d n) 2 10) lent) where
+  on-merge : (es : List Event) → Chain (compacting f) (merges d n .after) es → Holds (compacting f) begun (draws ∷ drawsTwo ∷ drawsThree ∷ commitTAA ∷ lockTAA ∷ merges d n ∷ es)
+  on-merge es c =
+      let S = compacting f in
+      claim begun (draws ∷ drawsTwo ∷ drawsThree ∷ commitTAA ∷ lockTAA ∷ merges d n ∷ es) (begins S fresh-says) (
+        refl,
+        drew S draw-says,
+        (
+          refl,
+          drew-on S (draws .after) (drawnTo 2) 1 draw-two,
+          (
+            refl,
+            drew-on S (drawsTwo .after) (drawnTo 3) 2 draw-three,
+            (
+              refl,
+              committed S (drawsThree .after) opsTAA (afterTAA tables) 1 24 frameTAA 0 says-TAA,
+              (
+                refl,
+                took-lock S (commitTAA .after) table (afterTAA locked) lock-says-TAA,
+                (refl, compacted S (lockTAA .after) 0 merged (0 ∷ 1 ∷ []) (afterMerge d n) 2 10 lent narrow-TAA says, c),
+              ),
+            ),
+          ),
+        ),
+      )
 
--- a show that has more than one pair, where the record has one
+-- a show of more than one pair, where the record has one
 more-pairs : (S : Steps) (w : World) (d : ℕ) (k : List ℕ) → S .showPairs (w .manager) (w .book) d (5 ∷ []) (5 ∷ []) (NotShown OutputTooShort) (5 ∷ []) (5 ∷ []) → ShowsPairs S w d (k ∷ []) → ⊥
 more-pairs S w d k says h = apart (ap (λ (x : Told). x .number) (h (5 ∷ []) (5 ∷ []) (NotShown OutputTooShort) (5 ∷ []) (5 ∷ []) says .0)) refl
 
 abbrev mergedPair : List ℕ
-mergedPair = 0 ∷ 1 ∷ []
+mergedPair = 0 ∷ 2 ∷ []
 
--- the claim of a draw, a commit, a draw, a lock, this compaction and further calls, by a compaction that is wrong alone
-on-merge : (S : Steps) → Claim S → S .fresh first → S .drawRowset (first .manager) drawn → CommitsTA S → S .drawRowset afterTA drawnOne → S .lock (drawnOne .manager) table (lockedBy ready) → (d n : ℕ) → S .compact ready 0 (1 ∷ []) (0 ∷ []) (places 16 frameA1) (appended (afterA1 d n) 2 10) (places 16 frameA1) → (es : List Event) → Chain S (merges d n .after) es → Holds S begun (draws ∷ commitTA ∷ drawsOne ∷ lockTA ∷ merges d n ∷ es)
-on-merge S claim fresh draw add draw-one lock d n says es c =
-    on-TA S claim fresh draw add (drawsOne ∷ lockTA ∷ merges d n ∷ es) (
-      refl,
-      record { result = drawnOne; says = draw-one; told = refl; none = refl; after = refl },
-      (
-        refl,
-        took-lock S (drawsOne .after) table ready lock,
-        (refl, compacted S (lockTA .after) 0 merged (0 ∷ []) (afterA1 d n) 2 10 (places 16 frameA1) narrow-ready says, c),
-      ),
-    )
-
--- the taken one stays
-both-says : keepsTaken .compact ready 0 (1 ∷ []) (0 ∷ []) (places 16 frameA1) (appended (afterA1 0 28) 2 10) (places 16 frameA1)
+-- the two stay
+both-says : keepsTaken .compact (afterTAA locked) 0 (2 ∷ []) (0 ∷ 1 ∷ []) lent (appended (afterMerge 0 34) 2 10) lent
 unfolding rows textOf fieldsText digits digitsBy isName isNameByte isDigit isLower goneAt shownAt
 both-says =
-    record { answer = refl; manager = record { fits = few 2 1 2 locked (both 1 0 2) 28 (omega arith) (omega arith); state = refl }; bytes = refl }
+    record { answer = refl; manager = record { fits = few 2 1 3 locked (three 2 0) 34 (omega arith) (omega arith); state = refl }; bytes = refl }
 
-both-shown : ShowPairsSays (afterA1 0 28) unpinned 2 (5 ∷ []) (5 ∷ []) (NotShown OutputTooShort) (5 ∷ []) (5 ∷ [])
+both-shown : ShowPairsSays (afterMerge 0 34) unpinned 2 (5 ∷ []) (5 ∷ []) (NotShown OutputTooShort) (5 ∷ []) (5 ∷ [])
 unfolding rows isName isNameByte isDigit isLower goneAt shownAt
 both-shown = record { answer = refl; tables = refl; rowsets = refl }
 
 pub keeps-taken : Refuted keepsTaken
 unfolding rows
 keeps-taken claim =
-    let S = keepsTaken in
-    let h = on-merge S claim fresh-says draw-says says-TA draw-says-one lock-says-TA 0 28 both-says [] tt in
-    more-pairs S (merges 0 28 .after) 2 mergedPair both-shown (h .agrees .pairs 2 refl)
+    let h = on-merge (keepsTaken .compact) claim 0 34 both-says [] tt in
+    more-pairs keepsTaken (merges 0 34 .after) 2 mergedPair both-shown (h .agrees .pairs 2 refl)
 
--- The taken one goes; its deletion is not in the manifest, so that a reopen finds both.
-alone-says : appendsNewAlone .compact ready 0 (1 ∷ []) (0 ∷ []) (places 16 frameA1) (appended (afterA1 2 34) 2 10) (places 16 frameA1)
+-- The two go, but their deletions are not in the manifest: a reopen finds them beside the third.
+alone-says : appendsNewAlone .compact (afterTAA locked) 0 (2 ∷ []) (0 ∷ 1 ∷ []) lent (appended (afterMerge 2 46) 2 10) lent
 unfolding rows textOf fieldsText digits digitsBy isName isNameByte isDigit isLower goneAt shownAt
 alone-says =
-    record { answer = refl; manager = record { fits = few 2 1 2 locked (both 1 2 2) 34 (omega arith) (omega arith); state = refl }; bytes = refl }
+    record { answer = refl; manager = record { fits = few 2 1 3 locked (three 2 2) 46 (omega arith) (omega arith); state = refl }; bytes = refl }
 
-abbrev rewrittenBoth : List ℕ
-rewrittenBoth =
-    66 ∷ 10 ∷ 78 ∷ 44 ∷ 49 ∷ 44 ∷ 50 ∷ 44 ∷ 48 ∷ 10 ∷ 84 ∷ 44 ∷ 48 ∷ 44 ∷ 55 ∷ 44 ∷ 97 ∷ 10 ∷ 65 ∷ 44 ∷ 48 ∷ 44 ∷ 48 ∷ 10 ∷ 65 ∷ 44 ∷ 48 ∷ 44 ∷ 49 ∷ 10 ∷ 69 ∷ 10 ∷ []
+abbrev rewrittenThree : List ℕ
+rewrittenThree =
+    66 ∷ 10 ∷ 78 ∷ 44 ∷ 49 ∷ 44 ∷ 51 ∷ 44 ∷ 48 ∷ 10 ∷ 84 ∷ 44 ∷ 48 ∷ 44 ∷ 55 ∷ 44 ∷ 97 ∷ 10 ∷ 65 ∷ 44 ∷ 48 ∷ 44 ∷ 48 ∷ 10 ∷ 65 ∷ 44 ∷ 48 ∷ 44 ∷ 49 ∷ 10 ∷ 65 ∷ 44 ∷ 48 ∷ 44 ∷ 50 ∷ 10 ∷ 69 ∷ 10 ∷ []
 
-abbrev foundBoth : VersionManager
-foundBoth = holding 1 1 2 tables (both 1 0 1) 32
+abbrev found : VersionManager
+found = holding 1 1 3 tables (three 1 0) 38
 
-opens-both : ReopenSays (frameTA ++ frameA1) rewrittenBoth (rewrittenBy foundBoth 32) rewrittenBoth
+found-says : ReopenSays (frameTAA ++ frameA) rewrittenThree (rewrittenBy found 38) rewrittenThree
 unfolding rows textOf fieldsText digits digitsBy lines linesOn lineOf lineBy twoFields tableFields fieldAt namedAt readAt readIn readOn isName isNameByte isDigit isLower goneAt shownAt
-opens-both = (refl, record { fits = few 1 1 2 tables (both 1 0 1) 32 (omega arith) (omega arith); state = refl }, no-pins, refl)
+found-says = (refl, record { fits = few 1 1 3 tables (three 1 0) 38 (omega arith) (omega arith); state = refl }, no-pins, refl)
 
-found-both : ShowPairsSays foundBoth unpinned 1 (5 ∷ []) (5 ∷ []) (NotShown OutputTooShort) (5 ∷ []) (5 ∷ [])
+found-shows : ShowPairsSays found unpinned 1 (5 ∷ []) (5 ∷ []) (NotShown OutputTooShort) (5 ∷ []) (5 ∷ [])
 unfolding rows isName isNameByte isDigit isLower goneAt shownAt
-found-both = record { answer = refl; tables = refl; rowsets = refl }
+found-shows = record { answer = refl; tables = refl; rowsets = refl }
 
 pub appends-new-alone : Refuted appendsNewAlone
 unfolding rows
 appends-new-alone claim =
     let S = appendsNewAlone in
-    let w = merges 2 34 .after in
-    let o = reopens w foundBoth 32 rewrittenBoth false in
+    let w = merges 2 46 .after in
+    let o = reopens w found 38 rewrittenThree false in
     let h =
-    on-merge S claim fresh-says draw-says says-TA draw-says-one lock-says-TA 2 34 alone-says (o ∷ []) (refl, reopened S w foundBoth 32 rewrittenBoth false opens-both, tt) in
-    more-pairs S (o .after) 1 mergedPair found-both (h .agrees .pairs 1 refl)
+    on-merge (S .compact) claim 2 46 alone-says (o ∷ []) (refl, reopened S w found 38 rewrittenThree false found-says, tt) in
+    more-pairs S (o .after) 1 mergedPair found-shows (h .agrees .pairs 1 refl)

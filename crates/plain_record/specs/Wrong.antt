@@ -202,19 +202,19 @@ CommitLeaves (refused k) m os out r out′ =
 abbrev pub leavesPart : Steps
 leavesPart = committing (λ m n os out r out′. CommitLeaves (outcomeOf m n os (length out)) m os out r out′)
 
--- a create answers and appends as the port's does; `Leaves` says what it hands back, of its verdict, the manager before it and the state that the commit makes
-pub record CreatesTo (Leaves : Verdict → VersionManager → State → VersionManager → Type 0) (m : VersionManager) (shape : ℕ) (name out : List ℕ) (r : Created) (out′ : List ℕ) : Type 0 where
-  pub answer : createTold (r .answer) ≡ told (createVerdict m shape name (length out)) (heldBy m .nextTable ∷ (current m + 1) ∷ length (appendOf (createdBy (heldBy m) shape name)) ∷ [])
-  pub manager : Leaves (createVerdict m shape name (length out)) m (committed (createdBy (heldBy m) shape name) (heldBy m)) (r .manager)
-  pub bytes : out′ ≡ after (createVerdict m shape name (length out)) (over (appendOf (createdBy (heldBy m) shape name)) out) out
+-- a create as the port's under its verdict, but from the state that `from` makes of the manager's; `Leaves` says what is handed back
+pub record CreatesBy (from : State → State) (Leaves : Verdict → VersionManager → State → VersionManager → Type 0) (m : VersionManager) (shape : ℕ) (name out : List ℕ) (r : Created) (out′ : List ℕ) : Type 0 where
+  pub answer : createTold (r .answer) ≡ told (createVerdict m shape name (length out)) (from (heldBy m) .nextTable ∷ (current m + 1) ∷ length (appendOf (createdBy (from (heldBy m)) shape name)) ∷ [])
+  pub manager : Leaves (createVerdict m shape name (length out)) m (committed (createdBy (from (heldBy m)) shape name) (from (heldBy m))) (r .manager)
+  pub bytes : out′ ≡ after (createVerdict m shape name (length out)) (over (appendOf (createdBy (from (heldBy m)) shape name)) out) out
 
--- it does not raise the next table id, so that the same one would come again
+-- it takes the number of live tables for the next id, so that an id comes again after a drop
 abbrev pub reusesId : Steps
-reusesId = creating (CreatesTo (λ v m s. HandsBack v m (withNext s (heldBy m .nextTable) (s .nextRowset) (s .nextVector))))
+reusesId = creating (CreatesBy (λ s. withNext s (length (s .tables)) (s .nextRowset) (s .nextVector)) HandsBack)
 
--- a refused create leaves the table
+-- a refused create leaves its table
 abbrev pub createsRefused : Steps
-createsRefused = creating (CreatesTo (λ v m s n. Manages n s))
+createsRefused = creating (CreatesBy (λ s. s) (λ v m s n. Manages n s))
 
 -- a drop or a compaction commits os under the port's verdict v, and appends the frame of `written`
 pub record Makes (v : Verdict) (os written : List Operation) (m : VersionManager) (out : List ℕ) (r : Committed) (out′ : List ℕ) : Type 0 where
