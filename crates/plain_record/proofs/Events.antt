@@ -8,15 +8,17 @@ use lib.Dec.{eqb}
 use lib.ListN.{length, replicate}
 use borrow.Author.Tests.{eq-eqb}
 use Rattle.columns.specs.Rows.{rows}
+use Rattle.ids.specs.Ids.{largest32}
 use Rattle.ids.specs.Limits.{mostTables, mostHeld}
+use Rattle.ids.specs.declared.TableNo.{TableNo}
 use Rattle.ids.specs.declared.refusal.Refusal.{Refusal}
 use Rattle.ids.specs.declared.refusal.Refusal.the-variants.{OutputTooShort}
-use Rattle.ids.specs.declared.refusal.Verdict.the-variants.{Refused}
+use Rattle.ids.specs.declared.refusal.Verdict.the-variants.{Accepted, Refused}
 use Rattle.ids.specs.Answers.{Told, told}
 use Rattle.text.specs.Class.{isDigit, isLower}
 use Rattle.text.specs.Name.{isNameByte, isName}
 use Rattle.text.specs.Decimal.{digitsBy, digits}
-use Rattle.manifest.specs.Operations.{Operation, createTable, addRowset, deleteRowset}
+use Rattle.manifest.specs.Operations.{Operation, createTable, addRowset, deleteRowset, addVector}
 use Rattle.manifest.specs.Edits.{Table, table}
 use Rattle.manifest.specs.Lines.{fieldsText, textOf}
 use Rattle.snapshot.specs.declared.rowsets.Rowsets.{Rowsets}
@@ -28,17 +30,23 @@ use Rattle.version_state.specs.State.{Fit}
 use Rattle.pins.specs.declared.PinBook.{PinBook}
 use Rattle.pins.specs.Book.{mostPinned, Keeps}
 use Rattle.operations.specs.Steps.{stepOf}
+use Rattle.table.specs.Laws.{Narrow}
+use Rattle.compaction.specs.declared.NewRowset.{NewRowset}
+use Rattle.compaction.specs.New.{newOf}
 use Rattle.version_manager.specs.declared.VersionManager.{VersionManager}
 use Rattle.version_manager.specs.declared.Opened.{Opened}
 use Rattle.version_manager.specs.declared.RowsetAnswer.the-variants as rowset
 use Rattle.version_manager.specs.declared.DrawnRowset.{DrawnRowset}
 use Rattle.version_manager.specs.declared.VectorAnswer.the-variants as vector
 use Rattle.version_manager.specs.declared.DrawnVector.{DrawnVector}
+use Rattle.version_manager.specs.declared.Locked.{Locked}
 use Rattle.version_manager.specs.declared.CommitAnswer.the-variants.{Appended}
 use Rattle.version_manager.specs.declared.Committed.{Committed}
+use Rattle.version_manager.specs.declared.CreateAnswer.the-variants.{Table as NewTable}
+use Rattle.version_manager.specs.declared.Created.{Created}
 use Rattle.version_manager.specs.declared.VacuumAnswer.the-variants.{Listed}
 use Rattle.version_manager.specs.declared.Vacuumed.{Vacuumed}
-use Rattle.version_manager.specs.Managers.{FreshSays}
+use Rattle.version_manager.specs.Managers.{heldBy, FreshSays}
 use Rattle.version_manager.specs.Draw.{DrawRowsetSays, DrawVectorSays}
 use Rattle.version_manager.specs.Commit.{CommitSays}
 use Rattle.pinning.specs.declared.PinAnswer.the-variants.{Pinned}
@@ -46,10 +54,10 @@ use Rattle.pinning.specs.declared.UnpinAnswer.the-variants.{Unpinned}
 use Rattle.show.specs.declared.ShowAnswer.the-variants.{Shown, Refused as NotShown}
 use Rattle.storage.specs.declared.Reopened.{Reopened}
 use Rattle.storage.specs.declared.ReopenAnswer.the-variants.{Rewritten}
-use Rattle.plain_record.specs.Calls.{drawRowset, drawVector, commit, pin, unpin, vacuum, reopen}
+use Rattle.plain_record.specs.Calls.{drawRowset, drawVector, lock, commit, create, drop, compact, pin, unpin, vacuum, reopen}
 use Rattle.plain_record.specs.Run.{Steps, World, world, Event, onward, afterCommit, afterReopen, pairsIn, Starts, Link, Chain}
 use Rattle.plain_record.specs.Claim.{Claim, Holds}
-use Rattle.plain_record.specs.Shows.{ShowsTables}
+use Rattle.plain_record.specs.Shows.{ShowsTables, ShowsPairs}
 
 -- What is not equal.
 pub apart : {m n : ℕ} → m ≡ n → eqb m n ≡ false → ⊥
@@ -66,15 +74,22 @@ not-empty {A} e = true≢false (ap isNone e)
 abbrev pub places : ℕ → List ℕ → List ℕ
 places n l = l ++ replicate (n - length l) 0
 
-abbrev holds : List ℕ → List ℕ → List ℕ → List ℕ → ℕ → Tables
-holds i h l s n =
-    record { ids = places mostTables i; shapes = places mostTables h; lengths = places mostTables l; names = places nameBytes s; locked = replicate mostTables false; count = n }
+abbrev pub holds : List ℕ → List ℕ → List ℕ → List ℕ → List Bool → ℕ → Tables
+holds i h l s k n =
+    record {
+      ids = places mostTables i;
+      shapes = places mostTables h;
+      lengths = places mostTables l;
+      names = places nameBytes s;
+      locked = k ++ replicate (mostTables - length k) false;
+      count = n;
+    }
 
 abbrev pub holdsPairs : List ℕ → List ℕ → List ℕ → List ℕ → ℕ → Rowsets
 holdsPairs t r a d n = record { tables = places mostHeld t; rowsets = places mostHeld r; added = places mostHeld a; deleted = places mostHeld d; count = n }
 
 abbrev pub noTables : Tables
-noTables = holds [] [] [] [] 0
+noTables = holds [] [] [] [] [] 0
 
 abbrev pub noPairs : Rowsets
 noPairs = holdsPairs [] [] [] [] 0
@@ -103,10 +118,10 @@ holdingAll e t r v ts rs vs n =
 abbrev pub holding : ℕ → ℕ → ℕ → Tables → Rowsets → ℕ → VersionManager
 holding e t r ts rs n = holdingAll e t r 0 ts rs noVectors n
 
-pub few-all : (e t r v : ℕ) (ts : Tables) (rs : Rowsets) (vs : Vectors) (n : ℕ) → ts .count ≤ 1 → rs .count ≤ 2 → vs .count ≤ 1 → Fit (holdingAll e t r v ts rs vs n .inner)
+pub few-all : (e t r v : ℕ) (ts : Tables) (rs : Rowsets) (vs : Vectors) (n : ℕ) → ts .count ≤ 2 → rs .count ≤ 3 → vs .count ≤ 1 → Fit (holdingAll e t r v ts rs vs n .inner)
 few-all e t r v ts rs vs n h k l = record { tables = omega arith; rowsets = omega arith; vectors = omega arith }
 
-pub few : (e t r : ℕ) (ts : Tables) (rs : Rowsets) (n : ℕ) → ts .count ≤ 1 → rs .count ≤ 2 → Fit (holding e t r ts rs n .inner)
+pub few : (e t r : ℕ) (ts : Tables) (rs : Rowsets) (n : ℕ) → ts .count ≤ 2 → rs .count ≤ 3 → Fit (holding e t r ts rs n .inner)
 few e t r ts rs n h k = few-all e t r 0 ts rs noVectors n h k (omega arith)
 
 abbrev pub unpinned : PinBook
@@ -129,8 +144,15 @@ begun = world (first .manager) unpinned [] []
 abbrev telling : List ℕ → Told
 telling l = record { number = 0; place = 0; values = l }
 
+abbrev pub drawnBy : VersionManager → ℕ → DrawnRowset
+drawnBy m i = record { manager = m; answer = rowset.Id (record { 0 = i }) }
+
+-- the rowset ids below n drawn
+abbrev pub drawnTo : ℕ → VersionManager
+drawnTo n = holding 0 0 n noTables noPairs 0
+
 abbrev pub drawn : DrawnRowset
-drawn = record { manager = holding 0 0 1 noTables noPairs 0; answer = rowset.Id (record { 0 = 0 }) }
+drawn = drawnBy (drawnTo 1) 0
 
 abbrev pub drawnVector : DrawnVector
 drawnVector = record { manager = holdingAll 0 0 1 1 noTables noPairs noVectors 0; answer = vector.Id (record { 0 = 0 }) }
@@ -138,14 +160,24 @@ drawnVector = record { manager = holdingAll 0 0 1 1 noTables noPairs noVectors 0
 abbrev pub appended : VersionManager → ℕ → ℕ → Committed
 appended m e n = record { manager = m; answer = Appended e n }
 
+abbrev pub createdBy : VersionManager → ℕ → ℕ → ℕ → Created
+createdBy m t e n = record { manager = m; answer = NewTable (record { 0 = t }) e n }
+
+abbrev pub lockedBy : VersionManager → Locked
+lockedBy m = record { manager = m; answer = Accepted }
+
 abbrev pub listedBy : VersionManager → ℕ → Vacuumed
 listedBy m n = record { manager = m; answer = Listed n }
 
 abbrev pub rewrittenBy : VersionManager → ℕ → Reopened
 rewrittenBy m n = record { manager = m; book = unpinned; answer = Rewritten n }
 
+abbrev pub drawsOn : World → VersionManager → ℕ → Event
+drawsOn w m i =
+    record { before = w; call = drawRowset; told = telling (i ∷ []); listed = []; after = onward m (w .book) (telling (i ∷ [])) w }
+
 abbrev pub draws : Event
-draws = record { before = begun; call = drawRowset; told = telling (0 ∷ []); listed = []; after = world (drawn .manager) unpinned [] [] }
+draws = drawsOn begun (drawn .manager) 0
 
 abbrev pub drawsVector : Event
 drawsVector =
@@ -160,6 +192,39 @@ commits w os m e n out missing =
       listed = [];
       after = afterCommit m (telling (e ∷ n ∷ [])) n out missing w;
     }
+
+abbrev pub createsTable : World → ℕ → List ℕ → VersionManager → ℕ → ℕ → ℕ → List ℕ → Event
+createsTable w shape name m t e n out =
+    record {
+      before = w;
+      call = create shape name out 0;
+      told = telling (t ∷ e ∷ n ∷ []);
+      listed = [];
+      after = afterCommit m (telling (t ∷ e ∷ n ∷ [])) n out 0 w;
+    }
+
+abbrev pub drops : World → ℕ → VersionManager → ℕ → ℕ → List ℕ → Event
+drops w t m e n out =
+    record {
+      before = w;
+      call = drop t out 0;
+      told = telling (e ∷ n ∷ []);
+      listed = [];
+      after = afterCommit m (telling (e ∷ n ∷ [])) n out 0 w;
+    }
+
+abbrev pub compacts : World → ℕ → NewRowset → List ℕ → VersionManager → ℕ → ℕ → List ℕ → Event
+compacts w t new taken m e n out =
+    record {
+      before = w;
+      call = compact t new taken out 0;
+      told = telling (e ∷ n ∷ []);
+      listed = [];
+      after = afterCommit m (telling (e ∷ n ∷ [])) n out 0 w;
+    }
+
+abbrev pub locks : World → TableNo → VersionManager → Event
+locks w t m = record { before = w; call = lock t; told = telling []; listed = []; after = onward m (w .book) (telling []) w }
 
 abbrev pub pins : World → ℕ → PinBook → Event
 pins w e b = record { before = w; call = pin; told = telling (e ∷ []); listed = []; after = onward (w .manager) b (telling (e ∷ [])) w }
@@ -187,13 +252,17 @@ reopens w m n out stale =
       after = afterReopen m unpinned (telling (n ∷ [])) out stale w;
     }
 
--- Refused calls. A commit and a vacuum are lent nothing.
+-- Refused calls. A commit, a create and a vacuum are lent nothing.
 abbrev pub refusing : Refusal → Told
 refusing k = told (Refused k) []
 
 abbrev pub commitRefused : World → List Operation → VersionManager → Refusal → Event
 commitRefused w os m k =
     record { before = w; call = commit os [] 0; told = refusing k; listed = []; after = afterCommit m (refusing k) 0 [] 0 w }
+
+abbrev pub createRefused : World → ℕ → List ℕ → VersionManager → Refusal → Event
+createRefused w shape name m k =
+    record { before = w; call = create shape name [] 0; told = refusing k; listed = []; after = afterCommit m (refusing k) 0 [] 0 w }
 
 abbrev pub pinRefused : World → Refusal → PinBook → Event
 pinRefused w k b = record { before = w; call = pin; told = refusing k; listed = []; after = onward (w .manager) b (refusing k) w }
@@ -205,8 +274,11 @@ module _ (S : Steps) where
   pub begins : S .fresh first → Starts S begun
   begins h = record { opened = first; says = h; fresh = refl }
 
+  pub drew-on : (w : World) (m : VersionManager) (i : ℕ) → S .drawRowset (w .manager) (drawnBy m i) → Link S (drawsOn w m i)
+  drew-on w m i h = record { result = drawnBy m i; says = h; told = refl; none = refl; after = refl }
+
   pub drew : S .drawRowset (first .manager) drawn → Link S draws
-  drew h = record { result = drawn; says = h; told = refl; none = refl; after = refl }
+  drew h = drew-on begun (drawn .manager) 0 h
 
   pub drew-vector : S .drawVector (drawn .manager) drawnVector → Link S drawsVector
   drew-vector h = record { result = drawnVector; says = h; told = refl; none = refl; after = refl }
@@ -214,6 +286,21 @@ module _ (S : Steps) where
   pub committed : (w : World) (os : List Operation) (m : VersionManager) (e n : ℕ) (out : List ℕ) (missing : ℕ) → S .commit (w .manager) (length os) os out (appended m e n) out → Link S (commits w os m e n out missing)
   committed w os m e n out missing h =
       record { count = length os; counted = omega arith; result = appended m e n; left = out; says = h; told = refl; none = refl; after = refl }
+
+  pub made-table : (w : World) (shape : ℕ) (name : List ℕ) (m : VersionManager) (t e n : ℕ) (out : List ℕ) → shape ≤ largest32 → S .create (w .manager) shape name out (createdBy m t e n) out → Link S (createsTable w shape name m t e n out)
+  made-table w shape name m t e n out k h =
+      record { narrow = k; result = createdBy m t e n; left = out; says = h; told = refl; none = refl; after = refl }
+
+  pub dropped : (w : World) (t : ℕ) (m : VersionManager) (e n : ℕ) (out : List ℕ) → Narrow (heldBy (w .manager)) → S .drop (w .manager) t out (appended m e n) out → Link S (drops w t m e n out)
+  dropped w t m e n out k h =
+      record { narrow = k; result = appended m e n; left = out; says = h; told = refl; none = refl; after = refl }
+
+  pub compacted : (w : World) (t : ℕ) (new : NewRowset) (taken : List ℕ) (m : VersionManager) (e n : ℕ) (out : List ℕ) → Narrow (heldBy (w .manager)) → S .compact (w .manager) t (newOf new) taken out (appended m e n) out → Link S (compacts w t new taken m e n out)
+  compacted w t new taken m e n out k h =
+      record { narrow = k; result = appended m e n; left = out; says = h; told = refl; none = refl; after = refl }
+
+  pub took-lock : (w : World) (t : TableNo) (m : VersionManager) → S .lock (w .manager) t (lockedBy m) → Link S (locks w t m)
+  took-lock w t m h = record { result = lockedBy m; says = h; told = refl; none = refl; after = refl }
 
   pub pinned : (w : World) (e : ℕ) (b : PinBook) → S .pin (w .manager) (w .book) (Pinned e) b → Link S (pins w e b)
   pinned w e b h = record { answer = Pinned e; book = b; says = h; told = refl; none = refl; after = refl }
@@ -242,7 +329,7 @@ draw-vector-says =
     record { answer = refl; manager = record { fits = few-all 0 0 1 1 noTables noPairs noVectors 0 (omega arith) (omega arith) (omega arith); state = refl } }
 
 -- What is committed: a table `a` of id 0 and shape 7, its rowset 0, and the rowset's vector 0.
-abbrev name : List ℕ
+abbrev pub name : List ℕ
 name = 97 ∷ []
 
 abbrev pub creates : Operation
@@ -254,8 +341,15 @@ adds = addRowset 0 0
 abbrev pub deletes : Operation
 deletes = deleteRowset 0 0
 
+abbrev tableBy : Bool → Tables
+tableBy held = holds (0 ∷ []) (7 ∷ []) (1 ∷ []) name (held ∷ []) 1
+
 abbrev pub tables : Tables
-tables = holds (0 ∷ []) (7 ∷ []) (1 ∷ []) name 1
+tables = tableBy false
+
+-- its lock held
+abbrev pub locked : Tables
+locked = tableBy true
 
 abbrev pub pair : ℕ → ℕ → Rowsets
 pair a d = holdsPairs (0 ∷ []) (0 ∷ []) (a ∷ []) (d ∷ []) 1
@@ -324,6 +418,13 @@ pub says-T : CommitSays afterNone (length opsT) opsT frameT (appended (afterT ta
 unfolding rows stepOf textOf fieldsText digits digitsBy isName isNameByte isDigit isLower goneAt shownAt
 says-T = (refl, record { fits = few 2 1 0 tables noPairs 16 (omega arith) (omega arith); state = refl }, refl)
 
+-- the table is created at epoch 1
+abbrev pub createdT : VersionManager
+createdT = holding 1 1 0 tables noPairs 12
+
+pub fits-T : Fit (createdT .inner)
+fits-T = few 1 1 0 tables noPairs 12 (omega arith) (omega arith)
+
 -- a manager without tables, where the record has one; and one with a table, where it has none
 pub no-table : (S : Steps) (w : World) (d : ℕ) (t : Table) → S .showTables (w .manager) (w .book) d [] [] [] [] (Shown 0) [] [] [] [] → ShowsTables S w d (t ∷ []) → ⊥
 no-table S w d t says h = apart (ap (λ (x : Told). x .number) (h [] [] [] [] (Shown 0) [] [] [] [] says .0)) refl
@@ -333,3 +434,57 @@ a-table S w d says h = apart (ap (λ (x : Told). x .number) (h [] [] [] [] (NotS
 
 abbrev pub recorded : Table
 recorded = table 0 7 name
+
+-- The table is created and the rowset added, at epoch 1.
+abbrev pub opsTA : List Operation
+opsTA = creates ∷ adds ∷ []
+
+abbrev pub frameTA : List ℕ
+frameTA = 66 ∷ 10 ∷ 84 ∷ 44 ∷ 48 ∷ 44 ∷ 55 ∷ 44 ∷ 97 ∷ 10 ∷ 65 ∷ 44 ∷ 48 ∷ 44 ∷ 48 ∷ 10 ∷ 69 ∷ 10 ∷ []
+
+abbrev pub afterTA : VersionManager
+afterTA = holding 1 1 1 tables (pair 1 0) 18
+
+abbrev pub commitTA : Event
+commitTA = commits (draws .after) opsTA afterTA 1 18 frameTA 0
+
+pub says-TA : CommitSays (drawn .manager) (length opsTA) opsTA frameTA (appended afterTA 1 18) frameTA
+unfolding rows stepOf textOf fieldsText digits digitsBy isName isNameByte isDigit isLower goneAt shownAt
+says-TA = (refl, record { fits = few 1 1 1 tables (pair 1 0) 18 (omega arith) (omega arith); state = refl }, refl)
+
+abbrev CommitsTA : Steps → Type 0
+CommitsTA S = S .commit (drawn .manager) (length opsTA) opsTA frameTA (appended afterTA 1 18) frameTA
+
+-- the claim of a draw, this commit and further calls
+pub on-TA : (S : Steps) → Claim S → S .fresh first → S .drawRowset (first .manager) drawn → CommitsTA S → (es : List Event) → Chain S (commitTA .after) es → Holds S begun (draws ∷ commitTA ∷ es)
+on-TA S claim fresh draw says es c =
+    claim begun (draws ∷ commitTA ∷ es) (begins S fresh) (refl, drew S draw, (refl, committed S (draws .after) opsTA afterTA 1 18 frameTA 0 says, c))
+
+-- And the rowset's vector.
+abbrev pub opsTAV : List Operation
+opsTAV = creates ∷ adds ∷ addVector 0 0 0 ∷ []
+
+abbrev pub frameTAV : List ℕ
+frameTAV = 66 ∷ 10 ∷ 84 ∷ 44 ∷ 48 ∷ 44 ∷ 55 ∷ 44 ∷ 97 ∷ 10 ∷ 65 ∷ 44 ∷ 48 ∷ 44 ∷ 48 ∷ 10 ∷ 86 ∷ 44 ∷ 48 ∷ 44 ∷ 48 ∷ 44 ∷ 48 ∷ 10 ∷ 69 ∷ 10 ∷ []
+
+abbrev pub afterTAV : VersionManager
+afterTAV = holdingAll 1 1 1 1 tables (pair 1 0) (vectorOf 1 0) 26
+
+abbrev pub commitTAV : Event
+commitTAV = commits (drawsVector .after) opsTAV afterTAV 1 26 frameTAV 0
+
+pub says-TAV : CommitSays (drawnVector .manager) (length opsTAV) opsTAV frameTAV (appended afterTAV 1 26) frameTAV
+unfolding rows stepOf textOf fieldsText digits digitsBy isName isNameByte isDigit isLower goneAt shownAt
+says-TAV =
+    (refl, record { fits = few-all 1 1 1 1 tables (pair 1 0) (vectorOf 1 0) 26 (omega arith) (omega arith) (omega arith); state = refl }, refl)
+
+-- the rowset alone is deleted
+abbrev pub frameD : List ℕ
+frameD = 66 ∷ 10 ∷ 68 ∷ 44 ∷ 48 ∷ 44 ∷ 48 ∷ 10 ∷ 69 ∷ 10 ∷ []
+
+-- a show without pairs, where the record has one
+pub no-pair : (S : Steps) (w : World) (d : ℕ) (k : List ℕ) → S .showPairs (w .manager) (w .book) d [] [] (Shown 0) [] [] → ShowsPairs S w d (k ∷ []) → ⊥
+no-pair S w d k says h = apart (ap (λ (x : Told). x .number) (h [] [] (Shown 0) [] [] says .0)) refl
+
+abbrev pub recordedPair : List ℕ
+recordedPair = 0 ∷ 0 ∷ []

@@ -24,5 +24,6 @@ pub mod Theorem
 pub mod Worked
 pub mod Events
 pub mod WrongManifests
+pub mod WrongTables
 pub mod Wrong
 pub mod Story

@@ -12,7 +12,7 @@ use Rattle.ids.specs.Answers.{Told}
 use Rattle.text.specs.Class.{isDigit, isLower}
 use Rattle.text.specs.Name.{isNameByte, isName}
 use Rattle.text.specs.Decimal.{digitsBy, digits}
-use Rattle.manifest.specs.Operations.{Operation, addVector, deleteVector}
+use Rattle.manifest.specs.Operations.{Operation, deleteVector}
 use Rattle.manifest.specs.Lines.{fieldsText, textOf}
 use Rattle.snapshot.specs.declared.rowsets.Rowsets.{Rowsets}
 use Rattle.snapshot.specs.declared.vectors.Vectors.{Vectors}
@@ -36,10 +36,11 @@ use Rattle.show.specs.declared.ShowAnswer.the-variants.{Shown, Refused as NotSh
 use Rattle.show.specs.Says.{TablesShown}
 use Rattle.plain_record.specs.Run.{Steps, World, Event, Chain}
 use Rattle.plain_record.specs.Claim.{Claim, Holds}
-use Rattle.plain_record.specs.Shows.{ShowsPairs, ShowsVectors}
+use Rattle.plain_record.specs.Shows.{ShowsVectors}
 use Rattle.plain_record.specs.Wrong.{unchanged, keepsSets, unraised, leavesEpoch, unjudged, judgesNothing, unaware, forgetsWaiting, CommitLeaves, leavesPart, PinsNext, answersNext, PinsNothing, countsNoPin, PinsAnyway, countsRefused, UnpinsNothing, keepsPin, VacuumsTo, nothing, listsNothing, portBound, keepsListed, countsOneMore, loweredBound, keepsOwnEpoch, unguarded, ignoresPins, losesPairs, losesVectors, VacuumsAnyway, letsGoRefused, showsCurrent, showsCurrentVectors, refusesShow, Refuted, WrongRefuted}
-use Rattle.plain_record.proofs.Events.{apart, not-empty, holdsPairs, noTables, noPairs, noVectors, holdingAll, holding, few-all, few, unpinned, once, first, begun, drawn, drawnVector, appended, listedBy, draws, drawsVector, commits, pins, unpins, vacuums, commitRefused, pinRefused, vacuumRefused, begins, drew, drew-vector, committed, pinned, released, vacuumed, fresh-says, draw-says, draw-vector-says, creates, adds, deletes, tables, pair, vectorOf, opsTAD, frameTAD, afterTAD, commitTAD, fits-TAD, says-TAD, on-TAD, opsNone, frameNone, afterNone, opsT, frameT, afterT, commitNone, commitT, says-none, no-table, a-table, recorded}
+use Rattle.plain_record.proofs.Events.{apart, not-empty, holdsPairs, noTables, noPairs, noVectors, holdingAll, holding, few-all, few, unpinned, once, first, begun, drawn, drawnVector, appended, listedBy, draws, drawsVector, commits, pins, unpins, vacuums, commitRefused, pinRefused, vacuumRefused, begins, drew, drew-vector, committed, pinned, released, vacuumed, fresh-says, draw-says, draw-vector-says, adds, deletes, tables, pair, vectorOf, opsTAD, frameTAD, afterTAD, commitTAD, fits-TAD, says-TAD, on-TAD, opsNone, frameNone, afterNone, opsT, frameT, afterT, commitNone, commitT, says-none, no-table, a-table, recorded, opsTA, frameTA, afterTA, commitTA, says-TA, on-TA, opsTAV, frameTAV, afterTAV, commitTAV, says-TAV, frameD, no-pair, recordedPair}
 use Rattle.plain_record.proofs.WrongManifests.{opens-empty, reads-first, reads-to-room, counts-early, forgets-ids, appends-no-end, rewrites-no-end, refuses-reopen}
+use Rattle.plain_record.proofs.WrongTables.{forgets-pairs, reuses-id, creates-refused, leaves-rowsets, leaves-vectors, keeps-taken, appends-new-alone}
 
 -- a vacuum lists nothing
 nothing-says : VacuumsTo 0 nothing nothing nothing afterTAD unpinned (5 ∷ []) (5 ∷ []) (listedBy afterTAD 0) (5 ∷ []) (5 ∷ [])
@@ -232,36 +233,17 @@ forgets-waiting claim =
     true≢false (sym (h .agrees .apart))
 
 -- The rowset is added at epoch 1, epoch 1 is pinned, and the rowset is deleted at epoch 2.
-abbrev opsTA : List Operation
-opsTA = creates ∷ adds ∷ []
-
-abbrev frameTA : List ℕ
-frameTA = 66 ∷ 10 ∷ 84 ∷ 44 ∷ 48 ∷ 44 ∷ 55 ∷ 44 ∷ 97 ∷ 10 ∷ 65 ∷ 44 ∷ 48 ∷ 44 ∷ 48 ∷ 10 ∷ 69 ∷ 10 ∷ []
-
-abbrev afterTA : VersionManager
-afterTA = holding 1 1 1 tables (pair 1 0) 18
-
 abbrev opsD : List Operation
 opsD = deletes ∷ []
 
-abbrev frameD : List ℕ
-frameD = 66 ∷ 10 ∷ 68 ∷ 44 ∷ 48 ∷ 44 ∷ 48 ∷ 10 ∷ 69 ∷ 10 ∷ []
-
 abbrev afterD : Rowsets → VersionManager
 afterD l = holding 2 1 1 tables l 28
-
-abbrev commitTA : Event
-commitTA = commits (draws .after) opsTA afterTA 1 18 frameTA 0
 
 abbrev pinTA : Event
 pinTA = pins (commitTA .after) 1 once
 
 abbrev commitD : Event
 commitD = commits (pinTA .after) opsD (afterD (pair 1 2)) 2 10 frameD 0
-
-says-TA : CommitSays (drawn .manager) (length opsTA) opsTA frameTA (appended afterTA 1 18) frameTA
-unfolding rows stepOf textOf fieldsText digits digitsBy isName isNameByte isDigit isLower goneAt shownAt
-says-TA = (refl, record { fits = few 1 1 1 tables (pair 1 0) 18 (omega arith) (omega arith); state = refl }, refl)
 
 pin-says-TA : PinSays afterTA unpinned (Pinned 1) once
 unfolding rows isName isNameByte isDigit isLower goneAt shownAt
@@ -277,18 +259,10 @@ module _ (S : Steps) (claim : Claim S) (fresh : S .fresh first) (draw : S .drawR
     (delete : S .commit afterTA (length opsD) opsD frameD (appended (afterD (pair 1 2)) 2 10) frameD) where
   on-D : (es : List Event) → Chain S (commitD .after) es → Holds S begun (draws ∷ commitTA ∷ pinTA ∷ commitD ∷ es)
   on-D es c =
-      claim begun (draws ∷ commitTA ∷ pinTA ∷ commitD ∷ es) (begins S fresh) (
+      on-TA S claim fresh draw add (pinTA ∷ commitD ∷ es) (
         refl,
-        drew S draw,
-        (
-          refl,
-          committed S (draws .after) opsTA afterTA 1 18 frameTA 0 add,
-          (
-            refl,
-            pinned S (commitTA .after) 1 once guard,
-            (refl, committed S (pinTA .after) opsD (afterD (pair 1 2)) 2 10 frameD 0 delete, c),
-          ),
-        ),
+        pinned S (commitTA .after) 1 once guard,
+        (refl, committed S (pinTA .after) opsD (afterD (pair 1 2)) 2 10 frameD 0 delete, c),
       )
 
 -- a vacuum ignores the pin
@@ -310,13 +284,6 @@ ignores-pins claim =
       tt,
     ) in
     not-empty (sym (h .answers .1 .1 .1 .1 .0 refl .0))
-
--- a show without pairs, where the record has one
-no-pair : (S : Steps) (w : World) (d : ℕ) (k : List ℕ) → S .showPairs (w .manager) (w .book) d [] [] (Shown 0) [] [] → ShowsPairs S w d (k ∷ []) → ⊥
-no-pair S w d k says h = apart (ap (λ (x : Told). x .number) (h [] [] (Shown 0) [] [] says .0)) refl
-
-abbrev recordedPair : List ℕ
-recordedPair = 0 ∷ 0 ∷ []
 
 -- it lists nothing and lets the pair go
 pairs-lost : VacuumsTo 0 portBound unguarded portBound (afterD (pair 1 2)) once (5 ∷ []) (5 ∷ []) (listedBy (afterD noPairs) 0) (5 ∷ []) (5 ∷ [])
@@ -351,15 +318,6 @@ shows-current claim =
     no-pair S (commitD .after) 1 recordedPair current-says (h .agrees .pairs 1 refl)
 
 -- The vector is added at epoch 1, epoch 1 is pinned, and the vector is deleted at epoch 2.
-abbrev opsTAV : List Operation
-opsTAV = creates ∷ adds ∷ addVector 0 0 0 ∷ []
-
-abbrev frameTAV : List ℕ
-frameTAV = 66 ∷ 10 ∷ 84 ∷ 44 ∷ 48 ∷ 44 ∷ 55 ∷ 44 ∷ 97 ∷ 10 ∷ 65 ∷ 44 ∷ 48 ∷ 44 ∷ 48 ∷ 10 ∷ 86 ∷ 44 ∷ 48 ∷ 44 ∷ 48 ∷ 44 ∷ 48 ∷ 10 ∷ 69 ∷ 10 ∷ []
-
-abbrev afterTAV : VersionManager
-afterTAV = holdingAll 1 1 1 1 tables (pair 1 0) (vectorOf 1 0) 26
-
 abbrev opsW : List Operation
 opsW = deleteVector 0 0 0 ∷ []
 
@@ -369,19 +327,11 @@ frameW = 66 ∷ 10 ∷ 87 ∷ 44 ∷ 48 ∷ 44 ∷ 48 ∷ 44 ∷ 48 ∷ 10 ∷ 6
 abbrev afterW : Vectors → VersionManager
 afterW l = holdingAll 2 1 1 1 tables (pair 1 0) l 38
 
-abbrev commitTAV : Event
-commitTAV = commits (drawsVector .after) opsTAV afterTAV 1 26 frameTAV 0
-
 abbrev pinTAV : Event
 pinTAV = pins (commitTAV .after) 1 once
 
 abbrev commitW : Event
 commitW = commits (pinTAV .after) opsW (afterW (vectorOf 1 2)) 2 12 frameW 0
-
-says-TAV : CommitSays (drawnVector .manager) (length opsTAV) opsTAV frameTAV (appended afterTAV 1 26) frameTAV
-unfolding rows stepOf textOf fieldsText digits digitsBy isName isNameByte isDigit isLower goneAt shownAt
-says-TAV =
-    (refl, record { fits = few-all 1 1 1 1 tables (pair 1 0) (vectorOf 1 0) 26 (omega arith) (omega arith) (omega arith); state = refl }, refl)
 
 pin-says-TAV : PinSays afterTAV unpinned (Pinned 1) once
 unfolding rows isName isNameByte isDigit isLower goneAt shownAt
@@ -566,12 +516,19 @@ refuses-show claim =
 pub wrong-refuted : WrongRefuted
 wrong-refuted =
     record {
+      forgetsPairs = forgets-pairs;
       keepsSets = keeps-sets;
       leavesEpoch = leaves-epoch;
       judgesNothing = judges-nothing;
       forgetsWaiting = forgets-waiting;
       appendsNoEnd = appends-no-end;
       leavesPart = leaves-part;
+      reusesId = reuses-id;
+      createsRefused = creates-refused;
+      leavesRowsets = leaves-rowsets;
+      leavesVectors = leaves-vectors;
+      keepsTaken = keeps-taken;
+      appendsNewAlone = appends-new-alone;
       answersNext = answers-next;
       countsNoPin = counts-no-pin;
       countsRefused = counts-refused;

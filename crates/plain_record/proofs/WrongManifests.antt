@@ -13,7 +13,6 @@ use Rattle.text.specs.Decimal.{digitsBy, digits, readOn, readIn, readAt}
 use Rattle.manifest.specs.Lines.{fieldAt, named as namedAt, twoFields, threeFields, tableFields, lineBy, lineOf, fieldsText, textOf}
 use Rattle.manifest.specs.Split.{linesOn, restOn, lines}
 use Rattle.snapshot.specs.Entries.{goneAt, shownAt}
-use Rattle.version_state.specs.State.{Fit}
 use Rattle.operations.specs.Steps.{stepOf}
 use Rattle.version_manager.specs.declared.VersionManager.{VersionManager}
 use Rattle.version_manager.specs.Commit.{outcomeOf, CommitSays}
@@ -25,7 +24,7 @@ use Rattle.storage.specs.Reopen.{reopenOf, ReopenIs, ReopenSays}
 use Rattle.plain_record.specs.Calls.{reopen}
 use Rattle.plain_record.specs.Run.{Steps, Event, Link}
 use Rattle.plain_record.specs.Wrong.{CommitEndsEarly, appendsNoEnd, opensEmpty, firstFrame, readsFirst, readsToRoom, closed, countsEarly, forgotten, forgetsIds, ReopenEndsEarly, rewritesNoEnd, refusesReopen, Refuted}
-use Rattle.plain_record.proofs.Events.{places, noTables, noPairs, holding, few, unpinned, no-pins, first, begun, appended, rewrittenBy, commits, reopens, refusing, begins, committed, reopened, fresh-says, draw-says, tables, frameTAD, commitTAD, says-TAD, on-TAD, opsNone, frameNone, afterNone, opsT, frameT, afterT, commitNone, commitT, says-none, says-T, no-table, a-table, recorded}
+use Rattle.plain_record.proofs.Events.{places, noTables, noPairs, holding, few, unpinned, no-pins, first, begun, appended, rewrittenBy, commits, reopens, refusing, begins, committed, reopened, fresh-says, draw-says, tables, frameTAD, commitTAD, says-TAD, on-TAD, opsNone, frameNone, afterNone, opsT, frameT, afterT, commitNone, commitT, createdT, fits-T, says-none, says-T, no-table, a-table, recorded}
 
 -- a reopen that leaves nothing
 abbrev rewritten : List ℕ
@@ -161,14 +160,8 @@ forgets-ids claim =
     true≢false (sym (h .agrees .next))
 
 -- The table is created at epoch 1. The append, and the rewritten manifest, lack their last line.
-abbrev createdT : VersionManager
-createdT = holding 1 1 0 tables noPairs 12
-
 abbrev createsT : ℕ → Event
 createsT n = commits begun opsT createdT 1 n frameT 0
-
-fits-T : Fit (createdT .inner)
-fits-T = few 1 1 0 tables noPairs 12 (omega arith) (omega arith)
 
 early-T : CommitEndsEarly (outcomeOf (first .manager) (length opsT) opsT 12) (first .manager) opsT frameT (appended createdT 1 10) frameT
 unfolding rows stepOf textOf fieldsText digits digitsBy isName isNameByte isDigit isLower goneAt shownAt

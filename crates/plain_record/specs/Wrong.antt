@@ -1,6 +1,6 @@
 -- Managers that are wrong in one call each: the claim is false of every one of them. Assumes nothing.
 use mathlib.Core.Path.{_≡_}
-use mathlib.Core.Bool.{cond}
+use mathlib.Core.Bool.{true, cond}
 use mathlib.Core.List.{List, [], _∷_, _++_, map}
 use Prim.Native.Nat.{ℕ, _+_, _-_, _≤_}
 use lib.ListN.{length, take}
@@ -8,7 +8,9 @@ use Rattle.lists.specs.Order.{same}
 use Rattle.lists.specs.Keyed.{keep}
 use Rattle.lists.specs.Written.{over}
 use Rattle.text.specs.Class.{newline}
+use Rattle.ids.specs.declared.TableNo.{TableNo}
 use Rattle.ids.specs.declared.refusal.Refusal.the-variants.{BadManager, EpochNotPinned, OutputTooShort}
+use Rattle.ids.specs.declared.refusal.Verdict.{Verdict}
 use Rattle.ids.specs.declared.refusal.Verdict.the-variants.{Accepted, Refused}
 use Rattle.ids.specs.Verdicts.{_⇒_, judged}
 use Rattle.ids.specs.Answers.{told, after}
@@ -17,7 +19,7 @@ use Rattle.manifest.specs.Operations.{Operation, end}
 use Rattle.manifest.specs.Lines.{lineText}
 use Rattle.manifest.specs.Split.{restOn, lines, joined}
 use Rattle.snapshot.specs.Entries.{Entry, field, waits}
-use Rattle.version_state.specs.State.{State, withTables, withPairs, withVectors, withNext, withEpoch}
+use Rattle.version_state.specs.State.{State, withTables, withPairs, withVectors, withNext, withEpoch, vectorsAt}
 use Rattle.pins.specs.declared.PinBook.{PinBook}
 use Rattle.pins.specs.Book.{PinEntry, pinsOf, placeOn, Keeps}
 use Rattle.pins.specs.Guards.{guardsBy, bound}
@@ -25,15 +27,24 @@ use Rattle.pins.specs.Counts.{withPin}
 use Rattle.operations.specs.Steps.{stepOf}
 use Rattle.operations.specs.Effect.{appliedAll}
 use Rattle.commit.specs.Commit.{appendOf, firstRules, finishOf, commitOf}
+use Rattle.transaction_manager.specs.Locks.{relocked}
+use Rattle.table.specs.Made.{committed, dropOperations, compactOperations}
+use Rattle.table.specs.Create.{createdBy}
+use Rattle.table.specs.Compact.{compactedBy}
 use Rattle.vacuum.specs.LetGo.{vacuumList, staysBy, vacuumed}
 use Rattle.vacuum.specs.Says.{boundOf, listOf}
-use Rattle.show.specs.declared.ShowAnswer.{ShowAnswer}
 use Rattle.show.specs.Says.{TablesShown}
 use Rattle.version_manager.specs.declared.VersionManager.{VersionManager}
+use Rattle.version_manager.specs.declared.Locked.{Locked}
 use Rattle.version_manager.specs.declared.Committed.{Committed}
+use Rattle.version_manager.specs.declared.Created.{Created}
 use Rattle.version_manager.specs.declared.Vacuumed.{Vacuumed}
 use Rattle.version_manager.specs.Managers.{heldBy, badManager, Manages, HandsBack}
 use Rattle.version_manager.specs.Commit.{outcomeOf, commitTold, CommitEnds}
+use Rattle.version_manager.specs.Lock.{lockVerdict}
+use Rattle.version_manager.specs.Create.{createVerdict, createTold}
+use Rattle.version_manager.specs.Drop.{dropVerdict}
+use Rattle.version_manager.specs.Compact.{compactVerdict}
 use Rattle.version_manager.specs.Vacuum.{vacuumTold, vacuumVerdict}
 use Rattle.version_manager.specs.Show.{ShowPairsSays, ShowVectorsSays}
 use Rattle.pinning.specs.declared.PinAnswer.{PinAnswer}
@@ -45,73 +56,73 @@ use Rattle.storage.specs.declared.Reopened.{Reopened}
 use Rattle.storage.specs.Reopen.{openedOf, reopenOf, reopenTold, ReopenIs, ReopenSays}
 use Rattle.plain_record.specs.Run.{Steps, port}
 use Rattle.plain_record.specs.Claim.{Claim}
+open Steps port using (lock, commit, create, drop, compact, pin, unpin, vacuum, reopen, showTables, showPairs, showVectors)
 
--- what a call may return and leave
-abbrev pub Commits : Type 1
-Commits = VersionManager → ℕ → List Operation → List ℕ → Committed → List ℕ → Type 0
-
-abbrev pub PinsBy : Type 1
-PinsBy = VersionManager → PinBook → PinAnswer → PinBook → Type 0
-
-abbrev pub Unpins : Type 1
-Unpins = VersionManager → ℕ → PinBook → UnpinAnswer → PinBook → Type 0
-
-abbrev pub Vacuums : Type 1
-Vacuums = VersionManager → PinBook → List ℕ → List ℕ → Vacuumed → List ℕ → List ℕ → Type 0
-
-abbrev pub Reopens : Type 1
-Reopens = List ℕ → List ℕ → Reopened → List ℕ → Type 0
-
-abbrev pub ShowsTablesBy : Type 1
-ShowsTablesBy = VersionManager → PinBook → ℕ → List ℕ → List ℕ → List ℕ → List ℕ → ShowAnswer → List ℕ → List ℕ → List ℕ → List ℕ → Type 0
-
-abbrev pub ShowsPairsBy : Type 1
-ShowsPairsBy = VersionManager → PinBook → ℕ → List ℕ → List ℕ → ShowAnswer → List ℕ → List ℕ → Type 0
-
-abbrev pub ShowsVectorsBy : Type 1
-ShowsVectorsBy = VersionManager → PinBook → ℕ → List ℕ → List ℕ → List ℕ → ShowAnswer → List ℕ → List ℕ → List ℕ → Type 0
+-- what may stand in the place of a call's contract
+abbrev pub Like : {A : Type 1} → A → Type 1
+Like {A} says = A
 
 -- the port with these calls in place of its own
-abbrev pub exchanged : Commits → PinsBy → Unpins → Vacuums → Reopens → ShowsTablesBy → ShowsPairsBy → ShowsVectorsBy → Steps
-exchanged c p u v o t s x =
+abbrev pub exchanged : Like lock → Like commit → Like create → Like drop → Like compact → Like pin → Like unpin → Like vacuum → Like reopen → Like showTables → Like showPairs → Like showVectors → Steps
+exchanged lock commit create drop compact pin unpin vacuum reopen showTables showPairs showVectors =
     record {
       fresh = port .fresh;
       drawRowset = port .drawRowset;
       drawVector = port .drawVector;
       group = port .group;
-      lock = port .lock;
+      lock = lock;
       unlock = port .unlock;
-      commit = c;
-      create = port .create;
-      drop = port .drop;
-      compact = port .compact;
-      pin = p;
-      unpin = u;
-      vacuum = v;
-      reopen = o;
-      showTables = t;
-      showPairs = s;
-      showVectors = x;
+      commit = commit;
+      create = create;
+      drop = drop;
+      compact = compact;
+      pin = pin;
+      unpin = unpin;
+      vacuum = vacuum;
+      reopen = reopen;
+      showTables = showTables;
+      showPairs = showPairs;
+      showVectors = showVectors;
     }
 
 -- with one of them
-abbrev pub committing : Commits → Steps
-committing c = exchanged c (port .pin) (port .unpin) (port .vacuum) (port .reopen) (port .showTables) (port .showPairs) (port .showVectors)
+abbrev pub locking : Like lock → Steps
+locking f = exchanged f commit create drop compact pin unpin vacuum reopen showTables showPairs showVectors
 
-abbrev pub pinning : PinsBy → Steps
-pinning p = exchanged (port .commit) p (port .unpin) (port .vacuum) (port .reopen) (port .showTables) (port .showPairs) (port .showVectors)
+abbrev pub committing : Like commit → Steps
+committing f = exchanged lock f create drop compact pin unpin vacuum reopen showTables showPairs showVectors
 
-abbrev pub unpinning : Unpins → Steps
-unpinning u = exchanged (port .commit) (port .pin) u (port .vacuum) (port .reopen) (port .showTables) (port .showPairs) (port .showVectors)
+abbrev pub creating : Like create → Steps
+creating f = exchanged lock commit f drop compact pin unpin vacuum reopen showTables showPairs showVectors
 
-abbrev pub vacuuming : Vacuums → Steps
-vacuuming v = exchanged (port .commit) (port .pin) (port .unpin) v (port .reopen) (port .showTables) (port .showPairs) (port .showVectors)
+abbrev pub dropping : Like drop → Steps
+dropping f = exchanged lock commit create f compact pin unpin vacuum reopen showTables showPairs showVectors
 
-abbrev pub reopening : Reopens → Steps
-reopening o = exchanged (port .commit) (port .pin) (port .unpin) (port .vacuum) o (port .showTables) (port .showPairs) (port .showVectors)
+abbrev pub compacting : Like compact → Steps
+compacting f = exchanged lock commit create drop f pin unpin vacuum reopen showTables showPairs showVectors
 
-abbrev pub showing : ShowsTablesBy → ShowsPairsBy → ShowsVectorsBy → Steps
-showing t s x = exchanged (port .commit) (port .pin) (port .unpin) (port .vacuum) (port .reopen) t s x
+abbrev pub pinning : Like pin → Steps
+pinning f = exchanged lock commit create drop compact f unpin vacuum reopen showTables showPairs showVectors
+
+abbrev pub unpinning : Like unpin → Steps
+unpinning f = exchanged lock commit create drop compact pin f vacuum reopen showTables showPairs showVectors
+
+abbrev pub vacuuming : Like vacuum → Steps
+vacuuming f = exchanged lock commit create drop compact pin unpin f reopen showTables showPairs showVectors
+
+abbrev pub reopening : Like reopen → Steps
+reopening f = exchanged lock commit create drop compact pin unpin vacuum f showTables showPairs showVectors
+
+abbrev pub showing : Like showTables → Like showPairs → Like showVectors → Steps
+showing t s x = exchanged lock commit create drop compact pin unpin vacuum reopen t s x
+
+-- an accepted lock forgets the pairs
+pub record LocksForgetting (m : VersionManager) (t : TableNo) (r : Locked) : Type 0 where
+  pub answer : told (r .answer) [] ≡ told (lockVerdict m (t .0) true) []
+  pub manager : HandsBack (lockVerdict m (t .0) true) m (withPairs (relocked (t .0) true (heldBy m)) []) (r .manager)
+
+abbrev pub forgetsPairs : Steps
+forgetsPairs = locking LocksForgetting
 
 -- a commit raises the epoch and the next ids, and keeps the old sets
 abbrev pub withSets : State → Result State → Result State
@@ -190,6 +201,46 @@ CommitLeaves (refused k) m os out r out′ =
 
 abbrev pub leavesPart : Steps
 leavesPart = committing (λ m n os out r out′. CommitLeaves (outcomeOf m n os (length out)) m os out r out′)
+
+-- a create as the port's under its verdict, but from the state that `from` makes of the manager's; `Leaves` says what is handed back
+pub record CreatesBy (from : State → State) (Leaves : Verdict → VersionManager → State → VersionManager → Type 0) (m : VersionManager) (shape : ℕ) (name out : List ℕ) (r : Created) (out′ : List ℕ) : Type 0 where
+  pub answer : createTold (r .answer) ≡ told (createVerdict m shape name (length out)) (from (heldBy m) .nextTable ∷ (current m + 1) ∷ length (appendOf (createdBy (from (heldBy m)) shape name)) ∷ [])
+  pub manager : Leaves (createVerdict m shape name (length out)) m (committed (createdBy (from (heldBy m)) shape name) (from (heldBy m))) (r .manager)
+  pub bytes : out′ ≡ after (createVerdict m shape name (length out)) (over (appendOf (createdBy (from (heldBy m)) shape name)) out) out
+
+-- it takes the number of live tables for the next id, so that an id comes again after a drop
+abbrev pub reusesId : Steps
+reusesId = creating (CreatesBy (λ s. withNext s (length (s .tables)) (s .nextRowset) (s .nextVector)) HandsBack)
+
+-- a refused create leaves its table
+abbrev pub createsRefused : Steps
+createsRefused = creating (CreatesBy (λ s. s) (λ v m s n. Manages n s))
+
+-- a drop or a compaction commits os under the port's verdict v, and appends the frame of `written`
+pub record Makes (v : Verdict) (os written : List Operation) (m : VersionManager) (out : List ℕ) (r : Committed) (out′ : List ℕ) : Type 0 where
+  pub answer : commitTold (r .answer) ≡ told v ((current m + 1) ∷ length (appendOf written) ∷ [])
+  pub manager : HandsBack v m (committed os (heldBy m)) (r .manager)
+  pub bytes : out′ ≡ after v (over (appendOf written) out) out
+
+-- a drop commits no `D`
+abbrev pub leavesRowsets : Steps
+leavesRowsets =
+    dropping (λ m t out. let os = dropOperations t [] (vectorsAt (current m) (heldBy m)) in Makes (dropVerdict m t (length out)) os os m out)
+
+-- a compaction commits no `W`
+abbrev pub leavesVectors : Steps
+leavesVectors =
+    compacting (λ m t new taken out. let os = compactOperations t new taken [] in Makes (compactVerdict m t new taken (length out)) os os m out)
+
+-- a compaction adds the new rowset, and deletes nothing
+abbrev pub keepsTaken : Steps
+keepsTaken =
+    compacting (λ m t new taken out. let os = compactOperations t new [] [] in Makes (compactVerdict m t new taken (length out)) os os m out)
+
+-- a compaction commits what the port does, and appends the new rowset's line alone
+abbrev pub appendsNewAlone : Steps
+appendsNewAlone =
+    compacting (λ m t new taken out. Makes (compactVerdict m t new taken (length out)) (compactedBy (heldBy m) t new taken) (compactOperations t new [] []) m out)
 
 -- a pin answers the next epoch
 pub record PinsNext (m : VersionManager) (b : PinBook) (a : PinAnswer) (b′ : PinBook) : Type 0 where
@@ -342,26 +393,33 @@ refusesReopen = reopening (λ src. ReopenIs (refused OutputTooShort))
 
 -- a show of pairs gives the current epoch's, whichever is asked for
 abbrev pub showsCurrent : Steps
-showsCurrent = showing (port .showTables) (λ m b e. ShowPairsSays m b (current m)) (port .showVectors)
+showsCurrent = showing showTables (λ m b e. ShowPairsSays m b (current m)) showVectors
 
 -- and one of vectors
 abbrev pub showsCurrentVectors : Steps
-showsCurrentVectors = showing (port .showTables) (port .showPairs) (λ m b e. ShowVectorsSays m b (current m))
+showsCurrentVectors = showing showTables showPairs (λ m b e. ShowVectorsSays m b (current m))
 
 -- a show of tables is always refused: no epoch is the current one
 abbrev pub refusesShow : Steps
-refusesShow = showing (λ m b e. TablesShown (heldBy m) e (Refused EpochNotPinned)) (port .showPairs) (port .showVectors)
+refusesShow = showing (λ m b e. TablesShown (heldBy m) e (Refused EpochNotPinned)) showPairs showVectors
 
 abbrev pub Refuted : Steps → Type 0
 Refuted S = Claim S → ⊥
 
 pub record WrongRefuted : Type 0 where
+  pub forgetsPairs : Refuted forgetsPairs
   pub keepsSets : Refuted keepsSets
   pub leavesEpoch : Refuted leavesEpoch
   pub judgesNothing : Refuted judgesNothing
   pub forgetsWaiting : Refuted forgetsWaiting
   pub appendsNoEnd : Refuted appendsNoEnd
   pub leavesPart : Refuted leavesPart
+  pub reusesId : Refuted reusesId
+  pub createsRefused : Refuted createsRefused
+  pub leavesRowsets : Refuted leavesRowsets
+  pub leavesVectors : Refuted leavesVectors
+  pub keepsTaken : Refuted keepsTaken
+  pub appendsNewAlone : Refuted appendsNewAlone
   pub answersNext : Refuted answersNext
   pub countsNoPin : Refuted countsNoPin
   pub countsRefused : Refuted countsRefused
