@@ -1,4 +1,4 @@
--- What create and drop hand out passes 29. Assumes nothing.
+-- What create and drop hand out passes 29, and a refused create changes nothing. Assumes nothing.
 use mathlib.Core.Path.{_≡_, refl, subst}
 use mathlib.Core.Bool.{Bool, true, false}
 use mathlib.Core.List.{List, _∷_}
@@ -8,7 +8,7 @@ use lib.ListN.{length}
 use Rattle.ids.specs.declared.refusal.Refusal.{Refusal}
 use Rattle.ids.specs.declared.refusal.Refusal.the-variants.{BadManager}
 use Rattle.ids.specs.declared.refusal.Verdict.{Verdict}
-use Rattle.ids.specs.declared.refusal.Verdict.the-variants.{Accepted}
+use Rattle.ids.specs.declared.refusal.Verdict.the-variants.{Accepted, Refused}
 use Rattle.ids.specs.Verdicts.{Rule, _⇒_, judged}
 use Rattle.ids.specs.Answers.{Told}
 use Rattle.manifest.specs.Operations.{Operation}
@@ -33,6 +33,11 @@ pub made-sound : (v : Verdict) (os : List Operation) (values : List ℕ) (m : Ve
 made-sound v os values m out t n out′ h e b a =
     commit-sound (m .inner) (n .inner) (length os) os (length out) (committed os (heldBy m)) b a (subst (λ (d : Verdict). HandsBack d m (committed os (heldBy m)) n) e (h .manager))
 
+made-refused : (v : Verdict) (os : List Operation) (values : List ℕ) (m : VersionManager) (out : List ℕ) (t : Told) (n : VersionManager) (out′ : List ℕ) (k : Refusal)
+    → MadeSays v os values m out t n out′ → v ≡ Refused k → (n ≡ m) × (out′ ≡ out)
+made-refused Accepted os values m out t n out′ k h e = absurd (let z : _≡_ {A = ℕ} 0 1 = cc in omega arith)
+made-refused (Refused j) os values m out t n out′ k h e = (h .manager, h .bytes)
+
 pub table-laws : TableLaws
 table-laws =
     record {
@@ -42,4 +47,5 @@ table-laws =
       drop = λ m t out r out′ w h e.
           let p = passed (badManager m) BadManager (dropRules (heldBy m) t (length out)) e in
           made-sound _ (droppedBy (heldBy m) t) _ m out _ (r .manager) out′ h e (p .0) (made-laws .drop (m .inner) t (length out) (p .0) w (p .1));
+      createRefused = λ m shape name out r out′ k h e. made-refused _ (createdBy (heldBy m) shape name) _ m out _ (r .manager) out′ k h e;
     }
