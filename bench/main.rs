@@ -15,7 +15,9 @@ fn main() {
     let wanted = std::env::args().nth(2).unwrap_or_default();
     let mut rows = timing::Rows::new(wanted);
     rows::calls(&mut rows);
+    rows::tables(&mut rows);
     rows::reopens(&mut rows);
     rows::vectors(&mut rows);
+    rows::groups(&mut rows);
     rows.run(rounds);
 }
