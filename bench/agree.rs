@@ -156,10 +156,12 @@ impl Both {
 
     // A table that is live, mostly, or is not, or is no id.
     fn table(&mut self) -> u32 {
-        match self.random.below(20) {
+        let (r, live) = (&mut self.random, &self.bound.tables);
+        match r.below(20) {
             0 => u32::MAX,
-            1 => self.random.below(20) as u32,
-            _ => self.random.below(4) as u32,
+            1 => r.below(20) as u32,
+            2..6 => live.ids[r.below(1 + live.count as u64) as usize % 16],
+            _ => r.below(4) as u32,
         }
     }
 
@@ -195,13 +197,18 @@ impl Both {
         assert!(x == y, "create: appends differ");
     }
 
+    // A drop of one of the tables that the operations are of is put back.
     fn drop(&mut self) {
+        let kept = (self.port, self.bound);
         let (table, room) = (self.table(), self.room(500));
         let (mut x, mut y) = (vec![0u8; room], vec![0u8; room]);
         let p = port::drop(self.port, table, &mut x);
         let b = bound::drop(self.bound, table, &mut y);
         self.handed("drop", p, b);
         assert!(x == y, "drop: appends differ");
+        if table < 4 {
+            (self.port, self.bound) = kept;
+        }
     }
 
     // The rowsets of a table that the current epoch shows.
@@ -314,24 +321,22 @@ impl Both {
         (self.port.epoch, self.port.next, self.port.manifest) = (m.epoch, m.next, m.manifest);
     }
 
-    // A call of tables, locks or handles. Some are on a manager with a number changed; it is put back then, and after most
-    // drops, so that tables stay.
+    // A call of tables, locks or handles. Some are on a manager with a number changed, and it is put back then.
     fn tables(&mut self) {
         let kept = (self.port, self.bound);
         let strained = self.random.one_in(3);
         if strained {
             self.strain();
         }
-        let call = self.random.below(9);
-        match call {
+        match self.random.below(10) {
             0 | 1 => self.lock(),
             2 => self.create(),
-            3 => self.drop(),
-            4..7 => self.compact(),
-            7 => self.select(),
+            3 | 4 => self.drop(),
+            5..8 => self.compact(),
+            8 => self.select(),
             _ => self.group(),
         }
-        if strained || (call == 3 && !self.random.one_in(20)) {
+        if strained {
             (self.port, self.bound) = kept;
         }
     }
