@@ -65,7 +65,7 @@ DrawRowsetTold m r = Tells RowsetAnswer rowsetTold (λ a. DrawRowsetSays m (reco
 abbrev pub DrawVectorTold : VersionManager → Handed → Type 0
 DrawVectorTold m r = Tells VectorAnswer vectorTold (λ a. DrawVectorSays m (record { manager = r .manager; answer = a })) (r .answer)
 
--- the library is lent what the numbers say
+-- the library is given the handles that the numbers say
 pub record GroupTold (m : VersionManager) (numbers rs ls cs fs ms : List ℕ) (r : Handed) (rs′ ls′ cs′ fs′ ms′ : List ℕ) : Type 0 where
   pub handles : Handles
   pub given : HandlesIn numbers handles
