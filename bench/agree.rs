@@ -1,6 +1,7 @@
 // Calls at random, refused ones among them, made of the library and by hand: whatever is said, handed back or written is equal.
 use crate::layout::{self, Answer, PinBook, VersionManager};
 use crate::{bound, port, texts};
+use std::collections::BTreeMap;
 
 pub struct Random(pub u64);
 
@@ -27,17 +28,28 @@ struct Both {
     bound: VersionManager,
     book: PinBook,
     random: Random,
-    // how often each number was answered
-    numbers: [usize; 30],
+    // how often each call answered each number
+    numbers: BTreeMap<(&'static str, u32), usize>,
 }
 
+// Every number that these calls may answer, in the order in which they are judged.
+const MET: [(&str, &[u32]); 7] = [
+    ("group", &[29, 2, 8, 26, 9, 0]),
+    ("create", &[29, 2, 15, 20, 21, 23, 26, 9, 0]),
+    ("drop", &[29, 2, 11, 20, 23, 9, 0]),
+    ("compact", &[29, 2, 6, 11, 12, 14, 16, 20, 22, 23, 27, 9, 0]),
+    ("lock", &[29, 2, 11, 25, 0]),
+    ("unlock", &[29, 2, 11, 27, 0]),
+    ("select", &[29, 2, 8, 11, 9, 0]),
+];
+
 impl Both {
-    fn said(&mut self, what: &str, p: Answer, b: Answer) {
+    fn said(&mut self, what: &'static str, p: Answer, b: Answer) {
         assert!(p == b, "{what}: {p:?}, and by hand {b:?}");
-        self.numbers[p.number as usize] += 1;
+        *self.numbers.entry((what, p.number)).or_default() += 1;
     }
 
-    fn handed(&mut self, what: &str, p: port::Handed, b: layout::Handed<VersionManager>) {
+    fn handed(&mut self, what: &'static str, p: port::Handed, b: layout::Handed<VersionManager>) {
         self.said(what, p.answer, b.answer);
         self.port = p.manager;
         self.bound = b.manager;
@@ -142,6 +154,193 @@ impl Both {
         }
     }
 
+    // A table that is live, mostly, or is not, or is no id.
+    fn table(&mut self) -> u32 {
+        let (r, live) = (&mut self.random, &self.bound.tables);
+        match r.below(20) {
+            0 => u32::MAX,
+            1 => r.below(20) as u32,
+            2..6 => live.ids[r.below(1 + live.count as u64) as usize % 16],
+            _ => r.below(4) as u32,
+        }
+    }
+
+    fn room(&mut self, needed: u64) -> usize {
+        if self.random.one_in(10) {
+            self.random.below(needed) as usize
+        } else {
+            65536
+        }
+    }
+
+    fn lock(&mut self) {
+        let (m, n, t) = (self.port, self.bound, self.table());
+        if self.random.one_in(2) {
+            self.handed("lock", port::lock(m, t), bound::lock(n, t));
+        } else {
+            self.handed("unlock", port::unlock(m, t), bound::unlock(n, t));
+        }
+    }
+
+    fn create(&mut self) {
+        let name = match self.random.below(12) {
+            0 => String::new(),
+            1 => "Slots".into(),
+            2 => "a".repeat(30 + self.random.below(6) as usize),
+            _ => format!("t{}", self.random.below(40)),
+        };
+        let (shape, room) = (self.random.number(), self.room(30));
+        let (mut x, mut y) = (vec![0u8; room], vec![0u8; room]);
+        let p = port::create(self.port, shape, name.as_bytes(), &mut x);
+        let b = bound::create(self.bound, shape, name.as_bytes(), &mut y);
+        self.handed("create", p, b);
+        assert!(x == y, "create: appends differ");
+    }
+
+    // A drop of one of the tables that the operations are of is put back.
+    fn drop(&mut self) {
+        let kept = (self.port, self.bound);
+        let (table, room) = (self.table(), self.room(500));
+        let (mut x, mut y) = (vec![0u8; room], vec![0u8; room]);
+        let p = port::drop(self.port, table, &mut x);
+        let b = bound::drop(self.bound, table, &mut y);
+        self.handed("drop", p, b);
+        assert!(x == y, "drop: appends differ");
+        if table < 4 {
+            (self.port, self.bound) = kept;
+        }
+    }
+
+    // The rowsets of a table that the current epoch shows.
+    fn shown(&self, table: u32) -> Vec<u32> {
+        let (s, epoch) = (&self.bound.rowsets, self.bound.epoch);
+        (0..s.count.min(256))
+            .filter(|i| s.tables[*i] == table && s.added[*i] <= epoch && s.deleted[*i] == 0)
+            .map(|i| s.rowsets[i])
+            .collect()
+    }
+
+    // Rowsets that may be taken, mostly.
+    fn taken(&mut self, table: u32) -> Vec<u32> {
+        let mut taken = self.shown(table);
+        let r = &mut self.random;
+        let one_in = 1 + r.below(20);
+        taken.retain(|_| r.one_in(one_in));
+        match r.below(12) {
+            0 => (0..595 + r.below(10) as u32).collect(),
+            1 => {
+                taken.push(r.below(700) as u32);
+                taken.sort();
+                taken
+            }
+            2 => {
+                taken.push(u32::MAX - r.below(2) as u32);
+                taken
+            }
+            3 => {
+                taken.reverse();
+                taken
+            }
+            _ => taken,
+        }
+    }
+
+    fn compact(&mut self) {
+        let (table, room) = (self.table(), self.room(200));
+        let taken = self.taken(table);
+        let new = match self.random.below(12) {
+            0..4 => None,
+            4 => Some(u32::MAX),
+            _ => Some(self.random.below(710) as u32),
+        };
+        let (mut x, mut y) = (vec![0u8; room], vec![0u8; room]);
+        let p = port::compact(self.port, table, new, &taken, &mut x);
+        let b = bound::compact(self.bound, table, new, &taken, &mut y);
+        self.handed("compact", p, b);
+        assert!(x == y, "compact: appends differ");
+    }
+
+    fn select(&mut self) {
+        let table = self.table();
+        let shown = self.shown(table).len();
+        let sizes = match self.random.below(10) {
+            0 => self.random.below(3) as usize,
+            _ => shown,
+        };
+        let sizes: Vec<u64> = (0..sizes).map(|_| self.random.number() as u64).collect();
+        let target = self.random.number() as u64 * (1 + self.random.below(9));
+        let room = self.room(20);
+        let (mut x, mut y) = (vec![0u32; room], vec![0u32; room]);
+        let p = port::select(self.port, table, target, &sizes, &mut x);
+        let b = bound::select(self.bound, table, target, &sizes, &mut y);
+        self.said("select", p, b);
+        assert!(x == y, "select: rowsets differ");
+    }
+
+    fn handles(&mut self) -> Vec<u64> {
+        let r = &mut self.random;
+        let n = match r.below(20) {
+            0 => 4090 + r.below(10),
+            _ => r.below(60),
+        };
+        let rowsets = 1 + r.below(30);
+        let mut handles: Vec<u64> = (0..n)
+            .map(|_| r.below(rowsets) << 32 | r.number() as u64)
+            .collect();
+        if n > 0 && r.one_in(10) {
+            handles[r.below(n) as usize] |= (u32::MAX as u64) << 32;
+        }
+        handles
+    }
+
+    fn group(&mut self) {
+        let handles = self.handles();
+        let room = [10, 10, 10, 100, 40].map(|n| self.room(n));
+        let columns = || room.map(|n| vec![0u32; n]);
+        let (mut x, mut y) = (columns(), columns());
+        let (mut f, mut g) = (vec![0u8; room[3]], vec![0u8; room[3]]);
+        let [r, l, c, _, w] = &mut x;
+        let p = port::group(self.port, &handles, r, l, c, &mut f, w);
+        let [r, l, c, _, w] = &mut y;
+        let b = bound::group(self.bound, &handles, r, l, c, &mut g, w);
+        self.handed("group", p, b);
+        assert!(x == y && f == g, "group: vectors differ");
+    }
+
+    // A number that some refusal looks at, changed on both sides.
+    fn strain(&mut self) {
+        let (r, m) = (&mut self.random, &mut self.bound);
+        match r.below(8) {
+            0 | 1 => m.epoch = u32::MAX,
+            2 => m.next.table = u32::MAX,
+            3 | 4 => m.next.vector = u64::MAX - r.below(9),
+            5 => m.next.rowset = r.below(700) as u32,
+            _ => m.manifest = 65536 - r.below(50) as usize,
+        }
+        let m = self.bound;
+        (self.port.epoch, self.port.next, self.port.manifest) = (m.epoch, m.next, m.manifest);
+    }
+
+    // A call of tables, locks or handles. Some are on a manager with a number changed, and it is put back then.
+    fn tables(&mut self) {
+        let kept = (self.port, self.bound);
+        let strained = self.random.one_in(3);
+        if strained {
+            self.strain();
+        }
+        match self.random.below(10) {
+            0 | 1 => self.lock(),
+            2 => self.create(),
+            3 | 4 => self.drop(),
+            5..8 => self.compact(),
+            8 => self.select(),
+            _ => self.group(),
+        }
+        if strained {
+            (self.port, self.bound) = kept;
+        }
+    }
+
     // A manager or a book that no call hands out.
     fn spoilt(&mut self) {
         let (mut m, mut n, mut book) = (self.port, self.bound, self.book);
@@ -215,10 +414,10 @@ pub fn some(calls: usize) {
         bound,
         book,
         random: Random(1),
-        numbers: [0; 30],
+        numbers: BTreeMap::new(),
     };
     for _ in 0..calls {
-        match s.random.below(40) {
+        match s.random.below(56) {
             0 if s.random.one_in(8) => s.reopen(),
             1 => s.vacuum(),
             2..4 => s.show(),
@@ -230,15 +429,25 @@ pub fn some(calls: usize) {
                 bound::draw_rowset(s.bound),
             ),
             14 => s.records(),
+            40.. => s.tables(),
             _ => s.commit(),
         }
     }
-    let said: Vec<String> = (0..30)
-        .filter(|n| s.numbers[*n] > 0)
-        .map(|n| format!("{n}: {}", s.numbers[n]))
-        .collect();
-    println!(
-        "{calls} calls at random agree; of each number, 0 for accepted: {}",
-        said.join(", ")
-    );
+    println!("{calls} calls at random agree; of each call, how often it answered each number, 0 for accepted:");
+    let numbers = &s.numbers;
+    let calls: std::collections::BTreeSet<&str> = numbers.keys().map(|k| k.0).collect();
+    for call in calls {
+        let said: Vec<String> = numbers
+            .iter()
+            .filter(|(k, _)| k.0 == call)
+            .map(|(k, n)| format!("{}: {n}", k.1))
+            .collect();
+        println!("  {call:<10} {}", said.join(", "));
+    }
+    for (call, all) in MET {
+        for n in all {
+            let met = numbers.contains_key(&(call, *n));
+            assert!(met, "{call}: {n} was never answered");
+        }
+    }
 }

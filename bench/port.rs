@@ -19,7 +19,41 @@ extern "C" {
     fn seqapti_fresh() -> Opened;
     fn seqapti_draw_rowset(m: Manager) -> Handed;
     fn seqapti_draw_vector(m: Manager) -> Handed;
+    fn seqapti_group(
+        m: Manager,
+        h: *const u64,
+        hn: usize,
+        r: *mut u32,
+        rn: usize,
+        l: *mut u32,
+        ln: usize,
+        c: *mut u32,
+        cn: usize,
+        f: *mut u8,
+        nf: usize,
+        w: *mut u32,
+        wn: usize,
+    ) -> Handed;
     fn seqapti_commit(m: Manager, ops: *const u8, n: usize, out: *mut u8, room: usize) -> Handed;
+    fn seqapti_create(
+        m: Manager,
+        shape: u32,
+        name: *const u8,
+        n: usize,
+        out: *mut u8,
+        room: usize,
+    ) -> Handed;
+    fn seqapti_drop(m: Manager, table: u32, out: *mut u8, room: usize) -> Handed;
+    fn seqapti_compact(
+        m: Manager,
+        table: u32,
+        has_new: bool,
+        new: u32,
+        taken: *const u32,
+        n: usize,
+        out: *mut u8,
+        room: usize,
+    ) -> Handed;
     fn seqapti_vacuum(
         m: Manager,
         b: PinBook,
@@ -61,6 +95,17 @@ extern "C" {
         v: *mut u64,
         vn: usize,
     ) -> Answer;
+    fn seqapti_lock(m: Manager, table: u32) -> Handed;
+    fn seqapti_unlock(m: Manager, table: u32) -> Handed;
+    fn seqapti_select(
+        m: Manager,
+        table: u32,
+        target: u64,
+        sizes: *const u64,
+        n: usize,
+        out: *mut u32,
+        room: usize,
+    ) -> Answer;
     fn seqapti_bootstrap(src: *const u8, n: usize, out: *mut u8, room: usize) -> Begun;
     fn seqapti_pin(m: Manager, b: PinBook) -> Booked;
     fn seqapti_unpin(m: Manager, b: PinBook, e: u32) -> Booked;
@@ -88,8 +133,72 @@ pub fn draw_vector(m: Manager) -> Handed {
 }
 
 #[inline(always)]
+pub fn group(
+    m: Manager,
+    handles: &[u64],
+    rowsets: &mut [u32],
+    lengths: &mut [u32],
+    counts: &mut [u32],
+    files: &mut [u8],
+    rows: &mut [u32],
+) -> Handed {
+    unsafe {
+        seqapti_group(
+            m,
+            handles.as_ptr(),
+            handles.len(),
+            rowsets.as_mut_ptr(),
+            rowsets.len(),
+            lengths.as_mut_ptr(),
+            lengths.len(),
+            counts.as_mut_ptr(),
+            counts.len(),
+            files.as_mut_ptr(),
+            files.len(),
+            rows.as_mut_ptr(),
+            rows.len(),
+        )
+    }
+}
+
+#[inline(always)]
 pub fn commit(m: Manager, ops: &[u8], out: &mut [u8]) -> Handed {
     unsafe { seqapti_commit(m, ops.as_ptr(), ops.len(), out.as_mut_ptr(), out.len()) }
+}
+
+#[inline(always)]
+pub fn create(m: Manager, shape: u32, name: &[u8], out: &mut [u8]) -> Handed {
+    unsafe {
+        seqapti_create(
+            m,
+            shape,
+            name.as_ptr(),
+            name.len(),
+            out.as_mut_ptr(),
+            out.len(),
+        )
+    }
+}
+
+#[inline(always)]
+pub fn drop(m: Manager, table: u32, out: &mut [u8]) -> Handed {
+    unsafe { seqapti_drop(m, table, out.as_mut_ptr(), out.len()) }
+}
+
+#[inline(always)]
+pub fn compact(m: Manager, table: u32, new: Option<u32>, taken: &[u32], out: &mut [u8]) -> Handed {
+    unsafe {
+        seqapti_compact(
+            m,
+            table,
+            new.is_some(),
+            new.unwrap_or(0),
+            taken.as_ptr(),
+            taken.len(),
+            out.as_mut_ptr(),
+            out.len(),
+        )
+    }
 }
 
 #[inline(always)]
@@ -176,6 +285,31 @@ pub fn show_vectors(
             rowsets.len(),
             vectors.as_mut_ptr(),
             vectors.len(),
+        )
+    }
+}
+
+#[inline(always)]
+pub fn lock(m: Manager, table: u32) -> Handed {
+    unsafe { seqapti_lock(m, table) }
+}
+
+#[inline(always)]
+pub fn unlock(m: Manager, table: u32) -> Handed {
+    unsafe { seqapti_unlock(m, table) }
+}
+
+#[inline(always)]
+pub fn select(m: Manager, table: u32, target: u64, sizes: &[u64], out: &mut [u32]) -> Answer {
+    unsafe {
+        seqapti_select(
+            m,
+            table,
+            target,
+            sizes.as_ptr(),
+            sizes.len(),
+            out.as_mut_ptr(),
+            out.len(),
         )
     }
 }

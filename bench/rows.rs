@@ -71,10 +71,12 @@ pub fn calls(rows: &mut Rows) {
         }
     }
     for held in [0, 256] {
-        draw(
+        handing(
             rows,
             format!("draw, {held} held"),
             reopened(&texts::held(held)),
+            port::draw_rowset,
+            |m| bound::draw_rowset(m),
         );
         for pinned in [1, MOST_PINNED] {
             let (m, book) = pinned_epochs(held, pinned);
@@ -101,6 +103,185 @@ pub fn calls(rows: &mut Rows) {
         .fold(full, |m, i| committed(m, &texts::deletions(&[*i])));
     vacuum(rows, "vacuum of 256, epochs falling".into(), falling);
     show(rows, "show of 256 pairs".into(), full);
+}
+
+// Locks, and the calls that make their own commit.
+pub fn tables(rows: &mut Rows) {
+    for held in [0, 256] {
+        let m = reopened(&texts::held(held));
+        let locked = port::lock(m, 0).manager;
+        handing(
+            rows,
+            format!("lock, {held} held"),
+            m,
+            |m| port::lock(m, 0),
+            |m| bound::lock(m, 0),
+        );
+        handing(
+            rows,
+            format!("unlock, {held} held"),
+            locked,
+            |m| port::unlock(m, 0),
+            |m| bound::unlock(m, 0),
+        );
+        making(
+            rows,
+            format!("create, {held} held"),
+            m,
+            |m, out| port::create(m, 7, b"bookings_of_1997", out),
+            |m, out| bound::create(m, 7, b"bookings_of_1997", out),
+        );
+    }
+    let full = reopened(&texts::one_table(256));
+    select(rows, "select, 256 rowsets".into(), full);
+    making(
+        rows,
+        "drop of a table of 256".into(),
+        full,
+        |m, out| port::drop(m, 0, out),
+        |m, out| bound::drop(m, 0, out),
+    );
+    let half = reopened(&texts::one_table(128));
+    compaction(rows, "compact of 2, 128 held", half, Some(999_999), 2);
+    compaction(rows, "compact of 256 to nothing", full, None, 256);
+}
+
+// The first so many rowsets of the one table are taken.
+fn compaction(rows: &mut Rows, name: &str, m: port::Manager, new: Option<u32>, count: usize) {
+    let taken = kept(
+        (0..count)
+            .map(|i| texts::rowset(i) as u32)
+            .collect::<Vec<_>>(),
+    );
+    making(
+        rows,
+        name.into(),
+        port::lock(m, 0).manager,
+        move |m, out| port::compact(m, 0, new, black_box(taken), out),
+        move |m, out| bound::compact(m, 0, new, black_box(taken), out),
+    );
+}
+
+// A call that takes a manager and hands one back.
+fn handing(
+    rows: &mut Rows,
+    name: String,
+    m: port::Manager,
+    port: impl Fn(port::Manager) -> port::Handed + 'static,
+    bound: impl Fn(VersionManager) -> port::Handed + 'static,
+) {
+    let (m, c) = (kept(m), kept(m));
+    let (mut p, mut b) = (Box::new(port(*m)), Box::new(bound(*c)));
+    equal(&name, p.answer, b.answer);
+    same(&name, &p.manager, &b.manager);
+    rows.add(
+        name,
+        move || {
+            *p = port(*black_box(m));
+            black_box(&p);
+        },
+        move || {
+            *b = bound(*black_box(c));
+            black_box(&b);
+        },
+    );
+}
+
+// A call that makes an append, too.
+fn making(
+    rows: &mut Rows,
+    name: String,
+    m: port::Manager,
+    port: impl Fn(port::Manager, &mut [u8]) -> port::Handed + 'static,
+    bound: impl Fn(VersionManager, &mut [u8]) -> port::Handed + 'static,
+) {
+    let out = buffer::<u8>(65536);
+    port(m, at(out));
+    let written = copied(out);
+    at(out).fill(0);
+    bound(m, at(out));
+    assert!(written == at(out), "{name}: appends differ");
+    handing(
+        rows,
+        name,
+        m,
+        move |m| port(m, at(out)),
+        move |m| bound(m, at(out)),
+    );
+}
+
+// Of sizes at random about half are taken.
+fn select(rows: &mut Rows, name: String, m: port::Manager) {
+    let mut random = crate::agree::Random(88172645463325252);
+    let sizes = kept((0..256).map(|_| random.below(1000)).collect::<Vec<u64>>());
+    let target = sizes.iter().sum::<u64>() / 3;
+    let (m, c, out) = (kept(m), kept(m), buffer::<u32>(MOST_HELD));
+    let p = port::select(*m, 0, target, sizes, at(out));
+    let taken = copied(out);
+    at(out).fill(0);
+    equal(&name, p, bound::select(*c, 0, target, sizes, at(out)));
+    assert!(taken == at(out), "{name}: rowsets differ");
+    rows.add(
+        name,
+        move || {
+            black_box(port::select(
+                *black_box(m),
+                0,
+                target,
+                black_box(sizes),
+                at(out),
+            ));
+        },
+        move || {
+            black_box(bound::select(
+                *black_box(c),
+                0,
+                target,
+                black_box(sizes),
+                at(out),
+            ));
+        },
+    );
+}
+
+// 4,096 handles of random rows over so many rowsets, and of one rowset with its rows rising.
+pub fn groups(rows: &mut Rows) {
+    let mut random = crate::agree::Random(88172645463325252);
+    for rowsets in [4, 256] {
+        let handles = (0..4096)
+            .map(|_| (1000 + random.below(rowsets)) << 32 | random.below(1_000_000))
+            .collect();
+        group(
+            rows,
+            format!("group, 4,096 random rows of {rowsets}"),
+            handles,
+        );
+    }
+    let rising = (0..4096).map(|i| 1000 << 32 | 16 * i).collect();
+    group(rows, "group, 4,096 rising rows of 1".into(), rising);
+}
+
+fn group(rows: &mut Rows, name: String, handles: Vec<u64>) {
+    let handles = kept(handles);
+    let (r, l, c) = (
+        buffer::<u32>(4096),
+        buffer::<u32>(4096),
+        buffer::<u32>(4096),
+    );
+    let (f, w) = (buffer::<u8>(7 * 4096), buffer::<u32>(4096));
+    let m = reopened(&texts::held(256));
+    let by_port = move |m| port::group(m, black_box(handles), at(r), at(l), at(c), at(f), at(w));
+    let by_hand = move |m| bound::group(m, black_box(handles), at(r), at(l), at(c), at(f), at(w));
+    let all = move || (copied(r), copied(l), copied(c), copied(f), copied(w));
+    by_port(m);
+    let made = all();
+    for column in [r, l, c, w] {
+        at(column).fill(0);
+    }
+    at(f).fill(0);
+    by_hand(m);
+    assert!(made == all(), "{name}: vectors differ");
+    handing(rows, name, m, by_port, by_hand);
 }
 
 // The last so many epochs are pinned, the current one among them.
@@ -139,25 +320,6 @@ fn commit(rows: &mut Rows, name: String, m: port::Manager, ops: &[String]) {
         },
         move || {
             *b = bound::commit(*black_box(c), black_box(lines), at(out));
-            black_box(&b);
-        },
-    );
-}
-
-fn draw(rows: &mut Rows, name: String, m: port::Manager) {
-    let (m, c) = (kept(m), kept(m));
-    let mut p = Box::new(port::draw_rowset(*m));
-    let mut b = Box::new(bound::draw_rowset(*c));
-    equal(&name, p.answer, b.answer);
-    same(&name, &p.manager, &b.manager);
-    rows.add(
-        name,
-        move || {
-            *p = port::draw_rowset(*black_box(m));
-            black_box(&p);
-        },
-        move || {
-            *b = bound::draw_rowset(*black_box(c));
             black_box(&b);
         },
     );

@@ -24,6 +24,18 @@ pub fn held(n: usize) -> String {
     s + "E\n"
 }
 
+// One table, with so many pairs and a vector over each.
+pub fn one_table(n: usize) -> String {
+    let mut s = String::from("B\nN,1,1000000,1000000\nT,0,7,bookings\n");
+    for i in 0..n {
+        s += &format!("A,0,{}\n", rowset(i));
+    }
+    for i in 0..n {
+        s += &format!("V,0,{},{}\n", rowset(i), vector(i));
+    }
+    s + "E\n"
+}
+
 // The vectors of some of these, and then the pairs, deleted.
 pub fn deletions(places: &[usize]) -> Vec<String> {
     let vectors = places

@@ -1,4 +1,5 @@
 // Each answer of the library as numbers.
+use compactor::SelectAnswer;
 use delete_vector::Held;
 use delete_vector::Loaded;
 use delete_vector::Masked;
@@ -10,6 +11,8 @@ use pinning::UnpinAnswer;
 use show::ShowAnswer;
 use storage::ReopenAnswer;
 use version_manager::CommitAnswer;
+use version_manager::CreateAnswer;
+use version_manager::GroupAnswer;
 use version_manager::RowsetAnswer;
 use version_manager::VacuumAnswer;
 use version_manager::VectorAnswer;
@@ -17,7 +20,10 @@ ghost use mathlib.Core.Path.{_≡_};
 ghost use mathlib.Core.List.{[], _∷_};
 ghost use Rattle.ids.specs.Answers.{told};
 ghost use Rattle.version_manager.specs.Commit.{commitTold};
+ghost use Rattle.version_manager.specs.Create.{createTold};
+ghost use Rattle.version_manager.specs.Group.{groupTold};
 ghost use Rattle.version_manager.specs.Vacuum.{vacuumTold};
+ghost use Rattle.compactor.specs.Says.{selectTold};
 ghost use Rattle.show.specs.Says.{showTold};
 ghost use Rattle.version_manager.specs.Draw.{rowsetTold, vectorTold};
 ghost use Rattle.pinning.specs.Says.{flag, pinTold, unpinTold};
@@ -78,6 +84,17 @@ fn two(first: u64, second: u64) -> Answer
     }
 }
 
+fn three(first: u64, second: u64, third: u64) -> Answer
+    ensures { λ r. ⌜ saidBy r ≡ told Verdict.Accepted (first ∷ second ∷ third ∷ []) ⌝ }
+{
+    Answer {
+        number: 0,
+        place: 0,
+        count: 3,
+        values: [first, second, third],
+    }
+}
+
 fn wide(n: u32) -> u64
     ensures { λ r. ⌜ r ≡ n ⌝ }
 {
@@ -117,12 +134,30 @@ pub fn drawn_vector(answer: VectorAnswer) -> Answer
     }
 }
 
+pub fn grouped(answer: GroupAnswer) -> Answer
+    ensures { λ r. ⌜ saidBy r ≡ groupTold answer ⌝ }
+{
+    match answer {
+        GroupAnswer::Vectors(n, first) => two(size(n), first.0),
+        GroupAnswer::Refused(why) => refused(why),
+    }
+}
+
 pub fn committed(answer: CommitAnswer) -> Answer
     ensures { λ r. ⌜ saidBy r ≡ commitTold answer ⌝ }
 {
     match answer {
         CommitAnswer::Appended(epoch, n) => two(wide(epoch), size(n)),
         CommitAnswer::Refused(why) => refused(why),
+    }
+}
+
+pub fn created(answer: CreateAnswer) -> Answer
+    ensures { λ r. ⌜ saidBy r ≡ createTold answer ⌝ }
+{
+    match answer {
+        CreateAnswer::Table(table, epoch, n) => three(wide(table.0), wide(epoch), size(n)),
+        CreateAnswer::Refused(why) => refused(why),
     }
 }
 
@@ -141,6 +176,25 @@ pub fn shown(answer: ShowAnswer) -> Answer
     match answer {
         ShowAnswer::Shown(n) => one(size(n)),
         ShowAnswer::Refused(why) => refused(why),
+    }
+}
+
+pub fn selected(answer: SelectAnswer) -> Answer
+    ensures { λ r. ⌜ saidBy r ≡ selectTold answer ⌝ }
+{
+    match answer {
+        SelectAnswer::Chosen(n) => one(size(n)),
+        SelectAnswer::Refused(why) => refused(why),
+    }
+}
+
+// Of a call that has no values.
+pub fn relocked(answer: Verdict) -> Answer
+    ensures { λ r. ⌜ saidBy r ≡ told answer [] ⌝ }
+{
+    match answer {
+        Verdict::Accepted => none(),
+        Verdict::Refused(why) => refused(why),
     }
 }
 

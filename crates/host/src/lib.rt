@@ -1,13 +1,15 @@
 // The border: every entry point for C and Rust. Structs of numbers go by value and slices by pointer and length; no enum crosses.
 use answers::Answer;
 use ids::RowNo;
+use ids::TableNo;
 use pins::PinBook;
 use version_manager::Opened;
 use version_manager::VersionManager;
 ghost use Rattle.version_manager.specs.Managers.{FreshSays};
-ghost use Rattle.host.specs.Calls.{WriteTold, ReadTold, MemoryTold, MaskTold, DrawRowsetTold, DrawVectorTold, CommitTold, VacuumTold, ShowTablesTold, ShowPairsTold, ShowVectorsTold, ReopenTold, PinTold, UnpinTold};
+ghost use Rattle.host.specs.Calls.{WriteTold, ReadTold, MemoryTold, MaskTold, DrawRowsetTold, DrawVectorTold, GroupTold, CommitTold, CreateTold, DropTold, CompactTold, VacuumTold, ShowTablesTold, ShowPairsTold, ShowVectorsTold, LockTold, UnlockTold, SelectTold, ReopenTold, PinTold, UnpinTold};
 
 pub mod answers;
+pub mod arguments;
 
 #[repr(C)]
 pub struct Handed {
@@ -89,12 +91,81 @@ pub extern "C" fn seqapti_draw_vector(manager: VersionManager) -> Handed
     Handed { manager, answer }
 }
 
+// Each handle as one number, its rowset in the upper 32 bits and its row in the lower ones.
+#[no_mangle]
+pub extern "C" fn seqapti_group(
+    manager: VersionManager,
+    handles: &[u64],
+    rowsets: &mut [u32],
+    lengths: &mut [u32],
+    counts: &mut [u32],
+    files: &mut [u8],
+    rows: &mut [u32],
+) -> Handed
+    ensures { λ r. ⌜ GroupTold manager (now (handles .entry)) (now (rowsets .entry)) (now (lengths .entry)) (now (counts .entry)) (now (files .entry)) (now (rows .entry)) r (now (rowsets .exit)) (now (lengths .exit)) (now (counts .exit)) (now (files .exit)) (now (rows .exit)) ⌝ }
+{
+    let handles = arguments::handles(handles);
+    let done = manager.group(handles, rowsets, lengths, counts, files, rows);
+    let told = done.answer;
+    let answer = answers::grouped(told);
+    let manager = done.manager;
+    Handed { manager, answer }
+}
+
 // The operations as manifest lines: each newline ends one, and bytes after the last newline are one more.
 #[no_mangle]
 pub extern "C" fn seqapti_commit(manager: VersionManager, ops: &[u8], out: &mut [u8]) -> Handed
     ensures { λ r. ⌜ CommitTold manager (now (ops .entry)) (now (out .entry)) r (now (out .exit)) ⌝ }
 {
     let done = manager.commit_lines(ops, out);
+    let told = done.answer;
+    let answer = answers::committed(told);
+    let manager = done.manager;
+    Handed { manager, answer }
+}
+
+#[no_mangle]
+pub extern "C" fn seqapti_create(
+    manager: VersionManager,
+    shape: u32,
+    name: &[u8],
+    out: &mut [u8],
+) -> Handed
+    ensures { λ r. ⌜ CreateTold manager shape (now (name .entry)) (now (out .entry)) r (now (out .exit)) ⌝ }
+{
+    let name = arguments::name(name);
+    let done = manager.create(shape, name, out);
+    let told = done.answer;
+    let answer = answers::created(told);
+    let manager = done.manager;
+    Handed { manager, answer }
+}
+
+#[no_mangle]
+pub extern "C" fn seqapti_drop(manager: VersionManager, table: u32, out: &mut [u8]) -> Handed
+    ensures { λ r. ⌜ DropTold manager table (now (out .entry)) r (now (out .exit)) ⌝ }
+{
+    let done = manager.drop(TableNo(table), out);
+    let told = done.answer;
+    let answer = answers::committed(told);
+    let manager = done.manager;
+    Handed { manager, answer }
+}
+
+// Without a new rowset, `new` is not looked at.
+#[no_mangle]
+pub extern "C" fn seqapti_compact(
+    manager: VersionManager,
+    table: u32,
+    has_new: bool,
+    new: u32,
+    taken: &[u32],
+    out: &mut [u8],
+) -> Handed
+    ensures { λ r. ⌜ CompactTold manager table «has_new» new (now (taken .entry)) (now (out .entry)) r (now (out .exit)) ⌝ }
+{
+    let new = arguments::new_rowset(has_new, new);
+    let done = manager.compact(TableNo(table), new, taken, out);
     let told = done.answer;
     let answer = answers::committed(told);
     let manager = done.manager;
@@ -160,6 +231,42 @@ pub extern "C" fn seqapti_show_vectors(
 {
     let answer = manager.show_vectors(book, epoch, tables, rowsets, vectors);
     answers::shown(answer)
+}
+
+#[no_mangle]
+pub extern "C" fn seqapti_lock(manager: VersionManager, table: u32) -> Handed
+    ensures { λ r. ⌜ LockTold manager table r ⌝ }
+{
+    let done = manager.lock(TableNo(table));
+    let told = done.answer;
+    let answer = answers::relocked(told);
+    let manager = done.manager;
+    Handed { manager, answer }
+}
+
+#[no_mangle]
+pub extern "C" fn seqapti_unlock(manager: VersionManager, table: u32) -> Handed
+    ensures { λ r. ⌜ UnlockTold manager table r ⌝ }
+{
+    let done = manager.unlock(TableNo(table));
+    let told = done.answer;
+    let answer = answers::relocked(told);
+    let manager = done.manager;
+    Handed { manager, answer }
+}
+
+#[no_mangle]
+pub extern "C" fn seqapti_select(
+    manager: VersionManager,
+    table: u32,
+    target: u64,
+    sizes: &[u64],
+    out: &mut [u32],
+) -> Answer
+    ensures { λ r. ⌜ SelectTold manager table target (now (sizes .entry)) (now (out .entry)) r (now (out .exit)) ⌝ }
+{
+    let answer = manager.select(TableNo(table), target, sizes, out);
+    answers::selected(answer)
 }
 
 #[no_mangle]
