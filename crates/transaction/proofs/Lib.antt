@@ -5,3 +5,4 @@ pub mod Runs
 pub mod Filling
 pub mod Outputs
 pub mod Partition
+pub mod Copying

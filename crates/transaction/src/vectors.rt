@@ -9,7 +9,7 @@ ghost use mathlib.Core.Path.{_≡_};
 ghost use mathlib.Core.Bool.{_||_};
 ghost use Prim.Native.Nat.{_+_, _≤_};
 ghost use lib.Dec.{ltb};
-ghost use lib.ListN.{length};
+ghost use lib.ListN.{length, take};
 ghost use Rattle.lists.specs.Written.{over};
 ghost use Rattle.delete_vector.specs.Sizes.{sizeTable};
 ghost use Rattle.delete_vector.specs.Records.{recordsOf};
@@ -31,6 +31,17 @@ pub struct Arranged {
     pub kept: usize,
 }
 
+// Rows that rise already are only copied.
+fn ascend(rows: &[u32], out: &mut [u32], spare: &mut [u32]) -> usize
+    requires { ⌜ (length (now rows) ≤ length (now out)) × (length (now rows) ≤ length (now spare)) ⌝ }
+    ensures { λ r. ⌜ (take r (now (out .exit)) ≡ inMemory (now (rows .entry))) × (r ≤ length (now (rows .entry))) ⌝ }
+{
+    if memory::rises(rows) {
+        return memory::copy(rows, 0, rows.len(), out, 0);
+    }
+    memory::ascend(rows, out, spare)
+}
+
 // The vector of the rowset whose first handle is given.
 fn make(
     rowsets: &[u32],
@@ -49,7 +60,7 @@ fn make(
 {
     let end = chains::gather(rowsets, rows, nexts, first, ordered, at);
     let bytes = file::file_size(&ordered[at..end], sizes);
-    let count = memory::ascend(&ordered[at..end], &mut held[kept..], spare);
+    let count = ascend(&ordered[at..end], &mut held[kept..], spare);
     Made { end, bytes, count }
 }
 

@@ -6,6 +6,7 @@ use ids::TableNo;
 use ids::VectorNo;
 use ids::limits::LARGEST_32;
 use ids::limits::LARGEST_64;
+use ids::limits::LONGEST_LINE;
 use ids::limits::MOST_OPERATIONS;
 use ids::name::Name;
 use ids::refusal::Refusal;
@@ -22,6 +23,7 @@ use version_state::Held;
 use version_state::VersionManagerInner;
 ghost use mathlib.Core.Path.{_≡_};
 ghost use lib.ListN.{length};
+ghost use Rattle.ids.specs.Limits.{longestLine};
 ghost use Rattle.ids.specs.Names.{nameOf};
 ghost use Rattle.manifest.specs.Operations.{batchOf};
 ghost use Rattle.commit.specs.Lent.{operationsIn};
@@ -128,6 +130,13 @@ pub fn handed(inner: VersionManagerInner) -> VersionManager
     ensures { λ r. ⌜ r .inner ≡ inner ⌝ }
 {
     VersionManager { inner }
+}
+
+// Room for one line.
+fn buffer() -> [u8; LONGEST_LINE]
+    ensures { λ r. ⌜ length r ≡ longestLine ⌝ }
+{
+    [0u8; LONGEST_LINE]
 }
 
 // What fresh, draw, group, create, drop and a compaction hand out passes 29.
@@ -527,7 +536,7 @@ impl VersionManager {
         let inner = self.inner;
         let id = inner.next.table;
         let room = out.len();
-        let mut lines = commit::typed::buffer();
+        let mut lines = buffer();
         let made = table::create(inner, shape, name, room, &mut lines);
         let verdict = made.verdict;
         if let Verdict::Refused(refusal) = verdict {
