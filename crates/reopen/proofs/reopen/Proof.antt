@@ -26,11 +26,17 @@ slice-aggregate-write-all c =
 write-all-requires : tie.Need-write-all-requires
 write-all-requires c κs = search needs
 
+written-requires : tie.Need-written-requires
+written-requires c κs = search needs
+
 enum-known-answer-2 : tie.Need-enum-known-answer-2
 enum-known-answer-2 c = search needs
 
-refused-requires : tie.Need-refused-requires
-refused-requires c κs = search needs
+say-requires : tie.Need-say-requires
+say-requires c κs = search needs
+
+written-requires-2 : tie.Need-written-requires-2
+written-requires-2 c κs = search needs
 
 same-length : tie.Need-same-length
 same-length c = search needs
@@ -53,8 +59,10 @@ reopen-spec =
     slice-reshare-prefix-write-all
     slice-aggregate-write-all
     write-all-requires
+    written-requires
     enum-known-answer-2
-    refused-requires
+    say-requires
+    written-requires-2
     same-length
     returns
     same-length-2
