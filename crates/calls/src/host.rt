@@ -7,10 +7,6 @@ use script::Count;
 use script::Found;
 use script::words::Plain;
 
-fn long(n: u64) -> usize {
-    n as usize
-}
-
 // A line that is no call is answered, and uses the room up.
 fn no_line(host: Host) -> Host {
     say::no_call();
@@ -19,14 +15,14 @@ fn no_line(host: Host) -> Host {
 
 fn room_line(host: Host, s: &[u8]) -> Host {
     match script::one(s, 18446744073709551615) {
-        Found::Of(n) => host.with_room(long(n)),
+        Found::Of(n) => host.with_room(script::long(n)),
         Found::Nothing => no_line(host),
     }
 }
 
 fn cut(host: Host, s: &[u8]) -> Host {
     match script::one(s, 18446744073709551615) {
-        Found::Of(n) => host.cut(long(n)),
+        Found::Of(n) => host.cut(script::long(n)),
         Found::Nothing => no_line(host),
     }
 }

@@ -9,8 +9,10 @@ use world::ENOUGH;
 use world::Host;
 use world::World;
 
+mod appends;
 mod booking;
 mod changes;
+mod group;
 mod host;
 mod reopen;
 mod world;
@@ -30,8 +32,8 @@ fn call(
     let next = world.with_host(host.with_room(ENOUGH));
     match word {
         Word::Fresh => changes::fresh(next, s),
-        Word::Commit => changes::commit(next, s, room, file),
         Word::Reopen => reopen::reopen(next, s, room, file, old),
+        Word::Appended(appended) => appends::appended(next, appended, s, room, file),
         Word::Managed(managed) => {
             next.with_manager(changes::managed(manager, book, managed, s, room))
         }

@@ -2,18 +2,29 @@
 
 pub enum Word {
     Fresh,
-    Commit,
     Reopen,
+    Appended(Appended),
     Managed(Managed),
     Booked(Booked),
     Told(Told),
     Plain(Plain),
 }
 
+// Calls that hand a manager back and append to the file.
+pub enum Appended {
+    Commit,
+    Create,
+    Drop,
+    Compact,
+}
+
 // Calls that hand a manager back and touch nothing else.
 pub enum Managed {
     Draw,
     Vacuum,
+    Lock,
+    Unlock,
+    Group,
 }
 
 // Calls that alter the pin book alone.
@@ -25,6 +36,7 @@ pub enum Booked {
 // Calls that change nothing.
 pub enum Told {
     Show,
+    Select,
     State,
 }
 
@@ -38,7 +50,7 @@ pub enum Plain {
     Cut,
     Stale,
     Write,
-    // No call, or one that is still to come.
+    // No call.
     Other,
 }
 
@@ -84,6 +96,9 @@ fn read_word(s: &[u8]) -> Word {
     if crate::same(s, b"show") {
         return Word::Told(Told::Show);
     }
+    if crate::same(s, b"select") {
+        return Word::Told(Told::Select);
+    }
     if crate::same(s, b"state") {
         return Word::Told(Told::State);
     }
@@ -91,21 +106,47 @@ fn read_word(s: &[u8]) -> Word {
     Word::Plain(plain)
 }
 
-pub fn first_word(s: &[u8]) -> Word {
-    if crate::same(s, b"fresh") {
-        return Word::Fresh;
-    }
+fn managed_word(s: &[u8]) -> Word {
     if crate::same(s, b"draw") {
         return Word::Managed(Managed::Draw);
-    }
-    if crate::same(s, b"commit") {
-        return Word::Commit;
     }
     if crate::same(s, b"vacuum") {
         return Word::Managed(Managed::Vacuum);
     }
+    if crate::same(s, b"lock") {
+        return Word::Managed(Managed::Lock);
+    }
+    if crate::same(s, b"unlock") {
+        return Word::Managed(Managed::Unlock);
+    }
+    if crate::same(s, b"group") {
+        return Word::Managed(Managed::Group);
+    }
+    read_word(s)
+}
+
+fn appended_word(s: &[u8]) -> Word {
+    if crate::same(s, b"commit") {
+        return Word::Appended(Appended::Commit);
+    }
+    if crate::same(s, b"create") {
+        return Word::Appended(Appended::Create);
+    }
+    if crate::same(s, b"drop") {
+        return Word::Appended(Appended::Drop);
+    }
+    if crate::same(s, b"compact") {
+        return Word::Appended(Appended::Compact);
+    }
+    managed_word(s)
+}
+
+pub fn first_word(s: &[u8]) -> Word {
+    if crate::same(s, b"fresh") {
+        return Word::Fresh;
+    }
     if crate::same(s, b"reopen") {
         return Word::Reopen;
     }
-    read_word(s)
+    appended_word(s)
 }

@@ -1,10 +1,10 @@
--- `script::rows` meets its contract. Assumes nothing.
+-- `script::numbers` meets its contract. Assumes nothing.
 use Prim.Native.Nat.{_≤_, _-_}
 use mathlib.Core.Path.{_≡_}
 use lib.ListN.{length}
 use borrow.Author.Needs.{needs}
-use Rattle.script.proofs.rows.Statement.{statement}
-use Rattle.script.proofs.rows.Tie as tie
+use Rattle.script.proofs.numbers.Statement.{statement}
+use Rattle.script.proofs.numbers.Tie as tie
 
 abbrev Inv-loop : tie.InvT-loop
 Inv-loop s out₀ classes at₀ k₀ out at k = (at ≤ length s) × (k ≤ at) × (length out ≡ length out₀)
@@ -69,8 +69,8 @@ same-length-2 c = search needs
 returns-2 : tie.Need-returns-2 Inv-loop μ-loop
 returns-2 c = search needs
 
-pub rows-spec : {M : Type 1} → statement M
-rows-spec =
+pub numbers-spec : {M : Type 1} → statement M
+numbers-spec =
     tie.close
     (tie.spec
     Inv-loop
