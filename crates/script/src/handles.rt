@@ -21,7 +21,7 @@ pub struct ReadHandles {
 }
 
 // Internal, as is the next: it is lent the table of classes. The row of a handle, from the colon on.
-fn handle_on(classes: &[u8; 256], s: &[u8], rowset: u32) -> Handle
+fn parsed_on(classes: &[u8; 256], s: &[u8], rowset: u32) -> Handle
     requires { ⌜ Classes (now classes) ⌝ }
 {
     if s.len() == 0 {
@@ -36,13 +36,13 @@ fn handle_on(classes: &[u8; 256], s: &[u8], rowset: u32) -> Handle
     }
 }
 
-fn handle(classes: &[u8; 256], s: &[u8]) -> Handle
+fn parsed(classes: &[u8; 256], s: &[u8]) -> Handle
     requires { ⌜ Classes (now classes) ⌝ }
 {
     match text::read_number(classes, s, 0, 4294967295) {
         Number::At(n, i) => {
             let i = crate::least(i, s.len());
-            handle_on(classes, &s[i..], crate::narrow(n))
+            parsed_on(classes, &s[i..], crate::narrow(n))
         }
         Number::Nothing => Handle::Nothing,
     }
@@ -72,7 +72,7 @@ pub fn handles(s: &[u8]) -> ReadHandles {
     while at < s.len() {
         let from = at + 1;
         let end = crate::word_end(s, from);
-        let Handle::Of(rowset, row) = handle(&classes, &s[from..end]) else {
+        let Handle::Of(rowset, row) = parsed(&classes, &s[from..end]) else {
             return ReadHandles {
                 handles,
                 whole: false,
