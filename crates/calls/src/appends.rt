@@ -134,7 +134,7 @@ fn compact(manager: VersionManager, s: &[u8], out: &mut [u8]) -> Append {
     }
 }
 
-fn append(manager: VersionManager, word: Appended, s: &[u8], out: &mut [u8]) -> Append {
+fn call(manager: VersionManager, word: Appended, s: &[u8], out: &mut [u8]) -> Append {
     match word {
         Appended::Commit => commit(manager, s, out),
         Appended::Create => create(manager, s, out),
@@ -149,7 +149,7 @@ pub fn appended(world: World, word: Appended, s: &[u8], room: usize, file: &mut 
     let len = world.host.len;
     let start = script::least(len, file.len());
     let end = start + script::least(room, file.len() - start);
-    let done = append(manager, word, s, &mut file[start..end]);
+    let done = call(manager, word, s, &mut file[start..end]);
     let n = done.length;
     if n == 0 {
         return world;
