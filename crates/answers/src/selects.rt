@@ -21,53 +21,49 @@ fn selected(answer: SelectAnswer, out: &[u32]) {
     }
 }
 
-fn select_into(
-    manager: VersionManager,
-    table: TableNo,
-    target: u64,
-    sizes: &[u64],
-    out: &mut [u32],
-) {
-    let answer = manager.select(table, target, sizes, out);
-    selected(answer, out);
+enum Selection {
+    // How many sizes there are; they are read into what is lent for them.
+    Of(TableNo, u64, usize),
+    Nothing,
 }
 
-fn select_sizes(
-    manager: VersionManager,
-    table: TableNo,
-    target: u64,
-    s: &[u8],
-    sizes: &mut [u64],
-    out: &mut [u32],
-) {
+fn read_sizes(table: TableNo, target: u64, s: &[u8], sizes: &mut [u64]) -> Selection {
     match script::sizes(s, sizes) {
-        Count::Of(n) => {
-            let n = script::least(n, sizes.len());
-            select_into(manager, table, target, &sizes[..n], out);
-        }
-        Count::Nothing => say::no_call(),
+        Count::Of(n) => Selection::Of(table, target, n),
+        Count::Nothing => Selection::Nothing,
     }
 }
 
-fn select_lent(manager: VersionManager, table: TableNo, target: u64, s: &[u8], room: usize) {
-    let mut sizes = [0u64; MOST_SIZES];
-    let mut out = [0u32; MOST_HELD];
-    let n = script::least(room, MOST_HELD);
-    select_sizes(manager, table, target, s, &mut sizes, &mut out[..n]);
-}
-
-fn select_of(manager: VersionManager, table: TableNo, s: &[u8], room: usize) {
+fn read_target(table: TableNo, s: &[u8], sizes: &mut [u64]) -> Selection {
     let end = script::first_end(s);
     match script::one(&s[..end], 18446744073709551615) {
-        Found::Of(target) => select_lent(manager, table, target, &s[end..], room),
-        Found::Nothing => say::no_call(),
+        Found::Of(target) => read_sizes(table, target, &s[end..], sizes),
+        Found::Nothing => Selection::Nothing,
+    }
+}
+
+fn read(s: &[u8], sizes: &mut [u64]) -> Selection {
+    let end = script::first_end(s);
+    match script::one(&s[..end], 4294967295) {
+        Found::Of(n) => read_target(TableNo(script::narrow(n)), &s[end..], sizes),
+        Found::Nothing => Selection::Nothing,
+    }
+}
+
+fn select_lent(manager: VersionManager, s: &[u8], sizes: &mut [u64], out: &mut [u32]) {
+    match read(s, sizes) {
+        Selection::Of(table, target, n) => {
+            let n = script::least(n, sizes.len());
+            let answer = manager.select(table, target, &sizes[..n], out);
+            selected(answer, out);
+        }
+        Selection::Nothing => say::no_call(),
     }
 }
 
 pub fn select(manager: VersionManager, s: &[u8], room: usize) {
-    let end = script::first_end(s);
-    match script::one(&s[..end], 4294967295) {
-        Found::Of(n) => select_of(manager, TableNo(script::narrow(n)), &s[end..], room),
-        Found::Nothing => say::no_call(),
-    }
+    let mut sizes = [0u64; MOST_SIZES];
+    let mut out = [0u32; MOST_HELD];
+    let n = script::least(room, MOST_HELD);
+    select_lent(manager, s, &mut sizes, &mut out[..n]);
 }

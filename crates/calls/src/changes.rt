@@ -86,16 +86,14 @@ fn relocked(manager: VersionManager, table: TableNo, held: bool) -> Locked {
     manager.unlock(table)
 }
 
-fn relock_at(manager: VersionManager, table: TableNo, held: bool, word: &[u8]) -> VersionManager {
-    let done = relocked(manager, table, held);
-    let answer = done.answer;
-    say::accepted(word, answer);
-    done.manager
-}
-
 fn relock(manager: VersionManager, s: &[u8], held: bool, word: &[u8]) -> VersionManager {
     match script::one(s, 4294967295) {
-        Found::Of(n) => relock_at(manager, TableNo(script::narrow(n)), held, word),
+        Found::Of(n) => {
+            let done = relocked(manager, TableNo(script::narrow(n)), held);
+            let answer = done.answer;
+            say::accepted(word, answer);
+            done.manager
+        }
         Found::Nothing => {
             say::no_call();
             manager

@@ -154,12 +154,15 @@ pub fn long(n: u64) -> usize {
     n as usize
 }
 
-// A word as a table's name. One that is too long is no name, and neither is the empty one.
+// All after a blank as a table's name. Where that is too long it is no name, and the empty one is none either.
 pub fn name(s: &[u8]) -> Name {
-    if LONGEST_NAME < s.len() {
+    if s.len() == 0 {
         return Name::none();
     }
-    Name::of(s)
+    if LONGEST_NAME < s.len() - 1 {
+        return Name::none();
+    }
+    Name::of(&s[1..])
 }
 
 // Puts a number at its place. The last place stands for all that come after it too: it holds the last of them where they rise, and else

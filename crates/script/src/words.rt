@@ -42,16 +42,21 @@ pub enum Told {
 
 // Words of lines that have no part in the manager.
 pub enum Plain {
-    File,
-    Encode,
-    Decode,
-    Mask,
     Room,
     Cut,
     Stale,
     Write,
+    Answered(Answered),
     // No call.
     Other,
+}
+
+// Those that are answered and change nothing.
+pub enum Answered {
+    File,
+    Encode,
+    Decode,
+    Mask,
 }
 
 fn host_word(s: &[u8]) -> Plain {
@@ -72,16 +77,16 @@ fn host_word(s: &[u8]) -> Plain {
 
 fn plain_word(s: &[u8]) -> Plain {
     if crate::same(s, b"file") {
-        return Plain::File;
+        return Plain::Answered(Answered::File);
     }
     if crate::same(s, b"encode") {
-        return Plain::Encode;
+        return Plain::Answered(Answered::Encode);
     }
     if crate::same(s, b"decode") {
-        return Plain::Decode;
+        return Plain::Answered(Answered::Decode);
     }
     if crate::same(s, b"mask") {
-        return Plain::Mask;
+        return Plain::Answered(Answered::Mask);
     }
     host_word(s)
 }

@@ -1,8 +1,8 @@
--- `calls::appends::compact` meets its contract. Assumes nothing.
+-- `answers::selects::read` meets its contract. Assumes nothing.
 use lib.Seq.{length-take-le}
 use borrow.Author.Needs.{needs}
-use Rattle.calls.proofs.appends.compact.Statement.{statement}
-use Rattle.calls.proofs.appends.compact.Tie as tie
+use Rattle.answers.proofs.selects.read.Statement.{statement}
+use Rattle.answers.proofs.selects.read.Tie as tie
 
 first-end-requires : tie.Need-first-end-requires
 first-end-requires c κs = search needs
@@ -19,23 +19,20 @@ enum-known-n c = search needs
 narrow-requires : tie.Need-narrow-requires
 narrow-requires c κs = search needs
 
-sub-compact-of : tie.Need-sub-compact-of
-sub-compact-of c = search needs
+sub-read-target : tie.Need-sub-read-target
+sub-read-target c = search needs
 
-part-compact-of-start : tie.Need-part-compact-of-start
-part-compact-of-start c = search needs
+part-read-target-start : tie.Need-part-read-target-start
+part-read-target-start c = search needs
 
-part-compact-of-end : tie.Need-part-compact-of-end
-part-compact-of-end c = search needs
+part-read-target-end : tie.Need-part-read-target-end
+part-read-target-end c = search needs
 
-compact-of-requires : tie.Need-compact-of-requires
-compact-of-requires c κs = search needs
+read-target-requires : tie.Need-read-target-requires
+read-target-requires c κs = search needs
 
 enum-told : tie.Need-enum-told
 enum-told c = search needs
-
-no-call-requires : tie.Need-no-call-requires
-no-call-requires c κs = search needs
 
 same-length : tie.Need-same-length
 same-length c = search needs
@@ -46,8 +43,8 @@ returns c = search needs
 returns-2 : tie.Need-returns-2
 returns-2 c = search needs
 
-pub compact-spec : {M : Type 1} → statement M
-compact-spec =
+pub read-spec : {M : Type 1} → statement M
+read-spec =
     tie.close
     (tie.spec
     first-end-requires
@@ -55,12 +52,11 @@ compact-spec =
     one-requires
     enum-known-n
     narrow-requires
-    sub-compact-of
-    part-compact-of-start
-    part-compact-of-end
-    compact-of-requires
+    sub-read-target
+    part-read-target-start
+    part-read-target-end
+    read-target-requires
     enum-told
-    no-call-requires
     same-length
     returns
     returns-2)
