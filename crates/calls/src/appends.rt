@@ -9,6 +9,8 @@ use ids::TableNo;
 use script::Found;
 use script::batches;
 use script::words::Appended;
+use version_manager::Committed;
+use version_manager::Created;
 use version_manager::VersionManager;
 
 // What a call leaves: the length of its append is 0 where it is refused, and never else.
@@ -22,10 +24,21 @@ fn no_call(manager: VersionManager) -> Append {
     Append { manager, length: 0 }
 }
 
-fn commit(manager: VersionManager, s: &[u8], out: &mut [u8]) -> Append {
-    let done = manager.commit(batches::batch(s), out);
+// A commit's answer by the call's own word.
+fn committed(done: Committed, word: &[u8]) -> Append {
     let answer = done.answer;
-    let length = say::committed(b"committed", answer);
+    let length = say::committed(word, answer);
+    let manager = done.manager;
+    Append { manager, length }
+}
+
+fn commit(manager: VersionManager, s: &[u8], out: &mut [u8]) -> Append {
+    committed(manager.commit(batches::batch(s), out), b"committed")
+}
+
+fn created(done: Created) -> Append {
+    let answer = done.answer;
+    let length = say::created(answer);
     let manager = done.manager;
     Append { manager, length }
 }
@@ -33,26 +46,14 @@ fn commit(manager: VersionManager, s: &[u8], out: &mut [u8]) -> Append {
 fn create(manager: VersionManager, s: &[u8], out: &mut [u8]) -> Append {
     let end = script::first_end(s);
     match script::one(&s[..end], 4294967295) {
-        Found::Of(n) => {
-            let done = manager.create(script::narrow(n), script::name(&s[end..]), out);
-            let answer = done.answer;
-            let length = say::created(answer);
-            let manager = done.manager;
-            Append { manager, length }
-        }
+        Found::Of(n) => created(manager.create(script::narrow(n), script::name(&s[end..]), out)),
         Found::Nothing => no_call(manager),
     }
 }
 
 fn drop(manager: VersionManager, s: &[u8], out: &mut [u8]) -> Append {
     match script::one(s, 4294967295) {
-        Found::Of(n) => {
-            let done = manager.drop(TableNo(script::narrow(n)), out);
-            let answer = done.answer;
-            let length = say::committed(b"dropped", answer);
-            let manager = done.manager;
-            Append { manager, length }
-        }
+        Found::Of(n) => committed(manager.drop(TableNo(script::narrow(n)), out), b"dropped"),
         Found::Nothing => no_call(manager),
     }
 }
@@ -61,11 +62,7 @@ fn compact_lent(manager: VersionManager, s: &[u8], taken: &mut [u32], out: &mut 
     match compactions::read(s, taken) {
         Compaction::Of(table, new, n) => {
             let n = script::least(n, taken.len());
-            let done = manager.compact(table, new, &taken[..n], out);
-            let answer = done.answer;
-            let length = say::committed(b"compacted", answer);
-            let manager = done.manager;
-            Append { manager, length }
+            committed(manager.compact(table, new, &taken[..n], out), b"compacted")
         }
         Compaction::Nothing => no_call(manager),
     }

@@ -8,6 +8,7 @@ use script::words::Booked;
 use script::words::Managed;
 use script::words::Plain;
 use script::words::Told;
+use script::words::Unwritten;
 use script::words::Word;
 use world::ENOUGH;
 use world::Host;
@@ -41,6 +42,14 @@ fn told(world: World, word: Told, s: &[u8], room: usize) -> World {
     world
 }
 
+fn unwritten(world: World, word: Unwritten, s: &[u8], room: usize) -> World {
+    match word {
+        Unwritten::Managed(word) => managed(world, word, s, room),
+        Unwritten::Booked(word) => booked(world, word, s),
+        Unwritten::Told(word) => told(world, word, s, room),
+    }
+}
+
 fn plain(
     world: World,
     word: Plain,
@@ -68,9 +77,7 @@ fn call(
         Word::Fresh => changes::fresh(next, s),
         Word::Reopen => reopen::reopen(next, s, room, file, old),
         Word::Appended(word) => appends::appended(next, word, s, room, file),
-        Word::Managed(word) => managed(next, word, s, room),
-        Word::Booked(word) => booked(next, word, s),
-        Word::Told(word) => told(next, word, s, room),
+        Word::Unwritten(word) => unwritten(next, word, s, room),
         Word::Plain(word) => plain(world, word, s, file, old, scratch),
     }
 }

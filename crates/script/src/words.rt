@@ -4,9 +4,7 @@ pub enum Word {
     Fresh,
     Reopen,
     Appended(Appended),
-    Managed(Managed),
-    Booked(Booked),
-    Told(Told),
+    Unwritten(Unwritten),
     Plain(Plain),
 }
 
@@ -16,6 +14,13 @@ pub enum Appended {
     Create,
     Drop,
     Compact,
+}
+
+// Calls that write nothing to the file.
+pub enum Unwritten {
+    Managed(Managed),
+    Booked(Booked),
+    Told(Told),
 }
 
 // Calls that hand a manager back and touch nothing else.
@@ -93,19 +98,19 @@ fn plain_word(s: &[u8]) -> Plain {
 
 fn read_word(s: &[u8]) -> Word {
     if crate::same(s, b"pin") {
-        return Word::Booked(Booked::Pin);
+        return Word::Unwritten(Unwritten::Booked(Booked::Pin));
     }
     if crate::same(s, b"unpin") {
-        return Word::Booked(Booked::Unpin);
+        return Word::Unwritten(Unwritten::Booked(Booked::Unpin));
     }
     if crate::same(s, b"show") {
-        return Word::Told(Told::Show);
+        return Word::Unwritten(Unwritten::Told(Told::Show));
     }
     if crate::same(s, b"select") {
-        return Word::Told(Told::Select);
+        return Word::Unwritten(Unwritten::Told(Told::Select));
     }
     if crate::same(s, b"state") {
-        return Word::Told(Told::State);
+        return Word::Unwritten(Unwritten::Told(Told::State));
     }
     let plain = plain_word(s);
     Word::Plain(plain)
@@ -113,19 +118,19 @@ fn read_word(s: &[u8]) -> Word {
 
 fn managed_word(s: &[u8]) -> Word {
     if crate::same(s, b"draw") {
-        return Word::Managed(Managed::Draw);
+        return Word::Unwritten(Unwritten::Managed(Managed::Draw));
     }
     if crate::same(s, b"vacuum") {
-        return Word::Managed(Managed::Vacuum);
+        return Word::Unwritten(Unwritten::Managed(Managed::Vacuum));
     }
     if crate::same(s, b"lock") {
-        return Word::Managed(Managed::Lock);
+        return Word::Unwritten(Unwritten::Managed(Managed::Lock));
     }
     if crate::same(s, b"unlock") {
-        return Word::Managed(Managed::Unlock);
+        return Word::Unwritten(Unwritten::Managed(Managed::Unlock));
     }
     if crate::same(s, b"group") {
-        return Word::Managed(Managed::Group);
+        return Word::Unwritten(Unwritten::Managed(Managed::Group));
     }
     read_word(s)
 }
