@@ -1,9 +1,11 @@
 // What is printed of answers.
 use ids::refusal::Refusal;
+use ids::refusal::Verdict;
 use libc::STDOUT_FILENO;
 use pinning::PinAnswer;
 use pinning::UnpinAnswer;
 use version_manager::CommitAnswer;
+use version_manager::CreateAnswer;
 use version_manager::RowsetAnswer;
 use version_manager::VectorAnswer;
 
@@ -83,20 +85,46 @@ pub fn unpinned(answer: UnpinAnswer) {
     }
 }
 
-// How many bytes are appended.
-pub fn committed(answer: CommitAnswer) -> usize {
+// An epoch, and how many bytes are appended.
+fn append(epoch: u32, n: usize) -> usize {
+    comma(epoch as u64);
+    comma(n as u64);
+    say(b"\n");
+    n
+}
+
+// A refusal appends nothing.
+fn no_append(why: Refusal) -> usize {
+    refusal(why);
+    0
+}
+
+// How many bytes are appended, as in the next.
+pub fn committed(word: &[u8], answer: CommitAnswer) -> usize {
     match answer {
         CommitAnswer::Appended(epoch, n) => {
-            say(b"committed");
-            comma(epoch as u64);
-            comma(n as u64);
-            say(b"\n");
-            n
+            say(word);
+            append(epoch, n)
         }
-        CommitAnswer::Refused(why) => {
-            refusal(why);
-            0
+        CommitAnswer::Refused(why) => no_append(why),
+    }
+}
+
+pub fn created(answer: CreateAnswer) -> usize {
+    match answer {
+        CreateAnswer::Table(table, epoch, n) => {
+            say(b"created");
+            comma(table.0 as u64);
+            append(epoch, n)
         }
+        CreateAnswer::Refused(why) => no_append(why),
+    }
+}
+
+pub fn accepted(word: &[u8], answer: Verdict) {
+    match answer {
+        Verdict::Accepted => say(word),
+        Verdict::Refused(why) => refusal(why),
     }
 }
 
@@ -104,7 +132,7 @@ fn wide(n: u32) -> u64 {
     n as u64
 }
 
-fn at32(out: &[u32], i: usize) -> u64 {
+pub fn at32(out: &[u32], i: usize) -> u64 {
     if out.len() <= i {
         return 0;
     }
@@ -190,13 +218,17 @@ fn dash(s: &[u8]) {
     }
 }
 
-pub fn hex(s: &[u8]) {
+pub fn digits(s: &[u8]) {
     dash(s);
     let mut i = 0;
     while i < s.len() {
         io::print_hex(STDOUT_FILENO, byte(s[i]), 2);
         i += 1;
     }
+}
+
+pub fn hex(s: &[u8]) {
+    digits(s);
     say(b"\n");
 }
 

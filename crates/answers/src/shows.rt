@@ -1,5 +1,6 @@
 // Shows, and what the manager holds: calls that change nothing.
 use crate::say;
+use crate::selects;
 use ids::limits::LONGEST_NAME;
 use ids::limits::MOST_HELD;
 use ids::limits::MOST_TABLES;
@@ -165,6 +166,7 @@ fn state(manager: VersionManager, s: &[u8]) {
 pub fn told(manager: VersionManager, book: PinBook, word: Told, s: &[u8], room: usize) {
     match word {
         Told::Show => show(manager, book, s, room),
+        Told::Select => selects::select(manager, s, room),
         Told::State => state(manager, s),
     }
 }

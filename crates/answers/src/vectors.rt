@@ -20,7 +20,7 @@ fn encode_into(rows: &[u32], out: &mut [u8]) {
 }
 
 fn encode_rows(s: &[u8], rows: &mut [u32], out: &mut [u8]) {
-    match script::rows(s, rows) {
+    match script::numbers(s, rows) {
         Count::Of(n) => {
             let n = script::least(n, rows.len());
             encode_into(&rows[..n], out);
@@ -79,7 +79,7 @@ fn mask_into(rows: &[u32], bits: &mut [u8], offset: u32) {
 }
 
 fn mask_rows(s: &[u8], rows: &mut [u32], bits: &mut [u8], offset: u32) {
-    match script::rows(s, rows) {
+    match script::numbers(s, rows) {
         Count::Of(n) => {
             let n = script::least(n, rows.len());
             mask_into(&rows[..n], bits, offset);

@@ -1,11 +1,13 @@
 // Calls that hand a manager back.
-use crate::world::Host;
+use crate::group;
 use crate::world::World;
 use answers::say;
+use ids::TableNo;
 use ids::limits::MOST_HELD;
 use pins::PinBook;
-use script::batches;
+use script::Found;
 use script::words::Managed;
+use version_manager::Locked;
 use version_manager::VacuumAnswer;
 use version_manager::VersionManager;
 
@@ -77,6 +79,28 @@ fn vacuum(manager: VersionManager, book: PinBook, s: &[u8], room: usize) -> Vers
     vacuum_into(manager, book, &mut tables[..n], &mut rowsets[..n])
 }
 
+fn relocked(manager: VersionManager, table: TableNo, held: bool) -> Locked {
+    if held {
+        return manager.lock(table);
+    }
+    manager.unlock(table)
+}
+
+fn relock(manager: VersionManager, s: &[u8], held: bool, word: &[u8]) -> VersionManager {
+    match script::one(s, 4294967295) {
+        Found::Of(n) => {
+            let done = relocked(manager, TableNo(script::narrow(n)), held);
+            let answer = done.answer;
+            say::accepted(word, answer);
+            done.manager
+        }
+        Found::Nothing => {
+            say::no_call();
+            manager
+        }
+    }
+}
+
 pub fn managed(
     manager: VersionManager,
     book: PinBook,
@@ -87,22 +111,8 @@ pub fn managed(
     match word {
         Managed::Draw => draw(manager, s),
         Managed::Vacuum => vacuum(manager, book, s, room),
+        Managed::Lock => relock(manager, s, true, b"locked\n"),
+        Managed::Unlock => relock(manager, s, false, b"unlocked\n"),
+        Managed::Group => group::group(manager, s, room),
     }
-}
-
-// The append is written to the file's end.
-pub fn commit(world: World, s: &[u8], room: usize, file: &mut [u8]) -> World {
-    let manager = world.manager;
-    let len = world.host.len;
-    let start = script::least(len, file.len());
-    let end = start + script::least(room, file.len() - start);
-    let done = manager.commit(batches::batch(s), &mut file[start..end]);
-    let answer = done.answer;
-    let n = say::committed(answer);
-    if n == 0 {
-        return world;
-    }
-    world
-        .with_manager(done.manager)
-        .with_host(Host::appended(start, n, end))
 }

@@ -5,11 +5,8 @@ use answers::say;
 use answers::vectors;
 use script::Count;
 use script::Found;
+use script::words::Answered;
 use script::words::Plain;
-
-fn long(n: u64) -> usize {
-    n as usize
-}
 
 // A line that is no call is answered, and uses the room up.
 fn no_line(host: Host) -> Host {
@@ -19,14 +16,14 @@ fn no_line(host: Host) -> Host {
 
 fn room_line(host: Host, s: &[u8]) -> Host {
     match script::one(s, 18446744073709551615) {
-        Found::Of(n) => host.with_room(long(n)),
+        Found::Of(n) => host.with_room(script::long(n)),
         Found::Nothing => no_line(host),
     }
 }
 
 fn cut(host: Host, s: &[u8]) -> Host {
     match script::one(s, 18446744073709551615) {
-        Found::Of(n) => host.cut(long(n)),
+        Found::Of(n) => host.cut(script::long(n)),
         Found::Nothing => no_line(host),
     }
 }
@@ -73,6 +70,15 @@ fn file_line(len: usize, s: &[u8], file: &[u8]) {
     say::bytes(&file[..n]);
 }
 
+fn answered(word: Answered, room: usize, len: usize, s: &[u8], file: &[u8], scratch: &mut [u8]) {
+    match word {
+        Answered::File => file_line(len, s, file),
+        Answered::Encode => vectors::encode(s, room),
+        Answered::Decode => vectors::decode(s, room, scratch),
+        Answered::Mask => vectors::mask(s, scratch),
+    }
+}
+
 pub fn line(
     host: Host,
     word: Plain,
@@ -81,28 +87,14 @@ pub fn line(
     old: &[u8],
     scratch: &mut [u8],
 ) -> Host {
-    let room = host.room;
-    let next = host.with_room(ENOUGH);
     match word {
         Plain::Room => room_line(host, s),
         Plain::Cut => cut(host, s),
         Plain::Stale => stale(host, s, file, old),
         Plain::Write => write(host, s, file, scratch),
-        Plain::File => {
-            file_line(host.len, s, file);
-            next
-        }
-        Plain::Encode => {
-            vectors::encode(s, room);
-            next
-        }
-        Plain::Decode => {
-            vectors::decode(s, room, scratch);
-            next
-        }
-        Plain::Mask => {
-            vectors::mask(s, scratch);
-            next
+        Plain::Answered(word) => {
+            answered(word, host.room, host.len, s, file, scratch);
+            host.with_room(ENOUGH)
         }
         Plain::Other => no_line(host),
     }

@@ -4,17 +4,65 @@ use answers::say;
 use answers::shows;
 use libc::STDIN_FILENO;
 use script::words;
+use script::words::Booked;
+use script::words::Managed;
+use script::words::Plain;
+use script::words::Told;
+use script::words::Unwritten;
 use script::words::Word;
 use world::ENOUGH;
 use world::Host;
 use world::World;
 
+mod appends;
 mod booking;
 mod changes;
+mod compactions;
+mod group;
 mod host;
 mod reopen;
 mod world;
 
+fn managed(world: World, word: Managed, s: &[u8], room: usize) -> World {
+    let manager = world.manager;
+    let book = world.book;
+    world.with_manager(changes::managed(manager, book, word, s, room))
+}
+
+fn booked(world: World, word: Booked, s: &[u8]) -> World {
+    let manager = world.manager;
+    let book = world.book;
+    world.with_book(booking::booked(manager, book, word, s))
+}
+
+fn told(world: World, word: Told, s: &[u8], room: usize) -> World {
+    let manager = world.manager;
+    let book = world.book;
+    shows::told(manager, book, word, s, room);
+    world
+}
+
+fn unwritten(world: World, word: Unwritten, s: &[u8], room: usize) -> World {
+    match word {
+        Unwritten::Managed(word) => managed(world, word, s, room),
+        Unwritten::Booked(word) => booked(world, word, s),
+        Unwritten::Told(word) => told(world, word, s, room),
+    }
+}
+
+fn plain(
+    world: World,
+    word: Plain,
+    s: &[u8],
+    file: &mut [u8],
+    old: &[u8],
+    scratch: &mut [u8],
+) -> World {
+    let host = world.host;
+    world.with_host(host::line(host, word, s, file, old, scratch))
+}
+
+// Every call but those on the host uses the room up.
 fn call(
     world: World,
     word: Word,
@@ -23,24 +71,14 @@ fn call(
     old: &mut [u8],
     scratch: &mut [u8],
 ) -> World {
-    let host = world.host;
-    let room = host.room;
-    let manager = world.manager;
-    let book = world.book;
-    let next = world.with_host(host.with_room(ENOUGH));
+    let room = world.host.room;
+    let next = world.with_room(ENOUGH);
     match word {
         Word::Fresh => changes::fresh(next, s),
-        Word::Commit => changes::commit(next, s, room, file),
         Word::Reopen => reopen::reopen(next, s, room, file, old),
-        Word::Managed(managed) => {
-            next.with_manager(changes::managed(manager, book, managed, s, room))
-        }
-        Word::Booked(booked) => next.with_book(booking::booked(manager, book, booked, s)),
-        Word::Told(told) => {
-            shows::told(manager, book, told, s, room);
-            next
-        }
-        Word::Plain(plain) => next.with_host(host::line(host, plain, s, file, old, scratch)),
+        Word::Appended(word) => appends::appended(next, word, s, room, file),
+        Word::Unwritten(word) => unwritten(next, word, s, room),
+        Word::Plain(word) => plain(world, word, s, file, old, scratch),
     }
 }
 

@@ -115,4 +115,9 @@ impl World {
         world.host = host;
         world
     }
+
+    pub fn with_room(self, room: usize) -> World {
+        let host = self.host;
+        self.with_host(host.with_room(room))
+    }
 }

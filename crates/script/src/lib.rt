@@ -1,4 +1,7 @@
-// Words, numbers, operations and runs of bytes of a line of text, read from lent slices.
+// Words, numbers, operations, handles and runs of bytes of a line of text, read from lent slices.
+use ids::limits::LARGEST_32;
+use ids::limits::LONGEST_NAME;
+use ids::name::Name;
 use text::Number;
 ghost use mathlib.Core.Path.{_≡_};
 ghost use Prim.Native.Nat.{_≤_};
@@ -6,6 +9,7 @@ ghost use lib.ListN.{length};
 ghost use Rattle.text.specs.Class.{Classes};
 
 pub mod batches;
+pub mod handles;
 pub mod words;
 
 // A number, or nothing where the word is none.
@@ -33,6 +37,16 @@ pub fn word_end(s: &[u8], at: usize) -> usize
         i += 1;
     }
     i
+}
+
+// The end of a line's first word, which comes after a blank.
+pub fn first_end(s: &[u8]) -> usize
+    ensures { λ r. ⌜ r ≤ length (now (s .entry)) ⌝ }
+{
+    if s.len() == 0 {
+        return 0;
+    }
+    word_end(s, 1)
 }
 
 // The place of the first newline from a place on, or another place before which there is none.
@@ -136,15 +150,41 @@ pub fn narrow(n: u64) -> u32 {
     0
 }
 
-// Puts a row at its place, unless there are more rows than places.
-fn put(out: &mut [u32], k: usize, row: u32) {
+pub fn long(n: u64) -> usize {
+    n as usize
+}
+
+// All after a blank as a table's name. Where that is too long it is no name, and the empty one is none either.
+pub fn name(s: &[u8]) -> Name {
+    if s.len() == 0 {
+        return Name::none();
+    }
+    if LONGEST_NAME < s.len() - 1 {
+        return Name::none();
+    }
+    Name::of(&s[1..])
+}
+
+// Puts a number at its place. The last place stands for all that come after it too: it holds the last of them where they rise, and else
+// what is no id. So of more ids than a call takes it can still be seen whether they all are ids that rise.
+fn put(out: &mut [u32], k: usize, n: u32) {
     if k < out.len() {
-        out[k] = row;
+        out[k] = n;
+        return;
+    }
+    if out.len() == 0 {
+        return;
+    }
+    let last = out.len() - 1;
+    if out[last] < n {
+        out[last] = n;
+    } else {
+        out[last] = LARGEST_32;
     }
 }
 
-// A blank before each word, and every word a row: how many rows there are. As many as there are places are put there.
-pub fn rows(s: &[u8], out: &mut [u32]) -> Count {
+// A blank before each word, and every word a 32-bit number: how many there are.
+pub fn numbers(s: &[u8], out: &mut [u32]) -> Count {
     let classes = text::classes();
     let mut at: usize = 0;
     let mut k: usize = 0;
@@ -153,6 +193,31 @@ pub fn rows(s: &[u8], out: &mut [u32]) -> Count {
         let end = word_end(s, from);
         match number_by(&classes, &s[from..end], 4294967295) {
             Found::Of(n) => put(out, k, narrow(n)),
+            Found::Nothing => return Count::Nothing,
+        }
+        k += 1;
+        at = end;
+    }
+    Count::Of(k)
+}
+
+// Puts a size at its place, unless there are more sizes than places.
+fn put_size(out: &mut [u64], k: usize, size: u64) {
+    if k < out.len() {
+        out[k] = size;
+    }
+}
+
+// The same of 64-bit numbers.
+pub fn sizes(s: &[u8], out: &mut [u64]) -> Count {
+    let classes = text::classes();
+    let mut at: usize = 0;
+    let mut k: usize = 0;
+    while at < s.len() {
+        let from = at + 1;
+        let end = word_end(s, from);
+        match number_by(&classes, &s[from..end], 18446744073709551615) {
+            Found::Of(n) => put_size(out, k, n),
             Found::Nothing => return Count::Nothing,
         }
         k += 1;

@@ -2,18 +2,34 @@
 
 pub enum Word {
     Fresh,
-    Commit,
     Reopen,
+    Appended(Appended),
+    Unwritten(Unwritten),
+    Plain(Plain),
+}
+
+// Calls that hand a manager back and append to the file.
+pub enum Appended {
+    Commit,
+    Create,
+    Drop,
+    Compact,
+}
+
+// Calls that write nothing to the file.
+pub enum Unwritten {
     Managed(Managed),
     Booked(Booked),
     Told(Told),
-    Plain(Plain),
 }
 
 // Calls that hand a manager back and touch nothing else.
 pub enum Managed {
     Draw,
     Vacuum,
+    Lock,
+    Unlock,
+    Group,
 }
 
 // Calls that alter the pin book alone.
@@ -25,21 +41,27 @@ pub enum Booked {
 // Calls that change nothing.
 pub enum Told {
     Show,
+    Select,
     State,
 }
 
 // Words of lines that have no part in the manager.
 pub enum Plain {
-    File,
-    Encode,
-    Decode,
-    Mask,
     Room,
     Cut,
     Stale,
     Write,
-    // No call, or one that is still to come.
+    Answered(Answered),
+    // No call.
     Other,
+}
+
+// Those that are answered and change nothing.
+pub enum Answered {
+    File,
+    Encode,
+    Decode,
+    Mask,
 }
 
 fn host_word(s: &[u8]) -> Plain {
@@ -60,52 +82,81 @@ fn host_word(s: &[u8]) -> Plain {
 
 fn plain_word(s: &[u8]) -> Plain {
     if crate::same(s, b"file") {
-        return Plain::File;
+        return Plain::Answered(Answered::File);
     }
     if crate::same(s, b"encode") {
-        return Plain::Encode;
+        return Plain::Answered(Answered::Encode);
     }
     if crate::same(s, b"decode") {
-        return Plain::Decode;
+        return Plain::Answered(Answered::Decode);
     }
     if crate::same(s, b"mask") {
-        return Plain::Mask;
+        return Plain::Answered(Answered::Mask);
     }
     host_word(s)
 }
 
 fn read_word(s: &[u8]) -> Word {
     if crate::same(s, b"pin") {
-        return Word::Booked(Booked::Pin);
+        return Word::Unwritten(Unwritten::Booked(Booked::Pin));
     }
     if crate::same(s, b"unpin") {
-        return Word::Booked(Booked::Unpin);
+        return Word::Unwritten(Unwritten::Booked(Booked::Unpin));
     }
     if crate::same(s, b"show") {
-        return Word::Told(Told::Show);
+        return Word::Unwritten(Unwritten::Told(Told::Show));
+    }
+    if crate::same(s, b"select") {
+        return Word::Unwritten(Unwritten::Told(Told::Select));
     }
     if crate::same(s, b"state") {
-        return Word::Told(Told::State);
+        return Word::Unwritten(Unwritten::Told(Told::State));
     }
     let plain = plain_word(s);
     Word::Plain(plain)
+}
+
+fn managed_word(s: &[u8]) -> Word {
+    if crate::same(s, b"draw") {
+        return Word::Unwritten(Unwritten::Managed(Managed::Draw));
+    }
+    if crate::same(s, b"vacuum") {
+        return Word::Unwritten(Unwritten::Managed(Managed::Vacuum));
+    }
+    if crate::same(s, b"lock") {
+        return Word::Unwritten(Unwritten::Managed(Managed::Lock));
+    }
+    if crate::same(s, b"unlock") {
+        return Word::Unwritten(Unwritten::Managed(Managed::Unlock));
+    }
+    if crate::same(s, b"group") {
+        return Word::Unwritten(Unwritten::Managed(Managed::Group));
+    }
+    read_word(s)
+}
+
+fn appended_word(s: &[u8]) -> Word {
+    if crate::same(s, b"commit") {
+        return Word::Appended(Appended::Commit);
+    }
+    if crate::same(s, b"create") {
+        return Word::Appended(Appended::Create);
+    }
+    if crate::same(s, b"drop") {
+        return Word::Appended(Appended::Drop);
+    }
+    if crate::same(s, b"compact") {
+        return Word::Appended(Appended::Compact);
+    }
+    managed_word(s)
 }
 
 pub fn first_word(s: &[u8]) -> Word {
     if crate::same(s, b"fresh") {
         return Word::Fresh;
     }
-    if crate::same(s, b"draw") {
-        return Word::Managed(Managed::Draw);
-    }
-    if crate::same(s, b"commit") {
-        return Word::Commit;
-    }
-    if crate::same(s, b"vacuum") {
-        return Word::Managed(Managed::Vacuum);
-    }
     if crate::same(s, b"reopen") {
         return Word::Reopen;
     }
-    read_word(s)
+    appended_word(s)
 }

@@ -5,8 +5,8 @@ use borrow.Author.Needs.{needs}
 use Rattle.answers.proofs.vectors.mask_rows.Statement.{statement}
 use Rattle.answers.proofs.vectors.mask_rows.Tie as tie
 
-rows-requires : tie.Need-rows-requires
-rows-requires c κs = search needs
+numbers-requires : tie.Need-numbers-requires
+numbers-requires c κs = search needs
 
 enum-known-n : tie.Need-enum-known-n
 enum-known-n c = search needs
@@ -48,7 +48,7 @@ pub mask-rows-spec : {M : Type 1} → statement M
 mask-rows-spec =
     tie.close
     (tie.spec
-    rows-requires
+    numbers-requires
     enum-known-n
     least-requires
     slice-reshare-prefix-mask-into

@@ -1,10 +1,10 @@
--- `script::rows` meets its contract. Assumes nothing.
+-- `script::sizes` meets its contract. Assumes nothing.
 use Prim.Native.Nat.{_≤_, _-_}
 use mathlib.Core.Path.{_≡_}
 use lib.ListN.{length}
 use borrow.Author.Needs.{needs}
-use Rattle.script.proofs.rows.Statement.{statement}
-use Rattle.script.proofs.rows.Tie as tie
+use Rattle.script.proofs.sizes.Statement.{statement}
+use Rattle.script.proofs.sizes.Tie as tie
 
 abbrev Inv-loop : tie.InvT-loop
 Inv-loop s out₀ classes at₀ k₀ out at k = (at ≤ length s) × (k ≤ at) × (length out ≡ length out₀)
@@ -39,11 +39,8 @@ number-by-requires c κs = search needs
 enum-known-n : tie.Need-enum-known-n Inv-loop μ-loop
 enum-known-n c = search needs
 
-narrow-requires : tie.Need-narrow-requires Inv-loop μ-loop
-narrow-requires c κs = search needs
-
-put-requires : tie.Need-put-requires Inv-loop μ-loop
-put-requires c κs = search needs
+put-size-requires : tie.Need-put-size-requires Inv-loop μ-loop
+put-size-requires c κs = search needs
 
 enum-told : tie.Need-enum-told Inv-loop μ-loop
 enum-told c = search needs
@@ -69,8 +66,8 @@ same-length-2 c = search needs
 returns-2 : tie.Need-returns-2 Inv-loop μ-loop
 returns-2 c = search needs
 
-pub rows-spec : {M : Type 1} → statement M
-rows-spec =
+pub sizes-spec : {M : Type 1} → statement M
+sizes-spec =
     tie.close
     (tie.spec
     Inv-loop
@@ -84,8 +81,7 @@ rows-spec =
     part-number-by-end
     number-by-requires
     enum-known-n
-    narrow-requires
-    put-requires
+    put-size-requires
     enum-told
     same-length
     returns

@@ -1,15 +1,15 @@
--- `answers::say::hex` meets its contract. Assumes nothing.
+-- `answers::say::digits` meets its contract. Assumes nothing.
 use Prim.Native.Nat.{_≤_, _-_}
 use lib.ListN.{length}
 use borrow.Author.Needs.{needs}
-use Rattle.answers.proofs.say.hex.Statement.{statement}
-use Rattle.answers.proofs.say.hex.Tie as tie
+use Rattle.answers.proofs.say.digits.Statement.{statement}
+use Rattle.answers.proofs.say.digits.Tie as tie
 
 abbrev Inv-loop : tie.InvT-loop
-Inv-loop s i₀ t3 i = i ≤ length s
+Inv-loop s i₀ i = i ≤ length s
 
 abbrev μ-loop : tie.MeasureT-loop
-μ-loop s i₀ t3 i = length s - i
+μ-loop s i₀ i = length s - i
 
 dash-requires : tie.Need-dash-requires Inv-loop μ-loop
 dash-requires c κs = search needs
@@ -35,17 +35,11 @@ loop-less c = search needs
 loop-again : tie.Need-loop-again Inv-loop μ-loop
 loop-again c = search needs
 
-slice-aggregate-say : tie.Need-slice-aggregate-say Inv-loop μ-loop
-slice-aggregate-say c = search needs
-
-say-requires : tie.Need-say-requires Inv-loop μ-loop
-say-requires c κs = search needs
-
 returns : tie.Need-returns Inv-loop μ-loop
 returns c = search needs
 
-pub hex-spec : {M : Type 1} → statement M
-hex-spec =
+pub digits-spec : {M : Type 1} → statement M
+digits-spec =
     tie.close
     (tie.spec
     Inv-loop
@@ -58,6 +52,4 @@ hex-spec =
     add-i
     loop-less
     loop-again
-    slice-aggregate-say
-    say-requires
     returns)

@@ -1,0 +1,102 @@
+-- `answers::groups::vectors` meets its contract. Assumes nothing.
+use Prim.Native.Nat.{_≤_, _-_}
+use borrow.Author.Needs.{needs}
+use Rattle.answers.proofs.groups.vectors.Statement.{statement}
+use Rattle.answers.proofs.groups.vectors.Tie as tie
+
+abbrev Inv-loop : tie.InvT-loop
+Inv-loop count first rowsets lengths counts files rows at₀ k₀ i₀ t11 t12 t13 t14 at k i = i ≤ count
+
+abbrev μ-loop : tie.MeasureT-loop
+μ-loop count first rowsets lengths counts files rows at₀ k₀ i₀ t11 t12 t13 t14 at k i = count - i
+
+loop-holds : tie.Need-loop-holds Inv-loop μ-loop
+loop-holds c = search needs
+
+wrapping-add-u64-requires : tie.Need-wrapping-add-u64-requires Inv-loop μ-loop
+wrapping-add-u64-requires c κs = search needs
+
+comma-requires : tie.Need-comma-requires Inv-loop μ-loop
+comma-requires c κs = search needs
+
+slice-aggregate-say : tie.Need-slice-aggregate-say Inv-loop μ-loop
+slice-aggregate-say c = search needs
+
+say-requires : tie.Need-say-requires Inv-loop μ-loop
+say-requires c κs = search needs
+
+at32-requires : tie.Need-at32-requires Inv-loop μ-loop
+at32-requires c κs = search needs
+
+number-requires : tie.Need-number-requires Inv-loop μ-loop
+number-requires c κs = search needs
+
+slice-aggregate-say-2 : tie.Need-slice-aggregate-say-2 Inv-loop μ-loop
+slice-aggregate-say-2 c = search needs
+
+say-requires-2 : tie.Need-say-requires-2 Inv-loop μ-loop
+say-requires-2 c κs = search needs
+
+at32-requires-2 : tie.Need-at32-requires-2 Inv-loop μ-loop
+at32-requires-2 c κs = search needs
+
+file-requires : tie.Need-file-requires Inv-loop μ-loop
+file-requires c κs = search needs
+
+slice-aggregate-say-3 : tie.Need-slice-aggregate-say-3 Inv-loop μ-loop
+slice-aggregate-say-3 c = search needs
+
+say-requires-3 : tie.Need-say-requires-3 Inv-loop μ-loop
+say-requires-3 c κs = search needs
+
+at32-requires-3 : tie.Need-at32-requires-3 Inv-loop μ-loop
+at32-requires-3 c κs = search needs
+
+memory-requires : tie.Need-memory-requires Inv-loop μ-loop
+memory-requires c κs = search needs
+
+add-i : tie.Need-add-i Inv-loop μ-loop
+add-i c = search needs
+
+loop-less : tie.Need-loop-less Inv-loop μ-loop
+loop-less c = search needs
+
+loop-again : tie.Need-loop-again Inv-loop μ-loop
+loop-again c = search needs
+
+slice-aggregate-say-4 : tie.Need-slice-aggregate-say-4 Inv-loop μ-loop
+slice-aggregate-say-4 c = search needs
+
+say-requires-4 : tie.Need-say-requires-4 Inv-loop μ-loop
+say-requires-4 c κs = search needs
+
+returns : tie.Need-returns Inv-loop μ-loop
+returns c = search needs
+
+pub vectors-spec : {M : Type 1} → statement M
+vectors-spec =
+    tie.close
+    (tie.spec
+    Inv-loop
+    μ-loop
+    loop-holds
+    wrapping-add-u64-requires
+    comma-requires
+    slice-aggregate-say
+    say-requires
+    at32-requires
+    number-requires
+    slice-aggregate-say-2
+    say-requires-2
+    at32-requires-2
+    file-requires
+    slice-aggregate-say-3
+    say-requires-3
+    at32-requires-3
+    memory-requires
+    add-i
+    loop-less
+    loop-again
+    slice-aggregate-say-4
+    say-requires-4
+    returns)

@@ -1,0 +1,99 @@
+// Calls that append to the file.
+use crate::compactions;
+use crate::compactions::Compaction;
+use crate::compactions::MOST_TAKEN;
+use crate::world::Host;
+use crate::world::World;
+use answers::say;
+use ids::TableNo;
+use script::Found;
+use script::batches;
+use script::words::Appended;
+use version_manager::Committed;
+use version_manager::Created;
+use version_manager::VersionManager;
+
+// What a call leaves: the length of its append is 0 where it is refused, and never else.
+struct Append {
+    manager: VersionManager,
+    length: usize,
+}
+
+fn no_call(manager: VersionManager) -> Append {
+    say::no_call();
+    Append { manager, length: 0 }
+}
+
+// A commit's answer by the call's own word.
+fn committed(done: Committed, word: &[u8]) -> Append {
+    let answer = done.answer;
+    let length = say::committed(word, answer);
+    let manager = done.manager;
+    Append { manager, length }
+}
+
+fn commit(manager: VersionManager, s: &[u8], out: &mut [u8]) -> Append {
+    committed(manager.commit(batches::batch(s), out), b"committed")
+}
+
+fn created(done: Created) -> Append {
+    let answer = done.answer;
+    let length = say::created(answer);
+    let manager = done.manager;
+    Append { manager, length }
+}
+
+fn create(manager: VersionManager, s: &[u8], out: &mut [u8]) -> Append {
+    let end = script::first_end(s);
+    match script::one(&s[..end], 4294967295) {
+        Found::Of(n) => created(manager.create(script::narrow(n), script::name(&s[end..]), out)),
+        Found::Nothing => no_call(manager),
+    }
+}
+
+fn drop(manager: VersionManager, s: &[u8], out: &mut [u8]) -> Append {
+    match script::one(s, 4294967295) {
+        Found::Of(n) => committed(manager.drop(TableNo(script::narrow(n)), out), b"dropped"),
+        Found::Nothing => no_call(manager),
+    }
+}
+
+fn compact_lent(manager: VersionManager, s: &[u8], taken: &mut [u32], out: &mut [u8]) -> Append {
+    match compactions::read(s, taken) {
+        Compaction::Of(table, new, n) => {
+            let n = script::least(n, taken.len());
+            committed(manager.compact(table, new, &taken[..n], out), b"compacted")
+        }
+        Compaction::Nothing => no_call(manager),
+    }
+}
+
+fn compact(manager: VersionManager, s: &[u8], out: &mut [u8]) -> Append {
+    let mut taken = [0u32; MOST_TAKEN];
+    compact_lent(manager, s, &mut taken, out)
+}
+
+fn call(manager: VersionManager, word: Appended, s: &[u8], out: &mut [u8]) -> Append {
+    match word {
+        Appended::Commit => commit(manager, s, out),
+        Appended::Create => create(manager, s, out),
+        Appended::Drop => drop(manager, s, out),
+        Appended::Compact => compact(manager, s, out),
+    }
+}
+
+// The append is written to the file's end.
+pub fn appended(world: World, word: Appended, s: &[u8], room: usize, file: &mut [u8]) -> World {
+    let manager = world.manager;
+    let len = world.host.len;
+    let start = script::least(len, file.len());
+    let end = start + script::least(room, file.len() - start);
+    let done = call(manager, word, s, &mut file[start..end]);
+    let n = done.length;
+    if n == 0 {
+        return world;
+    }
+    world
+        .with_manager(done.manager)
+        .with_host(Host::appended(start, n, end))
+}
