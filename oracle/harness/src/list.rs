@@ -1,0 +1,34 @@
+//! A list of calls with the port's answers.
+
+#[derive(Clone, Debug)]
+pub struct Entry {
+    pub line: String,
+    /// None where the line is answered by nothing.
+    pub answer: Option<String>,
+}
+
+impl Entry {
+    pub fn word(&self) -> &str {
+        self.line.split(' ').next().unwrap()
+    }
+
+    pub fn accepted(&self) -> bool {
+        self.answer.as_ref().is_some_and(|answer| !answer.starts_with("refused"))
+    }
+
+    pub fn refused_by(&self, number: u32) -> bool {
+        let start = format!("refused,{number},");
+        self.answer.as_ref().is_some_and(|answer| answer.starts_with(&start))
+    }
+}
+
+/// Whether a line is answered.
+pub fn answered(line: &str) -> bool {
+    let word = line.split(' ').next().unwrap();
+    !line.is_empty() && !line.starts_with('#') && !["room", "cut", "stale", "write"].contains(&word)
+}
+
+/// The numbers of an answer's items, field by field: `pairs,2,0:1,0:2` has [0, 1] and [0, 2].
+pub fn items(answer: &str) -> Vec<Vec<&str>> {
+    answer.split(',').skip(2).map(|item| item.split(':').collect()).collect()
+}
