@@ -1,5 +1,8 @@
 //! A list of calls with the port's answers.
 
+/// Calls that only read. They settle nothing of how far an append has landed.
+pub const READING: [&str; 7] = ["show", "select", "encode", "decode", "mask", "state", "file"];
+
 #[derive(Clone, Debug)]
 pub struct Entry {
     pub line: String,
@@ -14,6 +17,15 @@ impl Entry {
 
     pub fn accepted(&self) -> bool {
         self.answer.as_ref().is_some_and(|answer| !answer.starts_with("refused"))
+    }
+
+    /// The call's word, or the refusal's number.
+    pub fn kind(&self) -> String {
+        let answer = self.answer.as_deref().unwrap_or("");
+        match answer.strip_prefix("refused,") {
+            Some(rest) => rest.split(',').next().unwrap().into(),
+            None => self.word().into(),
+        }
     }
 
     pub fn refused_by(&self, number: u32) -> bool {

@@ -32,7 +32,7 @@ fn program(name: &str) -> String {
 struct Totals {
     lists: usize,
     calls: usize,
-    refused: usize,
+    refused: BTreeMap<String, usize>,
     compared: usize,
     words: BTreeMap<String, usize>,
     known: BTreeMap<String, usize>,
@@ -45,9 +45,9 @@ impl Totals {
         let calls = entries.iter().filter(|entry| entry.answer.is_some());
         self.lists += 1;
         self.calls += calls.clone().count();
-        self.refused += calls.clone().filter(|entry| !entry.accepted()).count();
-        for entry in calls.filter(|entry| entry.accepted()) {
-            *self.words.entry(entry.word().into()).or_default() += 1;
+        for entry in calls {
+            let counts = if entry.accepted() { &mut self.words } else { &mut self.refused };
+            *counts.entry(entry.kind()).or_default() += 1;
         }
         let given = original::given(entries);
         for (program_name, ordered) in [("ORDERED", true), ("PLAIN", false)] {
@@ -65,19 +65,23 @@ impl Totals {
     }
 
     fn print(&self) {
-        let words: Vec<_> = self.words.iter().map(|(word, count)| format!("{word} {count}")).collect();
-        println!("accepted: {}", words.join(", "));
-        let known: Vec<_> = self.known.iter().map(|(code, count)| format!("{code} {count}")).collect();
+        println!("accepted: {}", counted(&self.words));
+        println!("refused, by number: {}", counted(&self.refused));
         println!(
             "{} lists, {} calls, {} refused, {} answers compared; explained: {}; unexplained: {}",
             self.lists,
             self.calls,
-            self.refused,
+            self.refused.values().sum::<usize>(),
             self.compared,
-            if known.is_empty() { "none".into() } else { known.join(", ") },
+            counted(&self.known),
             self.unknown
         );
     }
+}
+
+fn counted(counts: &BTreeMap<String, usize>) -> String {
+    let words: Vec<_> = counts.iter().map(|(word, count)| format!("{word} {count}")).collect();
+    if words.is_empty() { "none".into() } else { words.join(", ") }
 }
 
 /// The list whole, each line with its answer; those that differ are marked.

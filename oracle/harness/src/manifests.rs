@@ -138,3 +138,25 @@ pub fn any(random: &mut Random) -> String {
 pub fn next_ids(table: u32, rowset: u32, vector: u64) -> String {
     format!("B\nN,{table},{rowset},{vector}\nE\n")
 }
+
+/// A text at a limit, or just past it: bytes, operations in a frame, tables, rowsets.
+pub fn large(random: &mut Random) -> String {
+    let over = random.below(2) as usize;
+    match random.below(4) {
+        0 => {
+            let line = "A,0,1\n";
+            let whole = line.repeat(65_536 / line.len());
+            let tail = 65_536 - whole.len() + over;
+            whole + &"-".repeat(tail)
+        }
+        1 => format!("B\nT,0,7,slots\n{}E\n", "N,1,1,1\n".repeat(599 + over)),
+        2 => {
+            let tables: String = (0..16 + over).map(|id| format!("T,{id},0,t{id}\n")).collect();
+            format!("B\n{tables}E\n")
+        }
+        _ => {
+            let rowsets: String = (0..256 + over).map(|id| format!("A,0,{id}\n")).collect();
+            format!("B\nT,0,7,slots\n{rowsets}E\n")
+        }
+    }
+}

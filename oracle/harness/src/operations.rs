@@ -149,17 +149,48 @@ pub fn good(random: &mut Random, model: &Model, count: usize) -> Vec<String> {
     draft.lines
 }
 
-/// As many added rowsets, then vectors, then deletions as bring the count to `count`.
+/// Rowsets and vectors added, and then deleted, up to so many operations; a full store is emptied first.
 pub fn large(random: &mut Random, model: &Model, count: usize) -> Vec<String> {
     let mut draft = Draft { random, model: model.clone(), lines: vec![] };
-    let (rowsets, vectors) = (count / 3, count / 3);
-    for _ in 0..rowsets {
+    if draft.model.tables.is_empty() {
+        draft.create();
+    }
+    while draft.model.now.pairs.len() > 56 && draft.lines.len() + 60 < count {
+        draft.delete_rowset();
+    }
+    let adds = count.saturating_sub(draft.lines.len()) / 3;
+    for _ in 0..adds {
         draft.add_rowset();
     }
-    for _ in 0..vectors {
+    for _ in 0..adds {
         draft.add_vector();
     }
-    while draft.lines.len() < count && draft.delete_vector().is_some() {}
+    while draft.lines.len() < count && draft.delete_vector().or_else(|| draft.delete_rowset()).is_some() {}
+    draft.lines
+}
+
+/// Tables up to the limit, and now and then one more.
+pub fn tables(random: &mut Random, model: &Model) -> Vec<String> {
+    let mut draft = Draft { random, model: model.clone(), lines: vec![] };
+    while draft.create().is_some() {}
+    if draft.random.percent(40) {
+        draft.lines.push(format!("T,{},0,one_more", draft.model.next_table));
+    }
+    draft.lines
+}
+
+/// As many rowsets or vectors as can be held, and one more.
+pub fn over_the_limit(random: &mut Random, model: &Model) -> Vec<String> {
+    let mut draft = Draft { random, model: model.clone(), lines: vec![] };
+    let Some(table) = table(draft.random, &draft.model) else { return vec![] };
+    let free: Vec<u32> =
+        (0..model.next_rowset.min(1000)).filter(|r| !model.held((table, *r))).take(257).collect();
+    for rowset in free {
+        if draft.model.pairs_held() > 256 {
+            break;
+        }
+        draft.push(format!("A,{table},{rowset}"));
+    }
     draft.lines
 }
 

@@ -2,7 +2,7 @@
 use std::io::{BufRead, BufReader, Write};
 use std::process::{Command, Stdio};
 
-use crate::list::Entry;
+use crate::list::{Entry, READING};
 
 /// The lines for the driver, and the places of those that it answers.
 pub struct Given {
@@ -22,7 +22,6 @@ fn refused_alike(entry: &Entry) -> bool {
 
 /// Whether the next call that the port accepts, reading ones aside, is a reopen.
 fn reopened_next(entries: &[Entry]) -> bool {
-    const READING: [&str; 7] = ["show", "select", "encode", "decode", "mask", "state", "file"];
     let writes = |entry: &&Entry| entry.word() == "write";
     let changes = |entry: &&Entry| entry.accepted() && !READING.contains(&entry.word());
     let next = entries.iter().find(|entry| changes(entry) || writes(entry));
