@@ -2,7 +2,8 @@
 //!
 //!     harness compare N SEED    N random lists
 //!     harness list FILE         one list
-//!     harness make SEED         a random list, printed
+//!     harness make SEED NUMBER  a random list, printed
+//!     harness beside FILE NAME  the lists under headings that begin with NAME, each with both answers
 //!
 //! PORT, ORDERED and PLAIN are the programs.
 use std::collections::BTreeMap;
@@ -12,6 +13,7 @@ use std::process::exit;
 use list::{Entry, answered};
 use port::Port;
 
+mod beside;
 mod generate;
 mod judge;
 mod list;
@@ -51,7 +53,7 @@ impl Totals {
         }
         let given = original::given(entries);
         for (program_name, ordered) in [("ORDERED", true), ("PLAIN", false)] {
-            let answers = original::answers(&program(program_name), &given.lines);
+            let answers = original::answers(&program(program_name), &given.lines, &[]);
             let judged = judge::judge(entries, &given.places, &answers, ordered);
             self.compared += judged.compared;
             self.unknown += judged.unknown.len();
@@ -96,6 +98,10 @@ fn print_difference(name: &str, program: &str, entries: &[Entry], unknown: &[(us
     }
 }
 
+fn text_of(file: &str) -> String {
+    std::fs::read_to_string(file).unwrap_or_else(|e| panic!("{file}: {e}"))
+}
+
 fn list_of(text: &str) -> Vec<Entry> {
     let mut port = Port::start(&program("PORT"));
     let entry = |line: &str| {
@@ -118,7 +124,7 @@ fn random_list(seed: u64, number: u64) -> Vec<Entry> {
 }
 
 fn usage() -> ! {
-    eprintln!("usage: harness compare N SEED | list FILE | make SEED NUMBER");
+    eprintln!("usage: harness compare N SEED | list FILE | make SEED NUMBER | beside FILE NAME");
     exit(2)
 }
 
@@ -135,8 +141,7 @@ fn main() {
             }
         }
         ["list", file] => {
-            let text = std::fs::read_to_string(file).unwrap_or_else(|e| panic!("{file}: {e}"));
-            totals.add(file, &list_of(&text));
+            totals.add(file, &list_of(&text_of(file)));
         }
         ["make", seed, i] => {
             for entry in random_list(number(seed), number(i)) {
@@ -144,6 +149,7 @@ fn main() {
             }
             return;
         }
+        ["beside", file, name] => return beside::print(file, name),
         _ => usage(),
     }
     totals.print();

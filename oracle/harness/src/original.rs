@@ -57,9 +57,9 @@ pub fn given(entries: &[Entry]) -> Given {
     given
 }
 
-/// The driver's answers.
-pub fn answers(program: &str, lines: &[String]) -> Vec<String> {
-    let started = Command::new(program).stdin(Stdio::piped()).stdout(Stdio::piped()).spawn();
+/// The driver's answers; with `--each`, one for every line.
+pub fn answers(program: &str, lines: &[String], options: &[&str]) -> Vec<String> {
+    let started = Command::new(program).args(options).stdin(Stdio::piped()).stdout(Stdio::piped()).spawn();
     let mut child = started.unwrap_or_else(|e| panic!("{program}: {e}"));
     let mut input = child.stdin.take().unwrap();
     let text = lines.join("\n") + "\n";

@@ -70,6 +70,15 @@ impl Words<'_> {
         self.0[i].parse().unwrap_or_else(|_| panic!("no number: {}", self.0[i]))
     }
 
+    /// Row handles, each ROWSET:ROW.
+    fn handles(&self, from: usize) -> Vec<SecondaryRowHandler> {
+        let handle = |word: &&str| {
+            let (rowset, row) = word.split_once(':').unwrap();
+            SecondaryRowHandler(rowset.parse().unwrap(), row.parse().unwrap())
+        };
+        self.0[from..].iter().map(handle).collect()
+    }
+
     fn numbers<T: std::str::FromStr>(&self, from: usize) -> Vec<T> {
         (from..self.0.len()).map(|i| self.number(i)).collect()
     }
@@ -203,12 +212,7 @@ impl Driver {
                 listed("selected", taken.iter().map(u32::to_string))
             }
             "group" => {
-                let handle = |word: &&str| {
-                    let (rowset, row) = word.split_once(':').unwrap();
-                    (rowset.parse().unwrap(), row.parse().unwrap())
-                };
-                let handles: Vec<_> = words.0[1..].iter().map(handle).collect();
-                listed("grouped", scratch::grouped(&mut self.store, &handles).await?)
+                listed("grouped", scratch::grouped(&mut self.store, &words.handles(1)).await?)
             }
             "encode" => {
                 format!("encoded,{}", or_dash(hex(&vectors::encoded(&words.numbers(1)).await?)))
@@ -262,12 +266,19 @@ impl Driver {
                 scratch::compact_in_place(store, words.number(2), words.0[3] == "-", &taken).await?;
                 format!("epoch,{}", version.epoch())
             }
+            "transaction" => {
+                let table = store.table(&store.engine, words.number(2));
+                scratch::deleted(&table, &words.handles(3)).await?;
+                format!("epoch,{}", version.epoch())
+            }
             "disk" => {
                 let length = store.bytes().len() as u64;
-                short_writes::limit(words.0[2].parse().ok().map(|n: u64| length + n));
+                let more: Option<i64> = words.0[2].parse().ok();
+                short_writes::limit(more.map(|more| length.saturating_add_signed(more)));
                 String::new()
             }
             "json" => String::from_utf8_lossy(&store.bytes()).into(),
+            "lines" => store.lines(),
             "pins" => listed("pins", version.pins().iter().map(|(e, n)| format!("{e}:{n}"))),
             "waiting" => {
                 listed("waiting", version.waiting().iter().map(|(e, t, r)| format!("{e}:{t}:{r}")))
@@ -276,9 +287,8 @@ impl Driver {
             "notices" => format!("notices,{}", version.notices()),
             "pin" => listed("pinned", [version.pin().epoch.to_string()]),
             "open" => {
-                std::fs::remove_file(store.file())?;
                 store.reopen().await?;
-                "reopened".into()
+                format!("epoch,{}", store.engine.version.epoch())
             }
             "unlink" => {
                 let table = store.table(&store.engine, words.number(2));
@@ -312,16 +322,12 @@ fn outcome(runtime: &tokio::runtime::Runtime, driver: &mut Driver, line: &str) -
     }
 }
 
-/// With `--echo` each line is printed before its answer, and the driver's own lines are answered too.
-fn told(echo: bool, line: &str, answer: &str) {
-    if echo && answer.is_empty() {
-        println!("{line}");
-    } else if echo {
-        println!("{line:<40} -> {answer}");
-    } else if !answer.is_empty() && !line.starts_with('#') {
+/// One line for each answer; with `--each` one for each line, empty where there is no answer.
+fn told(each: bool, line: &str, answer: &str) {
+    if each || !answer.is_empty() && !line.starts_with('#') {
         println!("{answer}");
+        std::io::stdout().flush().unwrap();
     }
-    std::io::stdout().flush().unwrap();
 }
 
 /// The driver's temporary folder is ORACLE_DIR.
@@ -332,14 +338,12 @@ pub fn drive() {
     let runtime = tokio::runtime::Builder::new_current_thread().enable_all().build().unwrap();
     let store = runtime.block_on(Store::fresh(dir.clone())).unwrap();
     let mut driver = Driver { store, scan: None };
-    let echo = std::env::args().any(|argument| argument == "--echo");
+    let each = std::env::args().any(|argument| argument == "--each");
     std::panic::set_hook(Box::new(|_| {}));
     for line in std::io::stdin().lines().map(Result::unwrap) {
         let passed_over = line.is_empty() || line.starts_with('#') && !line.starts_with("#! ");
         let answer = if passed_over { String::new() } else { outcome(&runtime, &mut driver, &line) };
-        if echo || !passed_over {
-            told(echo, &line, &answer);
-        }
+        told(each, &line, &answer);
     }
     driver.store.pins.clear(); // a version that outlives its manager panics when it is dropped
     let _ = std::fs::remove_dir_all(dir);

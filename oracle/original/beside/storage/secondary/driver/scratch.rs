@@ -85,15 +85,23 @@ pub async fn compact_in_place(
     compactor_round(&store.engine, merged_is_empty).await
 }
 
-/// A transaction that deletes these rows, committed in an engine of its own; the ids are drawn from the store.
-pub async fn grouped(store: &mut Store, handles: &[(u32, u32)]) -> StorageResult<Vec<String>> {
+/// A transaction that deletes these rows.
+pub async fn deleted(table: &SecondaryTable, handles: &[SecondaryRowHandler]) -> StorageResult<()> {
+    let mut transaction = table.update().await?;
+    for handle in handles {
+        transaction.delete(handle).await?;
+    }
+    transaction.commit().await
+}
+
+/// Grouping: such a transaction in an engine of its own, with the ids drawn from the store.
+pub async fn grouped(
+    store: &mut Store,
+    handles: &[SecondaryRowHandler],
+) -> StorageResult<Vec<String>> {
     let engine = engine(0).await?;
     let table = store.table(&engine, 0);
-    let mut transaction = table.update().await?;
-    for (rowset, row) in handles {
-        transaction.delete(&SecondaryRowHandler(*rowset, *row)).await?;
-    }
-    transaction.commit().await?;
+    deleted(&table, handles).await?;
     let mut vectors: Vec<_> = engine.version.pin().snapshot.vectors().into_iter().collect();
     vectors.sort_by_key(|v| v.2);
     let IOBackend::InMemory(files) = &engine.options.io_backend else { unreachable!() };

@@ -57,6 +57,10 @@ fn options(dir: &Path) -> StorageOptions {
     }
 }
 
+fn text_of(json: &[u8]) -> String {
+    values_of(json).iter().map(|value| line_of(value) + "\\n").collect()
+}
+
 /// A manager at epoch 0 over an empty file: what `bootstrap` makes, without the commit that it ends with.
 async fn fresh_engine(dir: &Path) -> StorageResult<Arc<SecondaryStorage>> {
     let manifest = Manifest::open(dir.join(MANIFEST_FILE_NAME), true).await?;
@@ -108,10 +112,14 @@ impl Store {
         std::fs::read(self.file()).unwrap()
     }
 
-    /// The frames that were appended since the file was made, as the port's text.
+    /// The file's values as the port's text.
+    pub fn lines(&self) -> String {
+        text_of(&self.bytes())
+    }
+
+    /// The frames that were appended since the file was made.
     pub fn appended(&self) -> String {
-        let values = values_of(&self.bytes()[self.made..]);
-        values.iter().map(|value| line_of(value) + "\\n").collect()
+        text_of(&self.bytes()[self.made..])
     }
 
     pub fn table(&self, engine: &SecondaryStorage, table: u32) -> SecondaryTable {
@@ -216,7 +224,7 @@ impl Store {
         })
     }
 
-    /// `commit_changes`, and then the catalog, which it leaves alone.
+    /// `commit_changes`. It leaves the catalog alone, so the driver changes that.
     pub async fn commit(&mut self, lines: Vec<String>) -> StorageResult<u64> {
         self.appending(&lines);
         let values: Vec<_> = lines.iter().map(|line| value_of(line).unwrap()).collect();
@@ -225,8 +233,8 @@ impl Store {
             operations.push(self.operation(value).await?);
         }
         let epoch = self.engine.version.commit_changes(operations).await?;
-        for value in &values {
-            self.apply_to_catalog(value)?;
+        if self.settle {
+            values.iter().try_for_each(|value| self.apply_to_catalog(value))?;
         }
         Ok(epoch)
     }
