@@ -51,8 +51,8 @@ impl Totals {
             let counts = if entry.accepted() { &mut self.words } else { &mut self.refused };
             *counts.entry(entry.kind()).or_default() += 1;
         }
-        let given = original::given(entries);
         for (program_name, ordered) in [("ORDERED", true), ("PLAIN", false)] {
+            let given = original::given(entries, ordered);
             let answers = original::answers(&program(program_name), &given.lines, &[]);
             let judged = judge::judge(entries, &given.places, &answers, ordered);
             self.compared += judged.compared;

@@ -71,7 +71,7 @@ impl Model {
         match fields[0] {
             "T" => {
                 self.tables.insert(n(1) as u32, fields[3].into());
-                self.next_table = self.next_table.max(n(1) as u32 + 1);
+                self.next_table = self.next_table.max((n(1) as u32).saturating_add(1));
             }
             "X" => {
                 self.tables.remove(&(n(1) as u32));

@@ -64,7 +64,7 @@ impl Draft<'_> {
     }
 
     fn create(&mut self) -> Option<()> {
-        if self.model.tables.len() >= 16 {
+        if self.model.tables.len() >= 16 || self.model.next_table == u32::MAX {
             return None;
         }
         let (shape, name) = (shape(self.random), name(self.random, &self.model));

@@ -2,7 +2,7 @@
 use std::io::{BufRead, BufReader, Write};
 use std::process::{Command, Stdio};
 
-use crate::list::{Entry, READING};
+use crate::list::{Entry, READING, items};
 
 /// The lines for the driver, and the places of those that it answers.
 pub struct Given {
@@ -28,7 +28,14 @@ fn reopened_next(entries: &[Entry]) -> bool {
     next.is_some_and(|entry| entry.word() == "reopen")
 }
 
-pub fn given(entries: &[Entry]) -> Given {
+/// Where maps walk in any order, grouping gives ids to other rowsets than in the port: the rows of each id follow.
+fn rows_by_id(group: &Entry) -> Vec<String> {
+    let answer = group.answer.as_deref().unwrap();
+    let line = |fields: &Vec<&str>| format!("#! rows {} {}", fields[0], fields[3].replace('+', " "));
+    items(answer).iter().map(line).collect()
+}
+
+pub fn given(entries: &[Entry], ordered: bool) -> Given {
     let mut given = Given { lines: vec![], places: vec![] };
     // Whether the file is other than what the last call left.
     let mut touched = false;
@@ -51,6 +58,9 @@ pub fn given(entries: &[Entry]) -> Given {
             given.lines.push(entry.line.clone());
             if entry.answer.is_some() {
                 given.places.push(place);
+            }
+            if entry.word() == "group" && !ordered {
+                given.lines.extend(rows_by_id(entry));
             }
         }
     }

@@ -28,6 +28,15 @@ impl Generator<'_> {
         }
     }
 
+    /// A table with many rowsets, mostly.
+    pub fn table_of_rowsets(&mut self) -> u32 {
+        let tables: Vec<u32> = self.model.now.pairs.iter().map(|pair| pair.0).collect();
+        match self.random.percent(80) {
+            true => self.random.pick(&tables).unwrap_or(0),
+            false => self.some_table(),
+        }
+    }
+
     pub fn drop_table(&mut self) {
         let table = self.some_table();
         self.maybe_room();
@@ -54,7 +63,7 @@ impl Generator<'_> {
     }
 
     pub fn select(&mut self) {
-        let table = self.some_table();
+        let table = self.table_of_rowsets();
         let mut count = self.model.now.rowsets(table).len();
         if self.random.percent(5) {
             count += 1;
@@ -72,7 +81,7 @@ impl Generator<'_> {
     }
 
     pub fn compact(&mut self) {
-        let table = self.some_table();
+        let table = self.table_of_rowsets();
         if !self.model.locks.contains(&table) && self.random.percent(85) {
             if self.accepted(format!("lock {table}")).is_some() {
                 self.model.locks.insert(table);
