@@ -15,9 +15,8 @@ pub fn print(file: &str, name: &str) {
 
 fn print_list(list: &str) {
     let lines: Vec<String> = ["#! literal"].into_iter().chain(list.lines()).map(String::from).collect();
-    let answers = original::answers(&program("ORDERED"), &lines, &["--each"]);
-    let given = format!("{:<44} {:<34} {}", "call", "port", "original");
-    println!("{given}");
+    let answers = original::answers(&program("PLAIN"), &lines, &["--each"]);
+    println!("{:<44} {:<34} original", "call", "port");
     for (entry, original) in list_of(list).iter().zip(answers.iter().skip(1)) {
         let port = entry.answer.as_deref().unwrap_or("");
         println!("{:<44} {port:<34} {original}", entry.line);

@@ -131,10 +131,7 @@ impl Driver {
                 "reopened".into()
             }
             _ => {
-                store.pins.clear();
-                let settle = store.settle;
-                *store = Store::fresh(store.dir.clone()).await?;
-                store.settle = settle;
+                store.anew().await?;
                 "fresh".into()
             }
         })
@@ -171,11 +168,7 @@ impl Driver {
     fn unpinned(&mut self, epoch: u64) -> String {
         let version = self.store.engine.version.clone();
         version.notices();
-        let pins = self.store.pins.get_mut(&epoch).unwrap();
-        drop(pins.pop().unwrap());
-        if pins.is_empty() {
-            self.store.pins.remove(&epoch);
-        }
+        self.store.unpin(epoch);
         let due = version.notices();
         let bound = version.pins().keys().next().copied().unwrap_or(version.epoch());
         let ready = version.waiting().iter().filter(|deletion| deletion.0 <= bound).count();
@@ -261,11 +254,6 @@ impl Driver {
                 store.settle = false;
                 String::new()
             }
-            "compactor" => {
-                let taken: Vec<u32> = words.numbers(4);
-                scratch::compact_in_place(store, words.number(2), words.0[3] == "-", &taken).await?;
-                format!("epoch,{}", version.epoch())
-            }
             "transaction" => {
                 let table = store.table(&store.engine, words.number(2));
                 scratch::deleted(&table, &words.handles(3)).await?;
@@ -284,8 +272,6 @@ impl Driver {
                 listed("waiting", version.waiting().iter().map(|(e, t, r)| format!("{e}:{t}:{r}")))
             }
             "folders" => listed("folders", store.folders().iter().map(|(t, r)| format!("{t}:{r}"))),
-            "notices" => format!("notices,{}", version.notices()),
-            "pin" => listed("pinned", [version.pin().epoch.to_string()]),
             "open" => {
                 store.reopen().await?;
                 format!("epoch,{}", store.engine.version.epoch())
@@ -294,13 +280,6 @@ impl Driver {
                 let table = store.table(&store.engine, words.number(2));
                 std::fs::remove_file(table.get_dv_path(words.number(3), words.number(4)))?;
                 String::new()
-            }
-            "late-unpin" => {
-                let pins = std::mem::take(&mut store.pins);
-                drop(version);
-                *store = Store::fresh(store.dir.clone()).await?;
-                drop(pins);
-                "unpinned".into()
             }
             _ => panic!("no line of the driver: {}", words.0[1]),
         })
@@ -345,6 +324,6 @@ pub fn drive() {
         let answer = if passed_over { String::new() } else { outcome(&runtime, &mut driver, &line) };
         told(each, &line, &answer);
     }
-    driver.store.pins.clear(); // a version that outlives its manager panics when it is dropped
+    std::mem::forget(std::mem::take(&mut driver.store.pins)); // one that outlives its manager panics
     let _ = std::fs::remove_dir_all(dir);
 }

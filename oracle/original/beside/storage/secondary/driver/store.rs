@@ -87,6 +87,14 @@ impl Store {
         Ok(Self::over(dir, engine))
     }
 
+    /// A fresh store in the same folder.
+    pub async fn anew(&mut self) -> StorageResult<()> {
+        self.pins.clear();
+        let fresh = Self::fresh(self.dir.clone()).await?;
+        *self = Self { settle: self.settle, ..fresh };
+        Ok(())
+    }
+
     fn over(dir: PathBuf, engine: Arc<SecondaryStorage>) -> Self {
         Self {
             dir,
@@ -166,9 +174,11 @@ impl Store {
     }
 
     pub fn at(&self, epoch: u64) -> Arc<Snapshot> {
+        if epoch == self.engine.version.epoch() {
+            return self.now();
+        }
         match self.pins.get(&epoch).and_then(|pins| pins.last()) {
             Some(version) => version.snapshot.clone(),
-            None if epoch == self.engine.version.epoch() => self.now(),
             None => panic!("epoch {epoch} is neither current nor pinned"),
         }
     }
@@ -270,7 +280,9 @@ impl Store {
         if self.engine.version.notices() > 0 {
             self.note("drop-notice");
         }
-        self.locks.remove(&table);
+        if self.settle {
+            self.locks.remove(&table);
+        }
         Ok(self.engine.version.epoch())
     }
 
@@ -288,10 +300,35 @@ impl Store {
         new: Option<u32>,
         taken: &[u32],
     ) -> StorageResult<u64> {
+        if !self.settle {
+            return self.compact_in_place(table, new, taken).await;
+        }
         self.compare_compactor(table, new, taken).await?;
         let mut lines: Vec<_> = new.iter().map(|r| format!("A,{table},{r}")).collect();
         lines.extend(self.removal(table, taken));
         self.commit(lines).await
+    }
+
+    /// The original's compactor on the store itself. It takes the lock and draws the id for itself.
+    async fn compact_in_place(
+        &mut self,
+        table: u32,
+        new: Option<u32>,
+        taken: &[u32],
+    ) -> StorageResult<u64> {
+        self.appending(&[]);
+        let guard = self.locks.remove(&table);
+        drop(guard);
+        let next = self.engine.next_id.0.load(SeqCst);
+        self.engine.next_id.0.store(new.unwrap_or(next), SeqCst);
+        self.engine.version.notices();
+        scratch::compact_in_place(self, table, new.is_none(), taken).await?;
+        if self.engine.version.notices() > 0 {
+            self.note("compactor-notice");
+        }
+        self.engine.next_id.0.fetch_max(next, SeqCst);
+        self.lock(table);
+        Ok(self.engine.version.epoch())
     }
 
     async fn compare_compactor(
@@ -319,8 +356,18 @@ impl Store {
     }
 }
 
-// Locks.
+// Locks and pins.
 impl Store {
+    /// Drops the version that was pinned first.
+    pub fn unpin(&mut self, epoch: u64) {
+        let pins = self.pins.get_mut(&epoch).unwrap();
+        let first = pins.remove(0);
+        if pins.is_empty() {
+            self.pins.remove(&epoch);
+        }
+        drop(first);
+    }
+
     pub fn lock(&mut self, table: u32) -> &'static str {
         match self.engine.txn_mgr.try_lock_for_compaction(table) {
             Some(guard) => {
@@ -389,7 +436,9 @@ impl Store {
     }
 
     pub async fn reopen(&mut self) -> StorageResult<()> {
-        self.pins.clear();
+        if self.settle {
+            self.pins.clear();
+        }
         self.locks.clear();
         let read = Read { bytes: self.bytes(), next: self.next };
         self.engine = Arc::new(SecondaryStorage::open(options(&self.dir)).await?);
