@@ -3,6 +3,7 @@
 //!     harness compare N SEED    N random lists
 //!     harness list FILE         one list
 //!     harness make SEED NUMBER  a random list, printed
+//!     harness fixed FILE        the original's answers to a list, printed as the port prints them
 //!     harness beside FILE NAME  the lists under headings that begin with NAME, each with both answers
 //!
 //! PORT, ORDERED and PLAIN are the programs.
@@ -14,6 +15,7 @@ use list::{Entry, answered};
 use port::Port;
 
 mod beside;
+mod fixed;
 mod generate;
 mod judge;
 mod list;
@@ -124,7 +126,7 @@ fn random_list(seed: u64, number: u64) -> Vec<Entry> {
 }
 
 fn usage() -> ! {
-    eprintln!("usage: harness compare N SEED | list FILE | make SEED NUMBER | beside FILE NAME");
+    eprintln!("usage: harness compare N SEED | list FILE | make SEED NUMBER | fixed FILE | beside FILE NAME");
     exit(2)
 }
 
@@ -149,6 +151,7 @@ fn main() {
             }
             return;
         }
+        ["fixed", file] => return fixed::print(&list_of(&text_of(file))),
         ["beside", file, name] => return beside::print(file, name),
         _ => usage(),
     }
