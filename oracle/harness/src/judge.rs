@@ -104,14 +104,13 @@ impl Answers<'_> {
         }
         let words: Vec<u64> = self.entry.line.split(' ').skip(2).map(|w| w.parse().unwrap()).collect();
         let (target, sizes) = (words[0], &words[1..]);
-        let most: u128 = sizes.iter().map(|size| *size as u128).sum();
-        if most > u64::MAX as u128 {
-            return Some("selection-wraps");
-        }
         let taken = fields(self.original).len() - 2;
-        match !self.ordered && order_may_take(sizes, target, taken) {
-            true => Some("selection-order"),
-            false => Some("unknown"),
+        let wraps = sizes.iter().try_fold(0u64, |sum, size| sum.checked_add(*size)).is_none();
+        match (wraps, self.ordered) {
+            (true, true) if taken == wrapping_count(sizes, target) => Some("selection-wraps"),
+            (true, false) => Some("selection-wraps"),
+            (false, false) => Some("selection-order"),
+            _ => Some("unknown"),
         }
     }
 
@@ -176,19 +175,16 @@ fn sorted_frames(text: &str) -> Vec<Vec<&str>> {
     frames.collect()
 }
 
-/// Whether some order of the rowsets makes the original take this many: none is taken where one alone fits, or none.
-fn order_may_take(sizes: &[u64], target: u64, taken: usize) -> bool {
-    let fits = |sum: u64| sum <= target;
-    if taken == 0 {
-        let alone = |i: usize| {
-            let others = sizes.iter().enumerate().filter(|(j, _)| *j != i);
-            fits(sizes[i]) && others.into_iter().all(|(_, size)| !fits(size + sizes[i]))
-        };
-        return sizes.iter().all(|size| !fits(*size)) || (0..sizes.len()).any(alone);
+/// How many are taken, ascending, where sums wrap; one alone is none.
+fn wrapping_count(sizes: &[u64], target: u64) -> usize {
+    let (mut sum, mut taken) = (0u64, 0);
+    for size in sizes {
+        if sum.wrapping_add(*size) <= target {
+            sum = sum.wrapping_add(*size);
+            taken += 1;
+        }
     }
-    let mut ascending = sizes.to_vec();
-    ascending.sort_unstable();
-    fits(ascending.iter().take(taken).sum())
+    if taken > 1 { taken } else { 0 }
 }
 
 /// Splits the notes off an answer.

@@ -200,8 +200,12 @@ impl Driver {
         Ok(match words.0[0] {
             "select" => {
                 let table = words.number(1);
-                let sizes = self.store.rowsets(table).into_iter().zip(words.numbers(3)).collect::<Vec<_>>();
+                let rowsets = self.store.rowsets(table);
+                let sizes: Vec<_> = rowsets.into_iter().zip(words.numbers(3)).collect();
                 let taken = scratch::selected(table, words.number(2), &sizes).await?;
+                if !scratch::may_be_selected(&sizes, words.number(2), &taken) {
+                    self.store.note("selection");
+                }
                 listed("selected", taken.iter().map(u32::to_string))
             }
             "group" => {

@@ -51,6 +51,26 @@ pub async fn selected(
     Ok(sizes.iter().map(|s| s.0).filter(|r| !left.contains(&(table, *r))).collect())
 }
 
+/// Whether some order of the rowsets gives this selection; said of sums within 64 bits alone.
+pub fn may_be_selected(sizes: &[(u32, u64)], target: u64, taken: &[u32]) -> bool {
+    let sum_of = |rowsets: &[u32]| -> u128 {
+        sizes.iter().filter(|s| rowsets.contains(&s.0)).map(|s| s.1 as u128).sum()
+    };
+    let full = |rowsets: &[u32]| {
+        let sum = sum_of(rowsets);
+        let rest = sizes.iter().filter(|s| !rowsets.contains(&s.0));
+        sum <= target as u128 && rest.into_iter().all(|s| sum + s.1 as u128 > target as u128)
+    };
+    let all: u128 = sizes.iter().map(|s| s.1 as u128).sum();
+    if all > u64::MAX as u128 {
+        return true;
+    }
+    match taken.is_empty() {
+        true => full(&[]) || sizes.iter().any(|s| full(&[s.0])),
+        false => taken.len() > 1 && full(taken),
+    }
+}
+
 /// What the compactor leaves of a table when the sizes make it choose these rowsets.
 pub async fn compacted(
     table: u32,
