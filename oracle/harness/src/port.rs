@@ -25,10 +25,10 @@ impl Port {
 
     pub fn ask(&mut self, line: &str) -> String {
         self.tell(line);
-        let mut answer = String::new();
-        self.output.read_line(&mut answer).unwrap();
-        assert!(answer.ends_with('\n'), "the port ended at {line}");
-        answer.trim_end().into()
+        let mut answer = vec![];
+        self.output.read_until(b'\n', &mut answer).unwrap();
+        assert!(answer.pop() == Some(b'\n'), "the port ended at {line}");
+        String::from_utf8_lossy(&answer).into()
     }
 }
 

@@ -2,6 +2,8 @@
 //! to read differently is written as the port reads it. Each reason has a name.
 use std::collections::BTreeSet;
 
+use serde::de::IgnoredAny;
+
 use super::lines::{Next, json_of, next_of};
 
 pub const TORN_TAIL: &str = "torn-tail";
@@ -100,17 +102,30 @@ fn apply(line: &str, live: &mut BTreeSet<String>) {
     }
 }
 
-/// An append that landed in part: the lines of its frame, and its first bytes.
-pub fn file_of_cut(before: &[u8], frame: &[String], landed: usize) -> File {
+/// An append that landed in part: what stood before it, its values, its frame as the port's lines, and how many of the
+/// port's bytes landed. As many values are there as lines; one more in half if a line is.
+pub fn file_of_cut(before: &[u8], values: &[u8], frame: &[String], landed: usize) -> File {
     let text: String = frame.iter().map(|line| format!("{line}\n")).collect();
     let text = &text[..landed.min(text.len())];
+    let ends = ends_of_values(values);
     let whole = text.matches('\n').count();
-    let settled = [before, &json_of(&frame[..whole])].concat();
+    let settled = [before, &values[..ends[whole]]].concat();
     let mut file = File { literal: settled.clone(), settled, ..File::default() };
     if !text.is_empty() && !text.ends_with('\n') {
-        let torn = json_of(&frame[whole..=whole]);
+        let torn = &values[ends[whole]..ends[whole + 1]];
         file.literal.extend(&torn[..torn.len() / 2]);
         file.reasons.push(TORN_TAIL);
     }
     file
+}
+
+/// Where each value ends, from 0 on.
+fn ends_of_values(values: &[u8]) -> Vec<usize> {
+    let mut stream = serde_json::Deserializer::from_slice(values).into_iter::<IgnoredAny>();
+    let mut ends = vec![0];
+    while let Some(value) = stream.next() {
+        value.unwrap();
+        ends.push(stream.byte_offset());
+    }
+    ends
 }

@@ -15,10 +15,11 @@ use crate::storage::secondary::*;
 type Pairs = BTreeSet<(u32, u32)>;
 type Vectors = BTreeSet<(u32, u32, u64)>;
 
-/// The last append as the port's frame, and the file's bytes before it.
+/// The last append as the port's frame, the file's bytes before it, and the appended values once they are cut.
 struct Append {
     frame: Vec<String>,
     before: Vec<u8>,
+    values: Option<Vec<u8>>,
 }
 
 /// The file as the last reopen read it.
@@ -198,7 +199,7 @@ impl Store {
     /// Notes what the port appends.
     fn appending(&mut self, lines: &[String]) {
         let frame = ["B".into()].into_iter().chain(lines.iter().cloned()).chain(["E".into()]);
-        self.append = Some(Append { frame: frame.collect(), before: self.bytes() });
+        self.append = Some(Append { frame: frame.collect(), before: self.bytes(), values: None });
         self.read = None;
     }
 
@@ -401,8 +402,12 @@ impl Store {
     }
 
     pub fn cut(&mut self, landed: usize) {
-        if let Some(append) = &self.append {
-            self.set_file(file_of_cut(&append.before, &append.frame, landed));
+        let bytes = self.bytes();
+        if let Some(append) = &mut self.append {
+            let before = append.before.len();
+            let values = append.values.get_or_insert_with(|| bytes[before..].to_vec());
+            let file = file_of_cut(&append.before, values, &append.frame, landed);
+            self.set_file(file);
         }
     }
 
