@@ -87,7 +87,7 @@ impl Answers<'_> {
 
     /// What was appended since the file was made; in a frame of a drop the order of lines may differ.
     fn file(&self) -> Option<&'static str> {
-        let text = self.port.splitn(3, ',').nth(2).unwrap().replace("\\n", "\n");
+        let text = self.port.splitn(3, ',').nth(2).unwrap_or("").replace("\\n", "\n");
         let text = if text == "-" { String::new() } else { text };
         let original = self.original.split_once(',').map_or("", |f| f.1).replace("\\n", "\n");
         let Some(appended) = text.get(self.made..) else { return Some("unknown") };

@@ -34,10 +34,15 @@ impl Entry {
     }
 }
 
-/// Whether a line is answered.
+/// Whether a line is answered. One of the host's that is not well formed is, by a refusal.
 pub fn answered(line: &str) -> bool {
-    let word = line.split(' ').next().unwrap();
-    !line.is_empty() && !line.starts_with('#') && !["room", "cut", "stale", "write"].contains(&word)
+    let words: Vec<&str> = line.split(' ').collect();
+    let host = match words[..] {
+        ["room" | "cut", number] => number.parse::<u64>().is_ok(),
+        ["stale"] | ["write", ..] => true,
+        _ => line.is_empty() || line.starts_with('#'),
+    };
+    !host
 }
 
 /// The numbers of an answer's items, field by field: `pairs,2,0:1,0:2` has [0, 1] and [0, 2].

@@ -103,14 +103,31 @@ impl Text<'_> {
     }
 }
 
-const BAD_LINES: [&str; 12] =
-    ["", "B,", "EE", "A,0", "A,0,01", "T,0,0,", "T,9,9,Upper", "X,4294967295", "A,0,4294967295", "Q", " B", "N,1,2"];
-const BAD_FRAMES: [&str; 5] = ["B\nX,99\nE", "B\nT,1,1,one\nT,2,1,one\nE", "B\nA,77,1\nE", "B\nT,5,1,x\nT,5,1,y\nE", "B\nA,4,1\nX,4\nE"];
+const BAD_LINES: [&str; 12] = [
+    "",
+    "B,",
+    "EE",
+    "A,0",
+    "A,0,01",
+    "T,0,0,",
+    "T,9,9,Upper",
+    "X,4294967295",
+    "A,0,4294967295",
+    "Q",
+    " B",
+    "N,1,2",
+];
+const BAD_FRAMES: [&str; 5] = [
+    "B\nX,99\nE",
+    "B\nT,1,1,one\nT,2,1,one\nE",
+    "B\nA,77,1\nE",
+    "B\nT,5,1,x\nT,5,1,y\nE",
+    "B\nA,4,1\nX,4\nE",
+];
 
 /// A text of some frames; one in six is refused.
 pub fn any(random: &mut Random) -> String {
-    let mut text =
-        Text { random, lines: vec![], tables: BTreeMap::new(), pairs: BTreeSet::new() };
+    let mut text = Text { random, lines: vec![], tables: BTreeMap::new(), pairs: BTreeSet::new() };
     for _ in 0..text.random.between(1, 7) {
         match text.random.below(10) {
             0 | 1 => text.torn_frame(),

@@ -51,8 +51,7 @@ impl Model {
     }
 
     pub fn held_vector(&self, vector: u64) -> bool {
-        self.now.vectors.iter().any(|v| v.2 == vector)
-            || self.waiting_vectors.iter().any(|w| w.1 == vector)
+        self.now.vectors.iter().any(|v| v.2 == vector) || self.waiting_vectors.iter().any(|w| w.1 == vector)
     }
 
     pub fn pairs_held(&self) -> usize {

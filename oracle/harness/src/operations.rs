@@ -22,8 +22,7 @@ pub fn shape(random: &mut Random) -> u64 {
 }
 
 pub fn name(random: &mut Random, model: &Model) -> String {
-    let free: Vec<&str> =
-        NAMES.iter().copied().filter(|n| !model.tables.values().any(|t| t == n)).collect();
+    let free: Vec<&str> = NAMES.iter().copied().filter(|n| !model.tables.values().any(|t| t == n)).collect();
     match random.pick(&free) {
         Some(name) => name.into(),
         None => format!("t{}", model.next_table),
@@ -34,15 +33,13 @@ pub fn name(random: &mut Random, model: &Model) -> String {
 pub fn free_rowset(random: &mut Random, model: &Model, table: u32) -> Option<u32> {
     let next = model.next_rowset as u64;
     let newest = next.saturating_sub(if random.percent(80) { 12 } else { 300 });
-    let free: Vec<u32> =
-        (newest..next).map(|id| id as u32).filter(|id| !model.held((table, *id))).collect();
+    let free: Vec<u32> = (newest..next).map(|id| id as u32).filter(|id| !model.held((table, *id))).collect();
     random.pick(&free)
 }
 
 pub fn free_vector(random: &mut Random, model: &Model) -> Option<u64> {
     let newest = model.next_vector.saturating_sub(if random.percent(80) { 12 } else { 300 });
-    let free: Vec<u64> =
-        (newest..model.next_vector).filter(|id| !model.held_vector(*id)).collect();
+    let free: Vec<u64> = (newest..model.next_vector).filter(|id| !model.held_vector(*id)).collect();
     random.pick(&free)
 }
 
@@ -97,8 +94,7 @@ impl Draft<'_> {
     }
 
     fn delete_rowset(&mut self) -> Option<()> {
-        let (table, rowset) =
-            self.random.pick(&self.model.now.pairs.iter().copied().collect::<Vec<_>>())?;
+        let (table, rowset) = self.random.pick(&self.model.now.pairs.iter().copied().collect::<Vec<_>>())?;
         let mut lines = self.model.removal(table, &[rowset]);
         if self.random.percent(50) {
             lines.reverse();
@@ -111,8 +107,7 @@ impl Draft<'_> {
         if self.model.vectors_held() >= 256 {
             return None;
         }
-        let (table, rowset) =
-            self.random.pick(&self.model.now.pairs.iter().copied().collect::<Vec<_>>())?;
+        let (table, rowset) = self.random.pick(&self.model.now.pairs.iter().copied().collect::<Vec<_>>())?;
         let vector = free_vector(self.random, &self.model)?;
         self.push(format!("V,{table},{rowset},{vector}"));
         Some(())

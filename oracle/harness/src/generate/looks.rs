@@ -40,8 +40,15 @@ impl Generator<'_> {
     }
 
     pub fn nonsense(&mut self) {
-        const LINES: [&str; 7] =
-            ["bogus", "draw", "draw pair", "show", "show pairs x", "unpin 18446744073709551616", "mask 0 012 1"];
+        const LINES: [&str; 7] = [
+            "bogus",
+            "draw",
+            "draw pair",
+            "show",
+            "show pairs x",
+            "unpin 18446744073709551616",
+            "mask 0 012 1",
+        ];
         let line = self.random.pick(&LINES).unwrap();
         self.ask(line.into());
     }

@@ -1,4 +1,6 @@
 //! A random list of calls. Each call is chosen by what the port has answered so far, so that most are accepted.
+use self::moods::Kind::{self, *};
+use self::moods::MOODS;
 use crate::list::{Entry, READING, answered};
 use crate::model::Model;
 use crate::port::Port;
@@ -9,67 +11,8 @@ mod beside;
 mod files;
 mod looks;
 mod manager;
+mod moods;
 mod vectors;
-
-#[derive(Clone, Copy)]
-enum Kind {
-    Draw,
-    Commit,
-    LargeCommit,
-    BadCommit,
-    ManyPins,
-    Pin,
-    Unpin,
-    Vacuum,
-    Show,
-    Reopen,
-    Cut,
-    Stale,
-    Write,
-    Encode,
-    Decode,
-    Mask,
-    Scan,
-    Told,
-    Nonsense,
-    Fresh,
-    Create,
-    Drop,
-    Lock,
-    Select,
-    Compact,
-    Group,
-}
-use Kind::*;
-
-type Weights = &'static [(Kind, u64)];
-
-const MIXED: Weights = &[
-    (Draw, 20), (Commit, 30), (BadCommit, 10), (Pin, 8), (Unpin, 6), (Vacuum, 6), (Show, 8),
-    (Reopen, 2), (Cut, 4), (Stale, 2), (Encode, 2), (Decode, 3), (Mask, 3), (Scan, 6), (Told, 2),
-    (Nonsense, 1), (Create, 4), (Drop, 2), (Lock, 4), (Select, 6), (Compact, 6), (Group, 6),
-];
-const PINS: Weights = &[
-    (ManyPins, 1), (Draw, 12), (Commit, 30), (Pin, 30), (Unpin, 12), (Vacuum, 8), (Show, 8), (BadCommit, 2), (Scan, 4),
-    (Drop, 2), (Compact, 6), (Lock, 3), (Create, 2),
-];
-const RESTARTS: Weights = &[
-    (Draw, 10), (Commit, 20), (Reopen, 8), (Cut, 20), (Stale, 10), (Write, 10), (Pin, 4), (Vacuum, 4),
-    (Show, 4), (Told, 4), (Scan, 4), (Create, 4), (Drop, 3), (Compact, 6), (Lock, 3), (Group, 3),
-];
-const LARGE: Weights = &[
-    (LargeCommit, 30), (Commit, 8), (Draw, 2), (Vacuum, 20), (Pin, 2), (Unpin, 3), (Drop, 2), (Show, 6),
-    (BadCommit, 4), (Cut, 1), (Create, 3), (Compact, 6), (Lock, 2), (Select, 6),
-];
-const VECTORS: Weights = &[
-    (Draw, 14), (Commit, 20), (Group, 20), (Scan, 20), (Mask, 8), (Encode, 6), (Decode, 8), (Pin, 4),
-    (Unpin, 4), (Vacuum, 3), (Reopen, 2), (Cut, 2), (Compact, 4), (Lock, 2),
-];
-const MANIFESTS: Weights = &[
-    (Write, 30), (Stale, 6), (Commit, 20), (Draw, 8), (Cut, 8), (Show, 6), (Told, 4), (Pin, 4), (Vacuum, 4),
-    (Fresh, 1), (Drop, 2), (Scan, 3),
-];
-const MOODS: &[Weights] = &[MIXED, MIXED, PINS, RESTARTS, LARGE, LARGE, VECTORS, MANIFESTS];
 
 pub struct Generator<'a> {
     random: Random,
@@ -81,8 +24,6 @@ pub struct Generator<'a> {
     append: Option<u64>,
     /// Whether the file may be stale.
     may_be_stale: bool,
-    /// Whether the port has the calls beside the manager.
-    beside: bool,
 }
 
 /// A list of at least `calls` calls, with the port's answers.
@@ -95,7 +36,6 @@ pub fn list(port: &mut Port, seed: u64, calls: usize) -> Vec<Entry> {
         calls: 0,
         append: None,
         may_be_stale: false,
-        beside: true,
     };
     generator.start();
     while generator.calls < calls {
@@ -148,9 +88,6 @@ impl Generator<'_> {
 // The course of a list.
 impl Generator<'_> {
     fn start(&mut self) {
-        let knows = self.ask("create 7 slots".into()) != "refused,2,0";
-        self.beside = knows;
-        self.ask("fresh".into());
         let text = match self.random.below(10) {
             0..4 => manifests::next_ids(0, 700, 700),
             4 => manifests::next_ids(4_294_967_290, 4_294_967_285, 18_446_744_073_709_551_605),
@@ -182,7 +119,6 @@ impl Generator<'_> {
 
     fn step(&mut self, kind: Kind) {
         match kind {
-            Create | Drop | Lock | Select | Compact | Group if !self.beside => self.step(Commit),
             Draw => self.draw(),
             Commit => {
                 let count = self.random.weighted(&[(0, 1), (1, 6), (3, 6), (8, 3)]);

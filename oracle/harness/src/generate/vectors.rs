@@ -27,8 +27,18 @@ impl Generator<'_> {
     /// Bytes that the writer may not make.
     pub fn damaged(&mut self, hex: String) -> String {
         const OTHERS: [&str; 12] = [
-            "020800", "03088100", "0608ffffffff1f", "0408011005", "021005", "0408010802", "03880001", "82000801",
-            "8000", "020880", "030801", "050d01000000",
+            "020800",
+            "03088100",
+            "0608ffffffff1f",
+            "0408011005",
+            "021005",
+            "0408010802",
+            "03880001",
+            "82000801",
+            "8000",
+            "020880",
+            "030801",
+            "050d01000000",
         ];
         let mut digits: Vec<char> = hex.chars().collect();
         match self.random.below(3) {

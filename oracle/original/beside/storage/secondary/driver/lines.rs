@@ -50,10 +50,7 @@ pub fn value_of(line: &str) -> Option<ManifestOperation> {
             ordered_pk_ids: vec![number(&f, 1)],
         }),
         "X" => ManifestOperation::DropTable(DropTableEntry { table_id: table_id() }),
-        "A" => ManifestOperation::AddRowSet(AddRowSetEntry {
-            table_id: table_id(),
-            rowset_id: rowset_id(),
-        }),
+        "A" => ManifestOperation::AddRowSet(AddRowSetEntry { table_id: table_id(), rowset_id: rowset_id() }),
         "D" => ManifestOperation::DeleteRowSet(DeleteRowsetEntry {
             table_id: table_id(),
             rowset_id: rowset_id(),

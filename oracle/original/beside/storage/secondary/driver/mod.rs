@@ -94,9 +94,7 @@ impl Driver {
     async fn answer(&mut self, line: &str) -> StorageResult<String> {
         let words = Words(line.split(' ').filter(|word| !word.is_empty()).collect());
         match words.0[0] {
-            "commit" | "create" | "drop" | "compact" | "reopen" | "fresh" => {
-                self.changed(&words).await
-            }
+            "commit" | "create" | "drop" | "compact" | "reopen" | "fresh" => self.changed(&words).await,
             "draw" | "pin" | "unpin" | "vacuum" | "lock" | "unlock" => self.managed(&words).await,
             "show" | "state" | "file" => Ok(self.shown(&words)),
             "select" | "group" | "encode" | "decode" | "mask" => self.beside(&words).await,
@@ -208,9 +206,7 @@ impl Driver {
                 }
                 listed("selected", taken.iter().map(u32::to_string))
             }
-            "group" => {
-                listed("grouped", scratch::grouped(&mut self.store, &words.handles(1)).await?)
-            }
+            "group" => listed("grouped", scratch::grouped(&mut self.store, &words.handles(1)).await?),
             "encode" => {
                 format!("encoded,{}", or_dash(hex(&vectors::encoded(&words.numbers(1)).await?)))
             }
@@ -272,9 +268,7 @@ impl Driver {
             "json" => String::from_utf8_lossy(&store.bytes()).into(),
             "lines" => store.lines(),
             "pins" => listed("pins", version.pins().iter().map(|(e, n)| format!("{e}:{n}"))),
-            "waiting" => {
-                listed("waiting", version.waiting().iter().map(|(e, t, r)| format!("{e}:{t}:{r}")))
-            }
+            "waiting" => listed("waiting", version.waiting().iter().map(|(e, t, r)| format!("{e}:{t}:{r}"))),
             "folders" => listed("folders", store.folders().iter().map(|(t, r)| format!("{t}:{r}"))),
             "open" => {
                 store.reopen().await?;

@@ -13,10 +13,7 @@ async fn engine(target_rowset_size: usize) -> StorageResult<Arc<SecondaryStorage
 }
 
 /// One round of the original's compactor, over all tables.
-pub async fn compactor_round(
-    engine: &Arc<SecondaryStorage>,
-    merged_is_empty: bool,
-) -> StorageResult<()> {
+pub async fn compactor_round(engine: &Arc<SecondaryStorage>, merged_is_empty: bool) -> StorageResult<()> {
     MERGED_IS_EMPTY.store(merged_is_empty, SeqCst);
     let (stop, stopped) = tokio::sync::oneshot::channel();
     stop.send(()).unwrap();
@@ -40,11 +37,7 @@ async fn with_rowsets(
 }
 
 /// Selection: what is gone after the compactor merged its choice into nothing.
-pub async fn selected(
-    table: u32,
-    target: usize,
-    sizes: &[(u32, u64)],
-) -> StorageResult<Vec<u32>> {
+pub async fn selected(table: u32, target: usize, sizes: &[(u32, u64)]) -> StorageResult<Vec<u32>> {
     let engine = with_rowsets(target, table, sizes.iter().copied()).await?;
     compactor_round(&engine, true).await?;
     let left = engine.version.pin().snapshot.pairs();
@@ -115,10 +108,7 @@ pub async fn deleted(table: &SecondaryTable, handles: &[SecondaryRowHandler]) ->
 }
 
 /// Grouping: such a transaction in an engine of its own, with the ids drawn from the store.
-pub async fn grouped(
-    store: &mut Store,
-    handles: &[SecondaryRowHandler],
-) -> StorageResult<Vec<String>> {
+pub async fn grouped(store: &mut Store, handles: &[SecondaryRowHandler]) -> StorageResult<Vec<String>> {
     let engine = engine(0).await?;
     let table = store.table(&engine, 0);
     deleted(&table, handles).await?;

@@ -161,9 +161,8 @@ impl Store {
         let schema = self.engine.catalog.get_schema_by_id(SCHEMA).unwrap();
         let opened: BTreeSet<u32> = self.engine.tables.read().keys().map(|t| t.table_id).collect();
         assert!(schema.tables.keys().eq(&opened), "catalog and engine have other tables");
-        let shown = |t: &Arc<crate::catalog::TableCatalog>| {
-            format!("{}:{}:{}", t.id, t.columns[0].id(), t.name)
-        };
+        let shown =
+            |t: &Arc<crate::catalog::TableCatalog>| format!("{}:{}:{}", t.id, t.columns[0].id(), t.name);
         schema.tables.values().map(shown).collect()
     }
 
@@ -295,12 +294,7 @@ impl Store {
     }
 
     /// The commit as document 01 has it. The original's compactor makes its own from the same snapshot, aside.
-    pub async fn compact(
-        &mut self,
-        table: u32,
-        new: Option<u32>,
-        taken: &[u32],
-    ) -> StorageResult<u64> {
+    pub async fn compact(&mut self, table: u32, new: Option<u32>, taken: &[u32]) -> StorageResult<u64> {
         if !self.settle {
             return self.compact_in_place(table, new, taken).await;
         }
@@ -311,12 +305,7 @@ impl Store {
     }
 
     /// The original's compactor on the store itself. It takes the lock and draws the id for itself.
-    async fn compact_in_place(
-        &mut self,
-        table: u32,
-        new: Option<u32>,
-        taken: &[u32],
-    ) -> StorageResult<u64> {
+    async fn compact_in_place(&mut self, table: u32, new: Option<u32>, taken: &[u32]) -> StorageResult<u64> {
         self.appending(&[]);
         let guard = self.locks.remove(&table);
         drop(guard);
@@ -332,12 +321,7 @@ impl Store {
         Ok(self.engine.version.epoch())
     }
 
-    async fn compare_compactor(
-        &mut self,
-        table: u32,
-        new: Option<u32>,
-        taken: &[u32],
-    ) -> StorageResult<()> {
+    async fn compare_compactor(&mut self, table: u32, new: Option<u32>, taken: &[u32]) -> StorageResult<()> {
         if taken.len() < 2 {
             self.note("few-taken");
             return Ok(());
