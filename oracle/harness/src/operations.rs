@@ -47,6 +47,14 @@ pub fn table(random: &mut Random, model: &Model) -> Option<u32> {
     random.pick(&model.tables.keys().copied().collect::<Vec<_>>())
 }
 
+/// Any table, but mostly the first: it is to have many rowsets.
+fn favourite(random: &mut Random, model: &Model) -> Option<u32> {
+    match random.percent(60) {
+        true => model.tables.keys().next().copied(),
+        false => table(random, model),
+    }
+}
+
 /// Operations built on one another, on a model of their own.
 struct Draft<'a> {
     random: &'a mut Random,
@@ -87,7 +95,7 @@ impl Draft<'_> {
         if self.model.pairs_held() >= 256 {
             return None;
         }
-        let table = table(self.random, &self.model)?;
+        let table = favourite(self.random, &self.model)?;
         let rowset = free_rowset(self.random, &self.model, table)?;
         self.push(format!("A,{table},{rowset}"));
         Some(())
