@@ -1,0 +1,160 @@
+//! Compares the port with the original on lists of calls (README.md).
+//!
+//!     harness compare N SEED    N random lists
+//!     harness list FILE         one list
+//!     harness make SEED NUMBER  a random list, printed
+//!     harness fixed FILE        the original's answers to a list, printed as the port prints them
+//!     harness beside FILE NAME  the lists under headings that begin with NAME, each with both answers
+//!
+//! PORT, ORDERED and PLAIN are the programs.
+use std::collections::BTreeMap;
+use std::env;
+use std::process::exit;
+
+use list::{Entry, answered};
+use port::Port;
+
+mod beside;
+mod fixed;
+mod generate;
+mod judge;
+mod list;
+mod manifests;
+mod model;
+mod operations;
+mod original;
+mod port;
+mod random;
+
+const CALLS_A_LIST: usize = 300;
+
+fn program(name: &str) -> String {
+    env::var(name).unwrap_or_else(|_| panic!("{name}: the path of a program"))
+}
+
+#[derive(Default)]
+struct Totals {
+    lists: usize,
+    calls: usize,
+    refused: BTreeMap<String, usize>,
+    compared: usize,
+    words: BTreeMap<String, usize>,
+    known: BTreeMap<String, usize>,
+    unknown: usize,
+}
+
+impl Totals {
+    /// One list beside both builds of the original.
+    fn add(&mut self, name: &str, entries: &[Entry]) {
+        let calls = entries.iter().filter(|entry| entry.answer.is_some());
+        self.lists += 1;
+        self.calls += calls.clone().count();
+        for entry in calls {
+            let counts = if entry.accepted() { &mut self.words } else { &mut self.refused };
+            *counts.entry(entry.kind()).or_default() += 1;
+        }
+        for (program_name, ordered) in [("ORDERED", true), ("PLAIN", false)] {
+            let given = original::given(entries, ordered);
+            let answers = original::answers(&program(program_name), &given.lines, &[]);
+            let judged = judge::judge(entries, &given.places, &answers, ordered);
+            self.compared += judged.compared;
+            self.unknown += judged.unknown.len();
+            for (code, count) in judged.known {
+                *self.known.entry(code).or_default() += count;
+            }
+            if !judged.unknown.is_empty() {
+                print_difference(name, program_name, entries, &judged.unknown);
+            }
+        }
+    }
+
+    fn print(&self) {
+        println!("accepted: {}", counted(&self.words));
+        println!("refused, by number: {}", counted(&self.refused));
+        println!(
+            "{} lists, {} calls, {} refused, {} answers compared; explained: {}; unexplained: {}",
+            self.lists,
+            self.calls,
+            self.refused.values().sum::<usize>(),
+            self.compared,
+            counted(&self.known),
+            self.unknown
+        );
+    }
+}
+
+fn counted(counts: &BTreeMap<String, usize>) -> String {
+    let words: Vec<_> = counts.iter().map(|(word, count)| format!("{word} {count}")).collect();
+    if words.is_empty() { "none".into() } else { words.join(", ") }
+}
+
+/// The list whole, each line with its answer; those that differ are marked.
+fn print_difference(name: &str, program: &str, entries: &[Entry], unknown: &[(usize, String)]) {
+    println!("--- list {name}, {program}: the lines marked with > differ");
+    for (place, entry) in entries.iter().enumerate() {
+        let answer = entry.answer.as_deref().unwrap_or("");
+        match unknown.iter().find(|(at, _)| *at == place) {
+            Some((_, original)) => println!("> {} -> {answer} | original: {original}", entry.line),
+            None => println!("  {} -> {answer}", entry.line),
+        }
+    }
+}
+
+fn text_of(file: &str) -> String {
+    std::fs::read_to_string(file).unwrap_or_else(|e| panic!("{file}: {e}"))
+}
+
+fn list_of(text: &str) -> Vec<Entry> {
+    let mut port = Port::start(&program("PORT"));
+    let entry = |line: &str| {
+        let answer = match answered(line) {
+            true => Some(port.ask(line)),
+            false => {
+                port.tell(line);
+                None
+            }
+        };
+        Entry { line: line.into(), answer }
+    };
+    text.lines().map(entry).collect()
+}
+
+fn random_list(seed: u64, number: u64) -> Vec<Entry> {
+    let mut port = Port::start(&program("PORT"));
+    let own_seed = seed.wrapping_mul(1_000_003).wrapping_add(number);
+    generate::list(&mut port, own_seed, CALLS_A_LIST)
+}
+
+fn usage() -> ! {
+    eprintln!("usage: harness compare N SEED | list FILE | make SEED NUMBER | fixed FILE | beside FILE NAME");
+    exit(2)
+}
+
+fn main() {
+    let arguments: Vec<String> = env::args().skip(1).collect();
+    let words: Vec<&str> = arguments.iter().map(String::as_str).collect();
+    let number = |word: &str| word.parse::<u64>().unwrap_or_else(|_| usage());
+    let mut totals = Totals::default();
+    match words[..] {
+        ["compare", count, seed] => {
+            for i in 0..number(count) {
+                let entries = random_list(number(seed), i);
+                totals.add(&format!("{i} of seed {seed}"), &entries);
+            }
+        }
+        ["list", file] => {
+            totals.add(file, &list_of(&text_of(file)));
+        }
+        ["make", seed, i] => {
+            for entry in random_list(number(seed), number(i)) {
+                println!("{}", entry.line);
+            }
+            return;
+        }
+        ["fixed", file] => return fixed::print(&list_of(&text_of(file))),
+        ["beside", file, name] => return beside::print(file, name),
+        _ => usage(),
+    }
+    totals.print();
+    exit(if totals.unknown == 0 { 0 } else { 1 });
+}

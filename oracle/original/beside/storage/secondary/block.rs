@@ -1,0 +1,3 @@
+pub enum Block {}
+
+pub enum BlockCacheKey {}

@@ -1,0 +1,6 @@
+#![allow(warnings)]
+include!(concat!(env!("OUT_DIR"), "/tree/root.rs"));
+
+fn main() {
+    storage::drive();
+}
