@@ -59,16 +59,16 @@ merged =
     }
 
 pub record ManifestCases : Type 0 where
-  -- "Empty manifest: `B`, `N,0,0,0`, `E`; epoch 1."
+  -- of no bytes: the empty store at epoch 1, and a manifest of next ids alone
   pub nothing : reopenOf [] longestRewritten ≡ given empty
   pub nothingText : rewrittenOf empty ≡ 66 ∷ 10 ∷ 78 ∷ 44 ∷ 48 ∷ 44 ∷ 48 ∷ 44 ∷ 48 ∷ 10 ∷ 69 ∷ 10 ∷ []
-  -- "`B T,0,7,slots A,0,0 E B A,0,1 D,0,0 E B D,0,1`, a line each", read and written anew: `B N,1,2,0 T,0,7,slots A,0,1 E`
+  -- two whole frames, the second of which exchanges a rowset for another, and one that never ends
   pub frames :
       reopenOf (joined (begin ∷ create ∷ add0 ∷ end ∷ begin ∷ add1 ∷ delete0 ∷ end ∷ begin ∷ delete1 ∷ [])) longestRewritten
       ≡ given merged
   pub framesText : rewrittenOf merged
       ≡ 66 ∷ 10 ∷ 78 ∷ 44 ∷ 49 ∷ 44 ∷ 50 ∷ 44 ∷ 48 ∷ 10 ∷ 84 ∷ 44 ∷ 48 ∷ 44 ∷ 55 ∷ 44 ∷ 115 ∷ 108 ∷ 111 ∷ 116 ∷ 115 ∷ 10 ∷ 65 ∷ 44 ∷ 48 ∷ 44 ∷ 49 ∷ 10 ∷ 69 ∷ 10 ∷ []
-  -- "`B T,0,7,slots B E`: no table."
+  -- a second `B` drops the create before it
   pub begunAgain : reopenOf (joined (begin ∷ create ∷ begin ∷ end ∷ [])) longestRewritten ≡ given empty
-  -- "`E` without newline: no effect."
+  -- an `E` that no newline ends applies nothing
   pub unended : reopenOf (joined (begin ∷ create ∷ []) ++ end) longestRewritten ≡ given empty

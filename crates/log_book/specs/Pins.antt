@@ -8,6 +8,6 @@ use Rattle.pinning.specs.declared.PinAnswer.{PinAnswer}
 use Rattle.pinning.specs.Says.{pinTold, PinSays}
 
 pub record PinCases : Type 0 where
-  -- "Pin when fresh: 10.": what a pin of a fresh manager and its book answers
+  -- what a pin of a fresh manager and its book answers
   pub fresh : (r : Opened) → FreshSays r → (a : PinAnswer) (b : PinBook) → PinSays (r .manager) (r .book) a b
       → pinTold a ≡ record { number = 10; place = 0; values = [] }

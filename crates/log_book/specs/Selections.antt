@@ -27,6 +27,6 @@ Selects target n l = (m : VersionManager) (t : TableNo) → Manages m three → 
 
 pub record SelectionCases : Type 0 where
   pub adds : commitOf (rowsetDrawn (rowsetDrawn (rowsetDrawn start))) 4 (createTable 0 7 slots ∷ addRowset 0 0 ∷ addRowset 0 1 ∷ addRowset 0 2 ∷ []) 34 ≡ given three
-  -- "Sizes 40, 70, 20: target 60 takes first and third, 59 none."
+  -- the second is passed over and the third still fits; one alone is none
   pub target60 : Selects 60 2 (0 ∷ 2 ∷ 9 ∷ [])
   pub target59 : Selects 59 0 (9 ∷ 9 ∷ 9 ∷ [])

@@ -55,15 +55,15 @@ abbrev pub Vacuum : State → List PinEntry → List Entry → State → Type 0
 Vacuum s l es t = (m : VersionManager) (b : PinBook) → Manages m s → Keeps b l → Lists m b es t
 
 pub record VacuumCases : Type 0 where
-  -- "Pair at epoch 1 pinned, deleted at 2": a rowset id is drawn, and a pin stands between two commits
+  -- a pair is added at epoch 1 and pinned there, and deleted at 2
   pub adds : commitOf (rowsetDrawn start) 2 (createTable 0 7 slots ∷ addRowset 0 0 ∷ []) 22 ≡ given one
   pub pins : withPin (placeOn 1) [] ≡ on1
   pub deletes : commitOf one 1 (deleteRowset 0 0 ∷ []) 10 ≡ given two
-  -- "vacuum lists none; after unpin it, then none."
+  -- the pin keeps it; without the pin it is listed, and once
   pub pinned : Vacuum two on1 [] two
   pub unpins : withoutPin (placeOn 1) on1 ≡ []
   pub unpinned : Vacuum two [] (pair ∷ []) cleared
   pub then : Vacuum cleared [] [] cleared
-  -- "Pinned at 2 only: listed."
+  -- a pin on the deletion's own epoch does not keep it
   pub pinsLater : withPin (placeOn 2) [] ≡ on2
   pub ownEpoch : Vacuum two on2 (pair ∷ []) cleared
