@@ -25,6 +25,8 @@ impl Folder {
     /// Makes the folder where there is none, and takes its lock.
     pub fn open(path: &Path) -> StorageResult<Folder> {
         make_folder(path)?;
+        // The same folder, wherever the process goes.
+        let path = fs::canonicalize(path).map_err(StorageError::io("find", path))?;
         let lock_path = path.join(LOCK_FILE_NAME);
         let lock = File::options()
             .create(true)
@@ -38,7 +40,7 @@ impl Folder {
             Err(TryLockError::Error(e)) => return Err(StorageError::io("lock", &lock_path)(e)),
         }
         make_folder(&path.join(DV_FOLDER_NAME))?;
-        Ok(Folder { path: path.to_path_buf(), _lock: lock })
+        Ok(Folder { path, _lock: lock })
     }
 
     pub fn path(&self) -> &Path {
@@ -67,12 +69,10 @@ impl Folder {
 
     /// Makes the folder itself last, where it is new.
     pub fn sync_parent(&self) -> StorageResult<()> {
-        let parent = match self.path.parent() {
-            Some(p) if p.as_os_str().is_empty() => Path::new("."),
-            Some(p) => p,
-            None => return Ok(()),
-        };
-        sync_folder(parent).map_err(StorageError::io("sync", parent))
+        match self.path.parent() {
+            Some(parent) => sync_folder(parent).map_err(StorageError::io("sync", parent)),
+            None => Ok(()),
+        }
     }
 
     /// Puts a manifest of these bytes in place of the old one: whoever opens the store finds one of the two, whole.

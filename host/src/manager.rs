@@ -17,6 +17,10 @@ use std::sync::{Arc, Condvar, Mutex, MutexGuard, PoisonError};
 const LONGEST_REWRITTEN: usize = 18_625;
 /// No append is longer, since no manifest is.
 const LONGEST_MANIFEST: usize = 65_536;
+/// `B`, one `T` line and `E`, with numbers and a name as long as they come.
+const LONGEST_CREATE: usize = 4 + 57;
+/// `B`, an `A` or `X` line, a `W` and a `D` line for all that may be held, and `E`.
+const LONGEST_TABLE_CHANGE: usize = 4 + 24 + sys::MOST_HELD * (45 + 24);
 
 /// A vacuum is due: the last pin of an epoch that is not the current one is gone.
 #[derive(Clone, Copy, Debug, PartialEq, Eq)]
@@ -58,6 +62,8 @@ pub struct VersionManager {
 }
 
 pub(crate) struct Shared {
+    // Whoever waits for `inner` holds it, so that a thread of one commit after another does not come first each time.
+    next: Mutex<()>,
     inner: Mutex<Inner>,
     // Signalled when a table's lock may have become free.
     freed: Condvar,
@@ -163,8 +169,13 @@ impl Inner {
 }
 
 impl Shared {
+    fn lock(&self) -> MutexGuard<'_, Inner> {
+        let _next = guard(&self.next);
+        guard(&self.inner)
+    }
+
     pub(crate) fn unpin(&self, epoch: u32) {
-        let mut inner = guard(&self.inner);
+        let mut inner = self.lock();
         let booked = sys::unpin(&inner.manager, &inner.book, epoch);
         let Ok([due, ready, _]) = accepted(booked.answer) else { return };
         inner.book = booked.book;
@@ -176,7 +187,7 @@ impl Shared {
     }
 
     pub(crate) fn unlock(&self, table: TableId, generation: u64) {
-        let mut inner = guard(&self.inner);
+        let mut inner = self.lock();
         if inner.generation == generation {
             let handed = sys::unlock(&inner.manager, table.0);
             // Refused where the table was dropped meanwhile, which freed the lock.
@@ -206,12 +217,13 @@ impl VersionManager {
 
     fn with(inner: Inner, folder: Option<Folder>) -> VersionManager {
         let (tx, rx) = channel();
-        let shared = Shared { inner: Mutex::new(inner), freed: Condvar::new(), notices: tx, folder };
+        let shared =
+            Shared { next: Mutex::new(()), inner: Mutex::new(inner), freed: Condvar::new(), notices: tx, folder };
         VersionManager { shared: Arc::new(shared), notices: Mutex::new(Some(rx)) }
     }
 
     fn inner(&self) -> MutexGuard<'_, Inner> {
-        guard(&self.shared.inner)
+        self.shared.lock()
     }
 
     /// Reads the manifest again, as an opening does. Epochs start anew, so none may be pinned; locks are freed. It is
@@ -269,13 +281,13 @@ impl VersionManager {
     /// Creates a table with the next id.
     pub fn create_table(&self, table_name: &str, shape: u32) -> StorageResult<TableId> {
         let name = table_name.as_bytes();
-        let values = self.change(LONGEST_MANIFEST, |m, out| sys::create(m, shape, name, out))?;
+        let values = self.change(LONGEST_CREATE, |m, out| sys::create(m, shape, name, out))?;
         Ok(TableId(values[0] as u32))
     }
 
     /// Drops a table with its rowsets and delete vectors, and returns the new epoch.
     pub fn drop_table(&self, table_id: TableId) -> StorageResult<u32> {
-        let values = self.change(LONGEST_MANIFEST, |m, out| sys::drop_table(m, table_id.0, out))?;
+        let values = self.change(LONGEST_TABLE_CHANGE, |m, out| sys::drop_table(m, table_id.0, out))?;
         Ok(values[0] as u32)
     }
 
@@ -288,7 +300,7 @@ impl VersionManager {
         if !lock.is_of(&self.shared, inner.generation) {
             return Err(StorageError::refused(Refusal::LockNotHeld));
         }
-        let mut out = vec![0; LONGEST_MANIFEST];
+        let mut out = vec![0; LONGEST_TABLE_CHANGE];
         let table = lock.table_id().0;
         let handed = sys::compact(&inner.manager, table, new.map(|r| r.0), &taken, &mut out);
         Ok(inner.land(handed, &out)?[0] as u32)
