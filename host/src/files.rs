@@ -18,7 +18,14 @@ const MOST_READ: u64 = 65_537;
 pub struct Folder {
     path: PathBuf,
     // Held until the folder is let go. The system gives it back if the process ends.
-    _lock: File,
+    lock: File,
+}
+
+impl Drop for Folder {
+    // Closing the file is not enough: a process that another thread has just forked has it open until it runs its program.
+    fn drop(&mut self) {
+        let _ = self.lock.unlock();
+    }
 }
 
 impl Folder {
@@ -40,7 +47,7 @@ impl Folder {
             Err(TryLockError::Error(e)) => return Err(StorageError::io("lock", &lock_path)(e)),
         }
         make_folder(&path.join(DV_FOLDER_NAME))?;
-        Ok(Folder { path, _lock: lock })
+        Ok(Folder { path, lock })
     }
 
     pub fn path(&self) -> &Path {

@@ -211,8 +211,7 @@ fn alone() {
     let notices = manager.take_notices().expect("the notices");
     let mut w = Writer::new(manager, 11);
     let mut versions: Vec<(Version, Sets)> = Vec::new();
-    let calls = 60_000;
-    for _ in 0..calls {
+    for _ in 0..60_000 {
         match w.random.below(100) {
             0..25 => w.draw(),
             25..60 => w.change(&|_| {}),
@@ -227,7 +226,7 @@ fn alone() {
             w.reopen();
         }
     }
-    println!("alone: {calls} turns; {:?}", w.numbers);
+    println!("alone: {} calls; {:?}", w.numbers.values().sum::<usize>(), w.numbers);
     for number in [0, 2, 11, 12, 14, 15, 16, 17, 22] {
         assert!(w.numbers.contains_key(&("commit", number)), "{number} was not met");
     }
@@ -302,7 +301,15 @@ fn reader(manager: &VersionManager, board: &Board, seed: u64) {
 
 #[test]
 fn with_readers() {
-    let folder = Folder::in_memory("readers");
+    write_beside_readers(&Folder::in_memory("readers"), 60_000, 20_000);
+}
+
+#[test]
+fn with_readers_on_disk() {
+    write_beside_readers(&Folder::on_disk("readers"), 1_000, 1_000);
+}
+
+fn write_beside_readers(folder: &Folder, least_turns: usize, least_pins: usize) {
     let manager = Arc::new(folder.open());
     let board = Arc::new(Board::default());
     let mut w = Writer::new(manager.clone(), 5);
@@ -318,7 +325,7 @@ fn with_readers() {
     let announce = |after: &Model| {
         board.epochs.lock().expect("no panic").insert(after.epoch, Arc::new(after.sets.clone()));
     };
-    while turns < 20_000 || board.pinned.load(Ordering::Relaxed) < 20_000 {
+    while turns < least_turns || board.pinned.load(Ordering::Relaxed) < least_pins {
         turns += 1;
         match w.random.below(10) {
             0..3 => w.draw(),
@@ -348,7 +355,8 @@ fn with_readers() {
     let listed: Vec<(u32, u32)> = w.vacuum().rowsets.iter().map(|(t, r)| (t.0, r.0)).collect();
     assert_eq!(listed, all);
     let (pinned, read) = (board.pinned.load(Ordering::Relaxed), board.read.load(Ordering::Relaxed));
-    println!("with readers: {turns} turns of one writer, {pinned} pins of 3 readers, {read} read; {:?}", w.numbers);
+    let calls = w.numbers.values().sum::<usize>() + 2 * pinned;
+    println!("with readers: {calls} calls, {pinned} pins of 3 readers, {read} compared; {:?}", w.numbers);
 }
 
 // Whatever a pin that was there all the while shows is not listed.

@@ -52,6 +52,40 @@ fn opens_the_store() {
     VersionManager::open(variable("STORE")).expect("an opening");
 }
 
+// A process that is being started has the store's files open for a moment.
+#[test]
+fn opened_again_while_processes_are_started() {
+    let folder = Folder::in_memory("again");
+    let done = std::sync::atomic::AtomicBool::new(false);
+    std::thread::scope(|scope| {
+        for _ in 0..2 {
+            scope.spawn(|| {
+                while !done.load(std::sync::atomic::Ordering::Relaxed) {
+                    std::process::Command::new("true").status().expect("a process");
+                }
+            });
+        }
+        for _ in 0..300 {
+            let opened = VersionManager::open(folder.store());
+            if opened.is_err() {
+                done.store(true, std::sync::atomic::Ordering::Relaxed);
+            }
+            opened.expect("an opening");
+        }
+        done.store(true, std::sync::atomic::Ordering::Relaxed);
+    });
+}
+
+#[test]
+fn the_sample_opens_without_its_torn_frame() {
+    let folder = Folder::in_memory("sample");
+    folder.write_manifest(include_bytes!("../../samples/torn.manifest"));
+    let shown = Sets::now(&folder.open());
+    assert_eq!(shown.tables.values().map(|(_, name)| name.as_str()).collect::<Vec<_>>(), ["slots", "rides"]);
+    assert_eq!(shown.pairs, [(0, 0), (0, 1), (1, 2)].into());
+    assert_eq!(shown.vectors, [(0, 0, 0)].into());
+}
+
 #[test]
 fn what_is_not_live_is_told_and_left() {
     let folder = Folder::in_memory("live");
