@@ -1,0 +1,140 @@
+//! The process ends between any two steps of an append or a rewrite; what was committed is found, and nothing else.
+mod common;
+use common::*;
+use seqapti::faults::{self, Fault, Plan};
+use seqapti::*;
+use std::io::{BufRead, BufReader, Write};
+use std::time::Duration;
+
+const KEPT: u32 = 10;
+
+// The n-th change: the rowset n, and the rowset n - KEPT no more. So the sets tell how many changes there were.
+fn change(manager: &VersionManager) -> StorageResult<u32> {
+    let id = manager.draw_rowset_id()?;
+    let mut ops = vec![add(0, id)];
+    if id.0 >= KEPT {
+        ops.push(delete(0, id.0 - KEPT));
+    }
+    manager.commit_changes(&ops)?;
+    manager.find_vacuum()?;
+    Ok(id.0 + 1)
+}
+
+fn sets_after(changes: u32) -> Sets {
+    Sets {
+        tables: [(0, (7, "slots".to_string()))].into(),
+        pairs: (changes.saturating_sub(KEPT)..changes).map(|r| (0, r)).collect(),
+        vectors: Default::default(),
+    }
+}
+
+fn begin(folder: &Folder, changes: usize) {
+    let manager = folder.open();
+    manager.create_table("slots", 7).expect("a table");
+    for _ in 0..changes {
+        change(&manager).expect("a change");
+    }
+}
+
+// Opens the store and says how many changes it shows.
+fn found(folder: &Folder) -> u32 {
+    let manager = folder.open();
+    let changes = manager.next_ids().rowset.0;
+    assert_eq!(Sets::now(&manager), sets_after(changes));
+    changes
+}
+
+// An opening and three changes.
+fn run(folder: &std::path::Path) {
+    let manager = VersionManager::open(folder).expect("an opening").manager;
+    for _ in 0..3 {
+        change(&manager).expect("a change");
+    }
+}
+
+#[test]
+#[ignore = "run by another test, in a process of its own"]
+fn ends_at_a_step() {
+    let number = |name| variable(name).parse().expect("a number");
+    faults::plan(Some(Plan { at: number("AT"), fault: Fault::Abort, landed: number("LANDED") }));
+    run(variable("STORE").as_ref());
+}
+
+#[test]
+fn ended_at_each_step() {
+    let dry = Folder::on_disk("dry");
+    begin(&dry, 12);
+    faults::plan(None);
+    run(&dry.store());
+    let steps = faults::passed();
+    let mut runs = 0;
+    for (at, step) in steps.iter().enumerate() {
+        let is_write = step.contains("write") || *step == "append";
+        for landed in if is_write { vec![0, 1, 2, 9, 16, 1000] } else { vec![0] } {
+            let folder = Folder::on_disk("step");
+            begin(&folder, 12);
+            let variables = [
+                ("AT", at.to_string()),
+                ("LANDED", landed.to_string()),
+                ("STORE", folder.store().display().to_string()),
+            ];
+            let ended = child("ends_at_a_step", &variables).status().expect("a child");
+            assert!(!ended.success(), "{at}: {step}");
+            // An append that had all its bytes written is read back, though the call had not returned.
+            let returned = steps[..at].iter().filter(|s| **s == "sync append").count() as u32;
+            let landed_whole = *step == "sync append" || (*step == "append" && landed == 1000);
+            assert_eq!(found(&folder), 12 + returned + u32::from(landed_whole), "{at}: {step}, {landed} landed");
+            runs += 1;
+        }
+    }
+    println!("ended at a step: {} steps ({}), {runs} processes", steps.len(), steps.join(", "));
+}
+
+#[test]
+#[ignore = "run by another test, in a process of its own"]
+fn changes_until_killed() {
+    let manager = VersionManager::open(variable("STORE")).expect("an opening").manager;
+    let mut out = std::io::stdout();
+    for turn in 1.. {
+        let changes = change(&manager).expect("a change");
+        writeln!(out, "changes {changes}").and_then(|()| out.flush()).expect("a line");
+        if turn % 5 == 0 {
+            manager.reopen().expect("a reopen");
+        }
+    }
+}
+
+#[test]
+fn killed_at_any_time() {
+    let folder = Folder::on_disk("killed");
+    begin(&folder, 3);
+    let mut random = Random(31);
+    let (mut last, mut more) = (3, 0);
+    let rounds = 40;
+    for _ in 0..rounds {
+        let variables = [("STORE", folder.store().display().to_string())];
+        let mut killed = child("changes_until_killed", &variables).spawn().expect("a child");
+        let mut lines = BufReader::new(killed.stdout.take().expect("its output")).lines();
+        let mut told = last;
+        let mut tell = |line: String| {
+            if let Some(changes) = line.strip_prefix("changes ") {
+                told = changes.parse().expect("a number");
+                return true;
+            }
+            false
+        };
+        // Begun, at least.
+        while !tell(lines.next().expect("a line").expect("a line")) {}
+        std::thread::sleep(Duration::from_micros(random.below(20_000)));
+        killed.kill().expect("a kill");
+        killed.wait().expect("its end");
+        lines.map_while(Result::ok).for_each(|line| {
+            tell(line);
+        });
+        let changes = found(&folder);
+        assert!(changes == told || changes == told + 1, "told {told}, found {changes}");
+        more += changes - told;
+        last = changes;
+    }
+    println!("killed: {rounds} processes, {last} changes in all, {more} landed untold");
+}
