@@ -105,15 +105,18 @@ impl Folder {
         Ok(Manifest::File { path, file })
     }
 
-    /// Writes a file of the folder `dv` that no commit has named yet, and makes it last.
-    pub fn write_dv(&self, path: &Path, bytes: &[u8]) -> StorageResult<()> {
-        let written = || -> io::Result<()> {
-            let mut file = File::create(path)?;
-            faults::write("write vector", &mut file, bytes)?;
-            file.sync_all()?;
-            sync_folder(&self.dv_folder())
-        };
-        written().map_err(StorageError::io("write", path))
+    /// Writes files of the folder `dv` that no commit has named yet, and makes them last.
+    pub fn write_dvs<'a>(&self, files: impl Iterator<Item = (PathBuf, &'a [u8])>) -> StorageResult<()> {
+        for (path, bytes) in files {
+            let written = || -> io::Result<()> {
+                let mut file = File::create(&path)?;
+                faults::write("write vector", &mut file, bytes)?;
+                file.sync_all()
+            };
+            written().map_err(StorageError::io("write", &path))?;
+        }
+        let folder = self.dv_folder();
+        sync_folder(&folder).map_err(StorageError::io("sync", &folder))
     }
 }
 

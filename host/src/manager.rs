@@ -327,14 +327,10 @@ impl VersionManager {
         inner.may_change()?;
         let (mut tables, mut rowsets) = ([0; sys::MOST_HELD], [0; sys::MOST_HELD]);
         let handed = sys::vacuum(&inner.manager, &inner.book, &mut tables, &mut rowsets);
-        let before = held_dvs(&inner.manager);
+        let dvs = let_go(&inner.manager, &handed.manager);
         let count = inner.adopt(handed)?[0] as usize;
-        let after = held_dvs(&inner.manager);
         let listed = tables.into_iter().zip(rowsets).take(count);
-        Ok(Vacuumed {
-            rowsets: listed.map(|(t, r)| (TableId(t), RowsetId(r))).collect(),
-            dvs: before.into_iter().filter(|dv| after.binary_search(dv).is_err()).collect(),
-        })
+        Ok(Vacuumed { rowsets: listed.map(|(t, r)| (TableId(t), RowsetId(r))).collect(), dvs })
     }
 
     /// Takes a table's lock; refused by [`Refusal::LockHeld`] where somebody has it.
@@ -404,14 +400,14 @@ impl VersionManager {
         Ok(grouped)
     }
 
-    /// Writes a grouped vector's file, on disk when it returns. To be done before the commit that adds the vector. A
+    /// Writes the files of grouped vectors, all on disk when it returns. To be done before the commit that adds them. A
     /// mock writes nothing.
-    pub fn write_dv(&self, table_id: TableId, grouped: &GroupedDeletes) -> StorageResult<()> {
-        let path = self.dv_path(table_id, grouped.vector.rowset_id(), grouped.vector.dv_id());
-        match &self.shared.folder {
-            Some(folder) => folder.write_dv(&path, &grouped.file),
-            None => Ok(()),
-        }
+    pub fn write_dvs(&self, table_id: TableId, grouped: &[GroupedDeletes]) -> StorageResult<()> {
+        let Some(folder) = &self.shared.folder else { return Ok(()) };
+        folder.write_dvs(grouped.iter().map(|g| {
+            let vector = &g.vector;
+            (self.dv_path(table_id, vector.rowset_id(), vector.dv_id()), &g.file[..])
+        }))
     }
 
     /// Reads a vector's file.
@@ -493,10 +489,16 @@ impl std::fmt::Debug for VersionManager {
     }
 }
 
-fn held_dvs(manager: &sys::Manager) -> Vec<(TableId, RowsetId, VectorId)> {
+fn held_dvs(manager: &sys::Manager) -> impl Iterator<Item = (TableId, RowsetId, VectorId)> + '_ {
     let v = &manager.vectors;
     let held = v.count.min(sys::MOST_HELD);
-    (0..held).map(|i| (TableId(v.tables[i]), RowsetId(v.rowsets[i]), VectorId(v.vectors[i]))).collect()
+    (0..held).map(|i| (TableId(v.tables[i]), RowsetId(v.rowsets[i]), VectorId(v.vectors[i])))
+}
+
+// Both lists ascend, and what is left is a part of what there was.
+fn let_go(before: &sys::Manager, after: &sys::Manager) -> Vec<(TableId, RowsetId, VectorId)> {
+    let mut left = held_dvs(after).peekable();
+    held_dvs(before).filter(|dv| left.next_if_eq(dv).is_none()).collect()
 }
 
 fn front<'a, T>(run: &mut &'a [T], length: u32) -> &'a [T] {

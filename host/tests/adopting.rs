@@ -112,8 +112,9 @@ impl Engine {
         let pin = self.version.pin()?;
         let handles: Vec<_> = self.scan(&pin).into_iter().filter(|(row, _)| gone(*row)).map(|(_, h)| h).collect();
         let mut ops = Vec::new();
-        for grouped in self.version.group_deletes(&handles)? {
-            self.version.write_dv(self.table, &grouped)?;
+        let vectors = self.version.group_deletes(&handles)?;
+        self.version.write_dvs(self.table, &vectors)?;
+        for grouped in vectors {
             let (r, v) = (grouped.vector.rowset_id(), grouped.vector.dv_id());
             ops.push(EpochOp::add_dv(self.table, r, v));
             self.pool.dvs.lock().expect("no panic").insert((self.table, v), Arc::new(grouped.vector));

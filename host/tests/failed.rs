@@ -113,11 +113,11 @@ fn a_vector_file_that_fails_changes_nothing() {
     let manager = with_a_table(&folder);
     let grouped = manager.group_deletes(&[SecondaryRowHandler(RowsetId(0), RowId(300))]).expect("a vector");
     fail(0, 2);
-    assert!(is_io(manager.write_dv(TableId(0), &grouped[0])));
+    assert!(is_io(manager.write_dvs(TableId(0), &grouped)));
     faults::plan(None);
     assert!(!manager.is_poisoned());
     // The part that landed is written over.
-    manager.write_dv(TableId(0), &grouped[0]).expect("a file");
+    manager.write_dvs(TableId(0), &grouped).expect("a file");
     let vector = &grouped[0].vector;
     assert_eq!(manager.read_dv(TableId(0), RowsetId(0), vector.dv_id()).expect("a vector"), *vector);
 }
