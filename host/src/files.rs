@@ -1,0 +1,154 @@
+//! A store's folder: its lock, its manifest, and the order of writes and syncs that keeps what was committed.
+use crate::error::{StorageError, StorageResult};
+use crate::faults;
+use crate::ids::{RowsetId, TableId, VectorId};
+use std::fs::{self, File, TryLockError};
+use std::io::{self, Read};
+use std::path::{Path, PathBuf};
+
+pub const MANIFEST_FILE_NAME: &str = "manifest";
+pub const LOCK_FILE_NAME: &str = "manifest.lock";
+const TEMPORARY_FILE_NAME: &str = "manifest.tmp";
+const JSON_MANIFEST_FILE_NAME: &str = "manifest.json";
+const DV_FOLDER_NAME: &str = "dv";
+
+/// One byte more than the longest manifest: enough for the library to refuse a longer one.
+const MOST_READ: u64 = 65_537;
+
+pub struct Folder {
+    path: PathBuf,
+    // Held until the folder is let go. The system gives it back if the process ends.
+    _lock: File,
+}
+
+impl Folder {
+    /// Makes the folder where there is none, and takes its lock.
+    pub fn open(path: &Path) -> StorageResult<Folder> {
+        make_folder(path)?;
+        let lock_path = path.join(LOCK_FILE_NAME);
+        let lock = File::options()
+            .create(true)
+            .truncate(false)
+            .write(true)
+            .open(&lock_path)
+            .map_err(StorageError::io("open", &lock_path))?;
+        match lock.try_lock() {
+            Ok(()) => {}
+            Err(TryLockError::WouldBlock) => return Err(StorageError::InUse { path: lock_path }),
+            Err(TryLockError::Error(e)) => return Err(StorageError::io("lock", &lock_path)(e)),
+        }
+        make_folder(&path.join(DV_FOLDER_NAME))?;
+        Ok(Folder { path: path.to_path_buf(), _lock: lock })
+    }
+
+    pub fn path(&self) -> &Path {
+        &self.path
+    }
+
+    pub fn dv_folder(&self) -> PathBuf {
+        self.path.join(DV_FOLDER_NAME)
+    }
+
+    pub fn has_json_manifest(&self) -> bool {
+        self.path.join(JSON_MANIFEST_FILE_NAME).exists()
+    }
+
+    /// The manifest's bytes, if there is a manifest.
+    pub fn read(&self) -> StorageResult<Option<Vec<u8>>> {
+        let path = self.path.join(MANIFEST_FILE_NAME);
+        let file = match File::open(&path) {
+            Err(e) if e.kind() == io::ErrorKind::NotFound => return Ok(None),
+            opened => opened.map_err(StorageError::io("open", &path))?,
+        };
+        let mut bytes = Vec::new();
+        file.take(MOST_READ).read_to_end(&mut bytes).map_err(StorageError::io("read", &path))?;
+        Ok(Some(bytes))
+    }
+
+    /// Makes the folder itself last, where it is new.
+    pub fn sync_parent(&self) -> StorageResult<()> {
+        let parent = match self.path.parent() {
+            Some(p) if p.as_os_str().is_empty() => Path::new("."),
+            Some(p) => p,
+            None => return Ok(()),
+        };
+        sync_folder(parent).map_err(StorageError::io("sync", parent))
+    }
+
+    /// Puts a manifest of these bytes in place of the old one: whoever opens the store finds one of the two, whole.
+    pub fn replace(&self, bytes: &[u8]) -> StorageResult<Manifest> {
+        let path = self.path.join(MANIFEST_FILE_NAME);
+        let temporary = self.path.join(TEMPORARY_FILE_NAME);
+        let written = || -> io::Result<File> {
+            faults::step("create temporary")?;
+            let mut file = File::create(&temporary)?;
+            faults::write("write temporary", &mut file, bytes)?;
+            faults::step("sync temporary")?;
+            file.sync_all()?;
+            Ok(file)
+        };
+        let file = written().map_err(StorageError::io("write", &temporary))?;
+        let renamed = || -> io::Result<()> {
+            faults::step("rename")?;
+            fs::rename(&temporary, &path)?;
+            faults::step("sync folder")?;
+            sync_folder(&self.path)
+        };
+        renamed().map_err(StorageError::io("replace", &path))?;
+        Ok(Manifest::File { path, file })
+    }
+
+    /// Writes a file of the folder `dv` that no commit has named yet, and makes it last.
+    pub fn write_dv(&self, path: &Path, bytes: &[u8]) -> StorageResult<()> {
+        let written = || -> io::Result<()> {
+            let mut file = File::create(path)?;
+            faults::write("write vector", &mut file, bytes)?;
+            file.sync_all()?;
+            sync_folder(&self.dv_folder())
+        };
+        written().map_err(StorageError::io("write", path))
+    }
+}
+
+/// Where appends go. A mock's stay in memory.
+pub enum Manifest {
+    File { path: PathBuf, file: File },
+    Memory(Vec<u8>),
+}
+
+impl Manifest {
+    /// On disk when it returns. After an error the file may end in any part of the bytes.
+    pub fn append(&mut self, bytes: &[u8]) -> StorageResult<()> {
+        match self {
+            Manifest::Memory(all) => all.extend_from_slice(bytes),
+            Manifest::File { path, file } => {
+                let mut landed = || -> io::Result<()> {
+                    faults::write("append", file, bytes)?;
+                    faults::step("sync append")?;
+                    file.sync_data()
+                };
+                landed().map_err(StorageError::io("append to", path))?;
+            }
+        }
+        Ok(())
+    }
+}
+
+pub fn rowset_name(table: TableId, rowset: RowsetId) -> String {
+    format!("{table}_{rowset}")
+}
+
+pub fn dv_name(table: TableId, rowset: RowsetId, dv: VectorId) -> String {
+    format!("{DV_FOLDER_NAME}/{table}_{rowset}_{dv}.dv")
+}
+
+fn make_folder(path: &Path) -> StorageResult<()> {
+    match fs::create_dir(path) {
+        Err(e) if e.kind() == io::ErrorKind::AlreadyExists => Ok(()),
+        made => made.map_err(StorageError::io("make the folder", path)),
+    }
+}
+
+fn sync_folder(path: &Path) -> io::Result<()> {
+    File::open(path)?.sync_all()
+}

@@ -1,0 +1,78 @@
+//! Whether the archive lays out its structs as this crate does: numbers that all differ go through its calls, and
+//! each has to come back in its own field.
+use super::*;
+use crate::error::{StorageError, StorageResult};
+use std::sync::OnceLock;
+
+const TEXT: &[u8] = b"B\nN,41,42,43\nT,3,31,tides\nT,5,52,sea\nA,3,6\nA,3,7\nA,5,8\nV,3,6,11\nV,5,8,12\nE\n";
+
+/// Judged once in a process, before its first store is opened.
+pub fn check() -> StorageResult<()> {
+    static JUDGED: OnceLock<Option<&'static str>> = OnceLock::new();
+    match *JUDGED.get_or_init(differs) {
+        None => Ok(()),
+        Some(what) => Err(StorageError::Border { what }),
+    }
+}
+
+macro_rules! same {
+    ($what:literal, $($left:expr => $right:expr),* $(,)?) => {
+        $(if $left != $right {
+            return Some($what);
+        })*
+    };
+}
+
+fn differs() -> Option<&'static str> {
+    let o = fresh();
+    same!("a fresh manager",
+        o.manager.epoch => 0, o.manager.next => NextIds { table: 0, rowset: 0, vector: 0 },
+        o.manager.tables.count => 0, o.manager.rowsets.count => 0, o.manager.vectors.count => 0,
+        o.manager.manifest => 0, o.book.count => 0);
+
+    let mut out = [0; 256];
+    let b = bootstrap(TEXT, &mut out);
+    same!("a reopened manager's answer",
+        b.answer.number => 0, b.answer.place => 0, b.answer.count => 1, b.answer.values[0] => TEXT.len() as u64,
+        out[..TEXT.len()] => *TEXT);
+    let m = b.manager;
+    same!("a manager's numbers",
+        m.epoch => 1, m.next => NextIds { table: 41, rowset: 42, vector: 43 }, m.manifest => TEXT.len(), b.book.count => 0);
+    same!("a manager's tables",
+        m.tables.count => 2, m.tables.ids[..2] => [3, 5], m.tables.shapes[..2] => [31, 52], m.tables.lengths[..2] => [5, 3],
+        m.tables.name(0) => b"tides", m.tables.name(1) => b"sea", m.tables.locked[..2] => [0, 0]);
+    same!("a manager's rowsets",
+        m.rowsets.count => 3, m.rowsets.tables[..3] => [3, 3, 5], m.rowsets.rowsets[..3] => [6, 7, 8],
+        m.rowsets.added[..3] => [1, 1, 1], m.rowsets.deleted[..3] => [0, 0, 0]);
+    same!("a manager's vectors",
+        m.vectors.count => 2, m.vectors.tables[..2] => [3, 5], m.vectors.rowsets[..2] => [6, 8],
+        m.vectors.vectors[..2] => [11, 12], m.vectors.added[..2] => [1, 1], m.vectors.deleted[..2] => [0, 0]);
+
+    let pinned = pin(&m, &b.book);
+    same!("a pin", pinned.answer.number => 0, pinned.answer.values[0] => 1, pinned.book.count => 1,
+        pinned.book.items[0] => Pin { epoch: 1, count: 1 });
+    let locked = lock(&m, 5);
+    same!("a lock", locked.answer.number => 0, locked.answer.count => 0, locked.manager.tables.locked[..2] => [0, 1]);
+
+    let c = commit(&locked.manager, b"A,3,9\nW,5,8,12\nD,5,8\nV,3,9,13\n", &mut out);
+    same!("a commit", c.answer.number => 0, c.answer.count => 2, c.answer.values[..2] => [2, 34], c.manager.epoch => 2,
+        c.manager.manifest => TEXT.len() + 34,
+        c.manager.rowsets.added[..4] => [1, 1, 2, 1], c.manager.rowsets.deleted[..4] => [0, 0, 0, 2],
+        c.manager.vectors.vectors[..3] => [11, 13, 12], c.manager.vectors.added[..3] => [1, 2, 1],
+        c.manager.vectors.deleted[..3] => [0, 0, 2]);
+    let twice = pin(&c.manager, &pinned.book);
+    same!("two pins", twice.book.count => 2, twice.book.items[1] => Pin { epoch: 2, count: 1 });
+    let off = unpin(&c.manager, &twice.book, 1);
+    same!("an unpin", off.answer.number => 0, off.answer.values[..2] => [1, 1], off.book.items[0] => Pin { epoch: 2, count: 1 });
+    let refused = commit(&c.manager, b"A,3,10\nA,3,10\n", &mut out);
+    same!("a refusal", refused.answer.number => 16, refused.answer.place => 1);
+    None
+}
+
+#[cfg(test)]
+mod tests {
+    #[test]
+    fn the_archive_lays_out_its_structs_as_this_crate_does() {
+        assert_eq!(super::differs(), None);
+    }
+}
