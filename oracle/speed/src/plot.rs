@@ -1,0 +1,1 @@
+pub fn svg(_: &[&str], _: &[crate::timing::Timed]) -> String { String::new() }
