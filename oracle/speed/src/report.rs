@@ -6,7 +6,7 @@ use crate::rows::Bench;
 use crate::timing::{self, Timed};
 use crate::{plot, rows};
 
-const ROUNDS: usize = 31;
+const ROUNDS: usize = 101;
 
 /// A folder of this run's own, under SPEED_DIR.
 fn folder() -> PathBuf {
@@ -52,6 +52,7 @@ pub fn run() -> i32 {
     let mut arguments = env::args().skip(1);
     let rounds = arguments.next().map_or(ROUNDS, |n| n.parse().expect("a number of rounds"));
     let dir = folder();
+    fs::create_dir_all(&dir).unwrap();
     let mut bench = Bench::new(&dir, arguments.next().unwrap_or_default());
     bench.all();
     let Bench { rows, differ, .. } = bench;

@@ -117,6 +117,12 @@ impl Bench {
         }
     }
 
+    fn add(&mut self, row: Row) {
+        if self.wants(&row.name) {
+            self.rows.push(row);
+        }
+    }
+
     pub fn all(&mut self) {
         for held in HELD {
             self.commit(1, held);
@@ -128,10 +134,17 @@ impl Bench {
             self.reopen(length);
         }
         HELD.into_iter().for_each(|held| self.open(held));
-        self.records();
+        self.records("rising", sorted(histories::rows_at_random(RECORDS)));
+        self.records("at random", histories::rows_at_random(RECORDS));
         for rowsets in [4, 256] {
-            self.group(rowsets);
-            self.group_in_memory(rowsets);
+            let handles = histories::handles(RECORDS, rowsets);
+            self.group(rowsets, "in scan order", sorted(handles.clone()));
+            self.group(rowsets, "at random", handles);
+        }
+        for rowsets in [4, 256] {
+            let handles = histories::handles(RECORDS, rowsets);
+            self.group_in_memory(rowsets, "in scan order", sorted(handles.clone()));
+            self.group_in_memory(rowsets, "at random", handles);
         }
         self.mask();
         self.vacuum_of_256();
@@ -267,32 +280,33 @@ impl Bench {
         self.rows.push(Row::new(name, of_port, of_original));
     }
 
-    fn records(&mut self) {
-        if !self.wants("records") {
+    fn records(&mut self, order: &str, rows: Vec<u32>) {
+        let names = ["written to a file", "read from a file", "written in memory"];
+        let [written, read, in_memory] = names.map(|what| format!("4,096 records {what}, rows {order}"));
+        if ![&written, &read, &in_memory].into_iter().any(|name| self.wants(name)) {
             return;
         }
         let Sides { port_dir, original_dir, original, .. } = self.sides();
-        let rows = histories::rows_at_random(RECORDS);
         let (ids, records) = (kept(port::row_ids(&rows)), kept(drive::records(&rows)));
         let (file, its_file) = (kept(port_dir.join("rows.dv")), kept(original_dir.join("rows.dv")));
 
-        self.equal("records", port::encoded(ids), drive::encoded(records));
+        self.equal(&in_memory, port::encoded(ids), drive::encoded(records));
         port::write_records(file, ids);
         original.write_records(its_file, records);
-        self.equal("records", fs::read(file).unwrap(), fs::read(its_file).unwrap());
-        let (read, its) = (port::read_records(file), original.read_records(its_file));
-        self.equal("records", read.deletes().map(|row| row.0).collect(), its.rows().to_vec());
+        self.equal(&written, fs::read(file).unwrap(), fs::read(its_file).unwrap());
+        let (vector, its_vector) = (port::read_records(file), original.read_records(its_file));
+        self.equal(&read, vector.deletes().map(|row| row.0).collect(), its_vector.rows().to_vec());
 
         let (new, its_new) = (kept(port_dir.join("new.dv")), kept(original_dir.join("new.dv")));
         let of_port = once(move || fs::remove_file(new), |_| port::write_records(new, ids));
         let of_original = once(move || fs::remove_file(its_new), |_| original.write_records(its_new, records));
-        self.rows.push(Row::new("4,096 records written to a file", of_port, of_original));
+        self.add(Row::new(written, of_port, of_original));
         let of_port = often(|| port::read_records(file));
         let of_original = often(|| original.read_records(its_file));
-        self.rows.push(Row::new("4,096 records read from a file", of_port, of_original));
+        self.add(Row::new(read, of_port, of_original));
         let of_port = often(|| port::encoded(ids));
         let of_original = often(|| drive::encoded(records));
-        self.rows.push(Row::new("4,096 records written in memory", of_port, of_original));
+        self.add(Row::new(in_memory, of_port, of_original));
     }
 
     fn mask(&mut self) {
@@ -313,8 +327,8 @@ impl Bench {
     }
 
     /// A transaction's deletes: grouped, a file written for each rowset, and committed.
-    fn group(&mut self, rowsets: u32) {
-        let name = format!("grouping of 4,096 handles, {rowsets} rowsets, with files and commit");
+    fn group(&mut self, rowsets: u32, order: &str, handles: Vec<(u32, u32)>) {
+        let name = format!("grouping of 4,096 handles {order}, {rowsets} vector files, commit");
         if !self.wants(&name) {
             return;
         }
@@ -322,7 +336,6 @@ impl Bench {
         let base = histories::framed(&histories::one_table(rowsets as usize));
         let text = kept(histories::text(&base).into_bytes());
         let json = kept(drive::manifest_of(&base));
-        let handles = histories::handles(RECORDS, rowsets);
         let (handlers, its_handlers) = (kept(port::handlers(&handles)), kept(drive::handlers(&handles)));
         let opened = || {
             empty_vector_folder(port_dir);
@@ -345,13 +358,12 @@ impl Bench {
         self.rows.push(Row::new(name, of_port, of_original));
     }
 
-    fn group_in_memory(&mut self, rowsets: u32) {
-        let name = format!("grouping of 4,096 handles, {rowsets} rowsets, no files");
+    fn group_in_memory(&mut self, rowsets: u32, order: &str, handles: Vec<(u32, u32)>) {
+        let name = format!("grouping of 4,096 handles {order}, {rowsets} vectors, no files");
         if !self.wants(&name) {
             return;
         }
         let Sides { original, .. } = self.sides();
-        let handles = histories::handles(RECORDS, rowsets);
         let (handlers, its_handlers) = (kept(port::handlers(&handles)), kept(drive::handlers(&handles)));
         let base = kept(histories::one_table(rowsets as usize).split_off(1));
         let made = move || port::in_memory(rowsets as usize);
