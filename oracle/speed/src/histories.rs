@@ -90,13 +90,23 @@ impl Random {
     }
 }
 
-pub fn rows_at_random(count: usize) -> Vec<u32> {
+/// Rows that rise, each once, as a scan meets them.
+pub fn rows_rising(count: usize) -> Vec<u32> {
     let mut random = Random(1);
-    (0..count).map(|_| random.below(1_000_000)).collect()
+    (0..count as u32).map(|i| i * 244 + random.below(244)).collect()
 }
 
-/// Row handles (rowset, row) over so many rowsets.
-pub fn handles(count: usize, rowsets: u32) -> Vec<(u32, u32)> {
+/// Row handles (rowset, row) over so many rowsets, by rowset and row, each once.
+pub fn handles_rising(count: usize, rowsets: u32) -> Vec<(u32, u32)> {
+    let each = count as u32 / rowsets;
+    rows_rising(count).into_iter().zip(0..).map(|(row, i)| (i / each, row)).collect()
+}
+
+/// The same ones in an order at random.
+pub fn shuffled<T>(mut list: Vec<T>) -> Vec<T> {
     let mut random = Random(2);
-    (0..count).map(|_| (random.below(rowsets), random.below(1_000_000))).collect()
+    for end in (1..list.len()).rev() {
+        list.swap(end, random.below(end as u32 + 1) as usize);
+    }
+    list
 }

@@ -6,7 +6,7 @@ use crate::rows::Bench;
 use crate::timing::{self, Timed};
 use crate::{plot, rows};
 
-const ROUNDS: usize = 101;
+const ROUNDS: usize = 51;
 
 /// A folder of this run's own, under SPEED_DIR.
 fn folder() -> PathBuf {

@@ -134,17 +134,17 @@ impl Bench {
             self.reopen(length);
         }
         HELD.into_iter().for_each(|held| self.open(held));
-        self.records("rising", sorted(histories::rows_at_random(RECORDS)));
-        self.records("at random", histories::rows_at_random(RECORDS));
+        self.records("rising", histories::rows_rising(RECORDS));
+        self.records("at random", histories::shuffled(histories::rows_rising(RECORDS)));
         for rowsets in [4, 256] {
-            let handles = histories::handles(RECORDS, rowsets);
-            self.group(rowsets, "in scan order", sorted(handles.clone()));
-            self.group(rowsets, "at random", handles);
+            let handles = histories::handles_rising(RECORDS, rowsets);
+            self.group(rowsets, "rising", handles.clone());
+            self.group(rowsets, "at random", histories::shuffled(handles));
         }
         for rowsets in [4, 256] {
-            let handles = histories::handles(RECORDS, rowsets);
-            self.group_in_memory(rowsets, "in scan order", sorted(handles.clone()));
-            self.group_in_memory(rowsets, "at random", handles);
+            let handles = histories::handles_rising(RECORDS, rowsets);
+            self.group_in_memory(rowsets, "rising", handles.clone());
+            self.group_in_memory(rowsets, "at random", histories::shuffled(handles));
         }
         self.mask();
         self.vacuum_of_256();
