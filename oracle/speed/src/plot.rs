@@ -31,7 +31,8 @@ impl Panel {
     }
 
     fn line(&self, points: &[(f64, f64)], colour: &str) -> String {
-        let places: Vec<(f64, f64)> = points.iter().map(|(held, m)| (self.across(*held), self.up(*m))).collect();
+        let places: Vec<(f64, f64)> =
+            points.iter().map(|(held, m)| (self.across(*held), self.up(*m))).collect();
         let along: Vec<String> = places.iter().map(|(x, y)| format!("{x:.1},{y:.1}")).collect();
         let mut svg = format!(
             "<polyline points=\"{}\" fill=\"none\" stroke=\"{colour}\" stroke-width=\"2\"/>\n",
@@ -59,7 +60,9 @@ impl Panel {
 }
 
 fn text(x: f64, y: f64, anchor: &str, weight: &str, words: &str) -> String {
-    format!("<text x=\"{x:.1}\" y=\"{y:.1}\" text-anchor=\"{anchor}\" font-weight=\"{weight}\">{words}</text>\n")
+    format!(
+        "<text x=\"{x:.1}\" y=\"{y:.1}\" text-anchor=\"{anchor}\" font-weight=\"{weight}\">{words}</text>\n"
+    )
 }
 
 fn thousands(micros: f64) -> String {
@@ -76,7 +79,9 @@ fn step_for(most: f64) -> f64 {
 }
 
 fn panel(title: &str, timed: &[Timed], x: f64, y: f64) -> String {
-    let of = |row: &Timed| row.point.filter(|p| p.panel == title).map(|p| (p.held as f64, row.port.cpu, row.original.cpu));
+    let of = |row: &Timed| {
+        row.point.filter(|p| p.panel == title).map(|p| (p.held as f64, row.port.cpu, row.original.cpu))
+    };
     let points: Vec<(f64, f64, f64)> = timed.iter().filter_map(of).collect();
     let port: Vec<_> = points.iter().map(|(held, port, _)| (*held, port / 1000.0)).collect();
     let original: Vec<_> = points.iter().map(|(held, _, original)| (*held, original / 1000.0)).collect();
@@ -100,7 +105,13 @@ pub fn svg(titles: &[&str], timed: &[Timed]) -> String {
     );
     svg += &key(LEFT, PORT, "port");
     svg += &key(LEFT + 90.0, ORIGINAL, "original");
-    svg += &text(width - RIGHT, 28.0, "end", "normal", "microseconds of CPU time a call, against rowsets and vectors held");
+    svg += &text(
+        width - RIGHT,
+        28.0,
+        "end",
+        "normal",
+        "microseconds of CPU time a call, against rowsets and vectors held",
+    );
     for (i, title) in titles.iter().enumerate() {
         svg += &panel(title, timed, (i % 2) as f64 * WIDTH, HEAD + (i / 2) as f64 * HEIGHT);
     }

@@ -1,5 +1,7 @@
 //! The port's calls as the benchmark makes them, through the crate `seqapti` and its files.
-use seqapti::{DeleteVector, EpochOp, RowId, RowsetId, SecondaryRowHandler, TableId, VectorId, VersionManager};
+use seqapti::{
+    DeleteVector, EpochOp, RowId, RowsetId, SecondaryRowHandler, TableId, VectorId, VersionManager,
+};
 use std::fs;
 use std::path::{Path, PathBuf};
 

@@ -16,7 +16,13 @@ fn folder() -> PathBuf {
 
 fn micros(nanoseconds: f64) -> String {
     let micros = nanoseconds / 1000.0;
-    let decimals = if micros < 10.0 { 2 } else if micros < 100.0 { 1 } else { 0 };
+    let decimals = if micros < 10.0 {
+        2
+    } else if micros < 100.0 {
+        1
+    } else {
+        0
+    };
     format!("{micros:.decimals$}")
 }
 
@@ -34,10 +40,14 @@ fn line(row: &Timed) -> String {
     )
 }
 
-fn table(timed: &[Timed]) {
-    println!("| microseconds a call | port, CPU | original, CPU | ratio | port, elapsed | original, elapsed | ratio |");
-    println!("|---|--:|--:|--:|--:|--:|--:|");
-    timed.iter().filter(|row| row.listed).for_each(|row| println!("{}", line(row)));
+fn table(group: &str, timed: &[Timed]) {
+    let lines: Vec<String> = timed.iter().filter(|row| row.listed && row.group == group).map(line).collect();
+    if !lines.is_empty() {
+        println!(
+            "\n| {group}: microseconds a call | port, CPU | original, CPU | ratio | port, elapsed | original, elapsed | ratio |"
+        );
+        println!("|---|--:|--:|--:|--:|--:|--:|\n{}", lines.join("\n"));
+    }
 }
 
 fn put_plot(timed: &[Timed]) {
@@ -57,7 +67,7 @@ pub fn run() -> i32 {
     bench.all();
     let Bench { rows, differ, .. } = bench;
     let timed = timing::run(rows, rounds);
-    table(&timed);
+    rows::GROUPS.into_iter().for_each(|group| table(group, &timed));
     put_plot(&timed);
     fs::remove_dir_all(dir).unwrap();
     match differ.is_empty() {

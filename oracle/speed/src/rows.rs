@@ -14,6 +14,12 @@ pub const OPEN: &str = "opening, vector files read";
 pub const PIN: &str = "pin and unpin";
 pub const VACUUM: &str = "vacuum of nothing";
 
+const WRITES: &str = "Ends in a file";
+const READS: &str = "Opens or reads files";
+const MEMORY: &str = "Ends in memory";
+const LOOKS: &str = "A look in a map of the original";
+pub const GROUPS: [&str; 4] = [WRITES, READS, MEMORY, LOOKS];
+
 /// Steps of what is held in the plot.
 const HELD: [usize; 9] = [0, 32, 64, 96, 128, 160, 192, 224, 256];
 const RECORDS: usize = 4096;
@@ -176,8 +182,8 @@ impl Bench {
             || (original.manager(base), Some(drive::operations(ops))),
             |(version, ops)| original.commit(version, ops.take().unwrap()),
         );
-        let row = Row::new(name, of_port, of_original);
-        self.rows.push(if count == 1 { row.at(COMMIT, held) } else { row });
+        let row = Row::new(WRITES, name, of_port, of_original);
+        self.add(if count == 1 { row.at(COMMIT, held) } else { row });
     }
 
     /// Opening a store after commits of ten operations each.
@@ -200,7 +206,7 @@ impl Bench {
         let name = format!("{name} (the original's {} KB)", json.len() >> 10);
         let of_port = once(|| port.put_manifest(text), |_| port.open());
         let of_original = once(|| original.put_manifest(json), |_| original.open());
-        self.rows.push(Row::new(name, of_port, of_original));
+        self.add(Row::new(READS, name, of_port, of_original));
     }
 
     /// Opening a store that holds so many rowsets and vectors, whose files both sides read.
@@ -224,7 +230,7 @@ impl Bench {
 
         let of_port = once(|| port.put_manifest(text), |_| port.open_with_vectors());
         let of_original = once(|| original.put_manifest(json), |_| original.open());
-        self.rows.push(Row::new(name, of_port, of_original).at(OPEN, held));
+        self.add(Row::new(READS, name, of_port, of_original).at(OPEN, held));
     }
 
     fn pin(&mut self, held: usize) {
@@ -238,7 +244,7 @@ impl Bench {
         self.equal(&name, port::pin_and_unpin(&manager).into(), drive::pin_and_unpin(&version));
         let of_port = often(move || port::pin_and_unpin(&manager));
         let of_original = often(move || drive::pin_and_unpin(&version));
-        self.rows.push(Row::new(name, of_port, of_original).at(PIN, held));
+        self.add(Row::new(LOOKS, name, of_port, of_original).at(PIN, held));
     }
 
     fn vacuum_of_nothing(&mut self, held: usize) {
@@ -252,7 +258,7 @@ impl Bench {
         self.equal(&name, port::find_vacuum(&manager).len(), drive::find_vacuum(&version).len());
         let of_port = often(move || port::find_vacuum(&manager));
         let of_original = often(move || drive::find_vacuum(&version));
-        self.rows.push(Row::new(name, of_port, of_original).at(VACUUM, held));
+        self.add(Row::new(LOOKS, name, of_port, of_original).at(VACUUM, held));
     }
 
     fn vacuum_of_256(&mut self) {
@@ -277,7 +283,7 @@ impl Bench {
 
         let of_port = once(deleted, |manager| port::find_vacuum(manager));
         let of_original = once(deleted_by_original, |version| drive::find_vacuum(version));
-        self.rows.push(Row::new(name, of_port, of_original));
+        self.add(Row::new(MEMORY, name, of_port, of_original));
     }
 
     fn records(&mut self, order: &str, rows: Vec<u32>) {
@@ -299,14 +305,15 @@ impl Bench {
 
         let (new, its_new) = (kept(port_dir.join("new.dv")), kept(original_dir.join("new.dv")));
         let of_port = once(move || fs::remove_file(new), |_| port::write_records(new, ids));
-        let of_original = once(move || fs::remove_file(its_new), |_| original.write_records(its_new, records));
-        self.add(Row::new(written, of_port, of_original));
+        let of_original =
+            once(move || fs::remove_file(its_new), |_| original.write_records(its_new, records));
+        self.add(Row::new(WRITES, written, of_port, of_original));
         let of_port = often(|| port::read_records(file));
         let of_original = often(|| original.read_records(its_file));
-        self.add(Row::new(read, of_port, of_original));
+        self.add(Row::new(READS, read, of_port, of_original));
         let of_port = often(|| port::encoded(ids));
         let of_original = often(|| drive::encoded(records));
-        self.add(Row::new(in_memory, of_port, of_original));
+        self.add(Row::new(MEMORY, in_memory, of_port, of_original));
     }
 
     fn mask(&mut self) {
@@ -323,7 +330,7 @@ impl Bench {
         self.equal(name, &mask, &its_mask.0);
         let of_port = often(move || port::apply_to(&vector, &mut mask));
         let of_original = often(move || drive::apply_to(&its_vector, &mut its_mask));
-        self.rows.push(Row::new(name, of_port, of_original));
+        self.add(Row::new(MEMORY, name, of_port, of_original));
     }
 
     /// A transaction's deletes: grouped, a file written for each rowset, and committed.
@@ -355,7 +362,7 @@ impl Bench {
 
         let of_port = once(opened, |manager| port::delete(manager, handlers));
         let of_original = once(opened_by_original, |engine| original.delete(engine, its_handlers));
-        self.rows.push(Row::new(name, of_port, of_original));
+        self.add(Row::new(WRITES, name, of_port, of_original));
     }
 
     fn group_in_memory(&mut self, rowsets: u32, order: &str, handles: Vec<(u32, u32)>) {
@@ -378,6 +385,6 @@ impl Bench {
 
         let of_port = once(made, |manager| port::delete(manager, handlers));
         let of_original = once(made_by_original, |engine| original.delete(engine, its_handlers));
-        self.rows.push(Row::new(name, of_port, of_original));
+        self.add(Row::new(MEMORY, name, of_port, of_original));
     }
 }

@@ -121,6 +121,8 @@ pub struct Point {
 }
 
 pub struct Row {
+    /// The table that it stands in.
+    pub group: &'static str,
     pub name: String,
     pub point: Option<Point>,
     /// Whether it is in the table; others are in the plot alone.
@@ -130,6 +132,7 @@ pub struct Row {
 }
 
 pub struct Timed {
+    pub group: &'static str,
     pub name: String,
     pub point: Option<Point>,
     pub listed: bool,
@@ -138,9 +141,9 @@ pub struct Timed {
 }
 
 impl Row {
-    pub fn new(name: impl Into<String>, port: Sample, original: Sample) -> Row {
+    pub fn new(group: &'static str, name: impl Into<String>, port: Sample, original: Sample) -> Row {
         let (port, original) = (Side::new(port), Side::new(original));
-        Row { name: name.into(), point: None, listed: true, port, original }
+        Row { group, name: name.into(), point: None, listed: true, port, original }
     }
 
     pub fn at(mut self, panel: &'static str, held: usize) -> Row {
@@ -151,6 +154,7 @@ impl Row {
 
     fn timed(self) -> Timed {
         Timed {
+            group: self.group,
             name: self.name,
             point: self.point,
             listed: self.listed,
