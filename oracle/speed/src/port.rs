@@ -112,16 +112,8 @@ impl Port {
         self.dir.join(seqapti::MANIFEST_FILE_NAME)
     }
 
-    pub fn manifest_length(&self) -> usize {
-        self.manifest_text().len()
-    }
-
-    fn manifest_text(&self) -> String {
-        fs::read_to_string(self.manifest()).unwrap()
-    }
-
     pub fn manifest_lines(&self) -> Vec<String> {
-        self.manifest_text().lines().map(String::from).collect()
+        fs::read_to_string(self.manifest()).unwrap().lines().map(String::from).collect()
     }
 
     pub fn put_manifest(&self, bytes: &[u8]) {

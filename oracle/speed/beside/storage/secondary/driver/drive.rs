@@ -116,10 +116,6 @@ impl Original {
         self.dir.join(MANIFEST_FILE_NAME)
     }
 
-    pub fn manifest_length(&self) -> usize {
-        std::fs::read(self.manifest()).unwrap().len()
-    }
-
     /// The manifest's values, as the port's lines.
     pub fn manifest_lines(&self) -> Vec<String> {
         values_of(&std::fs::read(self.manifest()).unwrap()).iter().map(line_of).collect()
