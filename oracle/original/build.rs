@@ -93,7 +93,7 @@ impl Layout {
     }
 }
 
-fn main() {
+pub fn main() {
     println!("cargo:rerun-if-env-changed=ORIGINAL");
     println!("cargo:rerun-if-changed=beside");
     println!("cargo:rerun-if-changed=build.rs");
