@@ -85,10 +85,8 @@ pub fn read_records(path: &Path) -> DeleteVector {
 /// Deletes these rows of table 0: grouped, written to their files, and committed.
 pub fn delete(manager: &VersionManager, handles: &[SecondaryRowHandler]) {
     let grouped = manager.group_deletes(handles).unwrap();
-    let add = |g: &seqapti::GroupedDeletes| {
-        manager.write_dv(TableId(0), g).unwrap();
-        EpochOp::add_dv(TableId(0), g.vector.rowset_id(), g.vector.dv_id())
-    };
+    manager.write_dvs(TableId(0), &grouped).unwrap();
+    let add = |g: &seqapti::GroupedDeletes| EpochOp::add_dv(TableId(0), g.vector.rowset_id(), g.vector.dv_id());
     let operations: Vec<EpochOp> = grouped.iter().map(add).collect();
     manager.commit_changes(operations).unwrap();
 }
