@@ -1,0 +1,2 @@
+use crate::check::Judged;
+pub fn page(_judged: &Judged) -> String { String::new() }
