@@ -23,7 +23,7 @@ const MOST_TRIED: usize = 64;
 
 impl Explained {
     pub fn of(source: &Source, frames: &Frames, refusal: Refusal, place: usize) -> Explained {
-        let opens_up_to = opens_up_to(source, frames);
+        let opens_up_to = opens_up_to(source, frames, place);
         Explained {
             refusal,
             place,
@@ -63,8 +63,10 @@ fn line_text(bytes: &[u8], place: usize) -> Option<String> {
     Some(readable(line))
 }
 
-fn opens_up_to(source: &Source, frames: &Frames) -> Option<usize> {
-    let ends = frames.frames.iter().rev().map(|frame| frame.bytes.end);
+// A frame that reaches the place is refused as the whole is.
+fn opens_up_to(source: &Source, frames: &Frames, place: usize) -> Option<usize> {
+    let before = frames.frames.iter().rev().filter(|frame| place == 0 || frame.lines.end <= place);
+    let ends = before.map(|frame| frame.bytes.end);
     ends.take(MOST_TRIED).find(|end| Reading::of(&source.bytes[..*end]).is_ok())
 }
 
