@@ -1,7 +1,7 @@
 //! `seqapti check` and what all commands share: refusals, places, exit statuses, odd files.
-mod tool;
 #[path = "../src/bin/seqapti/json.rs"]
 mod json;
+mod tool;
 #[path = "../src/bin/seqapti/value.rs"]
 #[allow(dead_code)]
 mod value;
@@ -112,7 +112,7 @@ fn good_manifests_open() {
         let words = on("check", at, &[]);
         assert_eq!((words.code, words.err.as_str()), (0, ""));
         assert!(words.out.contains("manifest: opens\n"), "{}", words.out);
-        assert!(words.out.contains("1 tables, 1 rowsets, 0 vectors"), "{}", words.out);
+        assert!(words.out.contains("1 table, 1 rowset, 0 vectors"), "{}", words.out);
         let json = on("check", at, &["--json"]);
         assert_eq!(json.code, 0);
         valid_json(&json.out);
@@ -228,8 +228,13 @@ fn a_full_disk_and_a_closed_pipe_are_told() {
     }
     // More than a pipe holds, and nobody reads it.
     let long = place.file("long", "B\nA,0,0\nD,0,0\nE\n".repeat(4_000));
-    let mut child =
-        command().arg("inspect").arg(&long).stdout(Stdio::piped()).stderr(Stdio::piped()).spawn().expect("the tool runs");
+    let mut child = command()
+        .arg("inspect")
+        .arg(&long)
+        .stdout(Stdio::piped())
+        .stderr(Stdio::piped())
+        .spawn()
+        .expect("the tool runs");
     drop(child.stdout.take());
     let ran = ran(child.wait_with_output().expect("it ends"));
     assert_eq!(ran.code, 2);

@@ -36,7 +36,9 @@ fn create(name: &str) -> String {
 }
 
 fn create_with(name: &str, kind: &str, keys: &str) -> String {
-    let column = format!("{{\"id\":0,\"desc\":{{\"name\":\"Id\",\"data_type\":{kind},\"is_nullable\":false,\"is_primary\":true}}}}");
+    let column = format!(
+        "{{\"id\":0,\"desc\":{{\"name\":\"Id\",\"data_type\":{kind},\"is_nullable\":false,\"is_primary\":true}}}}"
+    );
     format!("{{\"CreateTable\":{{\"schema_id\":1,\"table_name\":\"{name}\",\"column_descs\":[{column}],\"ordered_pk_ids\":{keys}}}}}")
 }
 
@@ -110,11 +112,16 @@ fn torn_frames_with_others_behind_them_are_as_the_original_counts_them() {
     let place = Place::new("second_begin");
     let (ran, out) = import(&place, TORN, &[]);
     assert_eq!(ran.code, 0);
-    assert!(ran.out.contains("imported as the original counts it") && ran.out.contains("add rowset 0/2 (byte 351)"), "{}", ran.out);
+    assert!(
+        ran.out.contains("warning: imported, since the original counts it")
+            && ran.out.contains("add rowset 0/2 (byte 351)"),
+        "{}",
+        ran.out
+    );
     assert_eq!(manifest(&out), "B\nN,1,3,0\nT,0,0,slots\nA,0,0\nA,0,1\nA,0,2\nE\n");
     let (ran, out) = import(&place, TORN, &["--drop-torn"]);
     assert_eq!(ran.code, 0);
-    assert!(ran.out.contains("left out, of a torn frame"), "{}", ran.out);
+    assert!(ran.out.contains("left out, a torn frame with others"), "{}", ran.out);
     assert_eq!(manifest(&out), "B\nN,1,2,0\nT,0,0,slots\nA,0,0\nA,0,1\nE\n");
 
     // Told once, however many Begins come, and not where no End applies it.
@@ -126,7 +133,7 @@ fn torn_frames_with_others_behind_them_are_as_the_original_counts_them() {
     assert!(manifest(&out).contains("A,0,0\nA,0,1\n"));
     let (ran, out) = import(&place, &json, &[]);
     assert_eq!(ran.code, 0);
-    assert!(!ran.out.contains("imported as") && ran.out.contains("left out, a frame at the end"), "{}", ran.out);
+    assert!(!ran.out.contains("warning") && ran.out.contains("left out, a frame at the end"), "{}", ran.out);
     assert!(!manifest(&out).contains('A'));
 }
 
@@ -150,7 +157,11 @@ fn what_is_left_out_is_named() {
     }
     assert_eq!(manifest(&out), "B\nN,1,0,0\nT,0,0,t\nE\n");
     let (ran, _) = import(&place, &torn, &["--json"]);
-    assert!(ran.out.contains("\"torn_frame\":[\"add rowset 0/1") && ran.out.contains("\"outside_frames\":[\"add"), "{}", ran.out);
+    assert!(
+        ran.out.contains("\"torn_frame\":[\"add rowset 0/1") && ran.out.contains("\"outside_frames\":[\"add"),
+        "{}",
+        ran.out
+    );
     // A vector whose table is gone stops the original; here it is left out.
     let gone = frame(&[create("t"), vector(0, 3, 0), drop_table(0)]);
     assert_eq!(import(&place, gone, &[]).0.code, 0);
@@ -182,7 +193,8 @@ fn every_limit_is_named_and_what_it_just_holds_is_taken() {
     let tables = |n: u64| frame(&(0..n).map(|i| create(&format!("t{i}"))).collect::<Vec<_>>());
     let one = frame(&[create("t")]);
     let rowsets = |n: u64| one.clone() + &frame(&(0..n).map(|i| add(0, i)).collect::<Vec<_>>());
-    let vectors = |n: u64| one.clone() + &frame(&[add(0, 0)]) + &frame(&(0..n).map(|i| vector(0, 0, i)).collect::<Vec<_>>());
+    let vectors =
+        |n: u64| one.clone() + &frame(&[add(0, 0)]) + &frame(&(0..n).map(|i| vector(0, 0, i)).collect::<Vec<_>>());
     let named = |name: &str| frame(&[create(name)]);
     let numbered = |r: u64, v: u64| one.clone() + &frame(&[add(0, r), vector(0, r, v)]);
     let (most32, most64) = (u64::from(u32::MAX), u64::MAX);
@@ -221,7 +233,9 @@ fn every_limit_is_named_and_what_it_just_holds_is_taken() {
     }
     // What was dropped or deleted again counts for no limit.
     let past: Vec<String> = (0..40).flat_map(|i| [create("Name of a view"), drop_table(i)]).collect();
-    let past = frame(&past) + &one + &frame(&(0..900).flat_map(|i| [add(40, i), rowset("DeleteRowSet", 40, i)]).collect::<Vec<_>>());
+    let past = frame(&past)
+        + &one
+        + &frame(&(0..900).flat_map(|i| [add(40, i), rowset("DeleteRowSet", 40, i)]).collect::<Vec<_>>());
     let (ran, out) = import(&place, past, &[]);
     assert_eq!(ran.code, 0, "{}", ran.out);
     assert_eq!(manifest(&out), "B\nN,41,900,0\nT,40,0,t\nE\n");
@@ -274,7 +288,8 @@ fn what_is_no_manifest_is_refused_at_its_byte() {
     assert!(ran.code == 1 && ran.out.contains(&format!("JSON at byte {at}: this is not UTF-8")), "{}", ran.out);
     assert_eq!(import(&place, deep(100), &[]).0.code, 0);
     // Blanks between values are fine, and so is another order of fields.
-    let blanks = format!(" {BEGIN}\n{{ \"AddRowSet\" : {{ \"rowset_id\" : 3 ,\t{} }} }}\r\n{}{END} ", table_ref(0), create("t"));
+    let blanks =
+        format!(" {BEGIN}\n{{ \"AddRowSet\" : {{ \"rowset_id\" : 3 ,\t{} }} }}\r\n{}{END} ", table_ref(0), create("t"));
     let (ran, out) = import(&place, blanks, &[]);
     assert_eq!(ran.code, 0, "{}", ran.out);
     assert_eq!(manifest(&out), "B\nN,1,4,0\nT,0,0,t\nA,0,3\nE\n");
@@ -360,7 +375,8 @@ fn ten_megabytes_are_imported() {
     let mut json = frame(&[create("t")]);
     let mut next = 0;
     while json.len() < 10 << 20 {
-        json += &frame(&[add(0, next), vector(0, next, next), rowset("DeleteRowSet", 0, next), rowset("AddRowSet", 0, 0)]);
+        json +=
+            &frame(&[add(0, next), vector(0, next, next), rowset("DeleteRowSet", 0, next), rowset("AddRowSet", 0, 0)]);
         next += 1;
     }
     let started = std::time::Instant::now();

@@ -1,5 +1,4 @@
 //! `seqapti inspect`: what it lists is what the library reads, at every cut, and the page needs nothing beside it.
-mod tool;
 #[path = "../src/bin/seqapti/frames.rs"]
 #[allow(dead_code)]
 mod frames;
@@ -9,6 +8,7 @@ mod history;
 #[path = "../src/bin/seqapti/line.rs"]
 #[allow(dead_code)]
 mod line;
+mod tool;
 
 use frames::Frames;
 use history::{standing, History, Table};
@@ -47,6 +47,9 @@ fn store(place: &Place) -> std::path::PathBuf {
 fn a_store_is_listed() {
     let place = Place::new("listed");
     let path = store(&place);
+    for name in ["0_3", "0_0", "007_1", "dv/0_0_0.dv"] {
+        std::fs::create_dir(path.join(name)).expect("a folder");
+    }
     let before = tool::names(&path);
     let ran = on("inspect", &path, &[]);
     assert_eq!((ran.code, ran.err.as_str()), (0, ""));
@@ -66,13 +69,22 @@ last rewrite: lines 1 to 9, +2 tables, +4 rowsets
   frame 3, lines 19 to 22: -1 table, -1 rowset
     X,1
     D,1,2
+not live: 0_0, which nothing committed names
+not live: dv/0_0_0.dv, which nothing committed names
+missing: 0_4, which the manifest names
 ";
     assert!(ran.out.ends_with(expected), "{}", ran.out);
     assert_eq!(tool::names(&path), before, "nothing is written");
 
     // Though the store is open, and its lock held.
     let _open = VersionManager::open(&path).expect("an opening");
-    assert_eq!(on("inspect", &path, &[]).code, 0);
+    let json = on("inspect", &path, &["--json"]);
+    assert_eq!(json.code, 0);
+    let files = "\"not_live\":[\"0_0\",\"dv/0_0_0.dv\"],\"missing\":[\"0_4\"]}\n";
+    assert!(json.out.ends_with(files), "{}", json.out);
+    let page = place.at("page.html");
+    assert_eq!(on("inspect", &path, &["--html", &page.to_string_lossy()]).code, 0);
+    sound_page(&std::fs::read_to_string(&page).expect("a page"));
 }
 
 #[test]
@@ -86,7 +98,7 @@ fn what_is_passed_over_and_dropped_is_listed() {
         "passed over: line 2, an E with no frame open\n",
         "passed over: lines 3 to 4, a frame that another B cut short: +1 table\n",
         "dropped by an opening: vector 3 over rowset 0/5, which is not there\n",
-        "no rewrite: these frames are all that was written\n1 frame since\n",
+        "1 frame, and no rewrite\n",
     ] {
         assert!(ran.out.contains(line), "{line}{}", ran.out);
     }
@@ -112,7 +124,7 @@ fn a_torn_tail_at_every_byte() {
             continue;
         }
         assert!(check.out.contains(&format!("\"torn_bytes\":{cut},")), "{}", check.out);
-        let tail = between(&json.out, "\"tail\":", "}\n");
+        let tail = between(&json.out, "\"tail\":", ",\"not_live\"");
         assert!(tail.starts_with(&format!("{{\"from_byte\":{},\"bytes\":{cut},", whole.len())), "{tail}");
         let lines = last[..cut].matches('\n').count();
         assert_eq!(tail.matches("\"line\":").count(), lines.saturating_sub(1), "{cut} {tail}");
@@ -150,7 +162,9 @@ fn any_line(random: &mut Random) -> String {
         53..=56 => format!("W,{t},{r},{v}"),
         57 => format!("N,{t},{r},{v}"),
         58 => format!("N,{},{},{}", u32::MAX, u32::MAX, u64::MAX),
-        _ if random.below(12) == 0 => ["", "A,0", "A,0,01", "Z", "A,0,4294967295", "T,0,0,A"][random.below(6) as usize].into(),
+        _ if random.below(12) == 0 => {
+            ["", "A,0", "A,0,01", "Z", "A,0,4294967295", "T,0,0,A"][random.below(6) as usize].into()
+        }
         _ => format!("A,{t},{}", u32::MAX - 1),
     }
 }

@@ -1,6 +1,7 @@
 //! `seqapti check`: would it open?
 use crate::explain::Explained;
 use crate::frames::Frames;
+use crate::inspect::plural;
 use crate::source::Source;
 use crate::value::{number, object, text, Value};
 use crate::{Done, Failed};
@@ -37,12 +38,22 @@ impl Judged {
     /// What the file is, in one line.
     pub fn size(&self) -> String {
         let Frames { frames, lines, .. } = &self.frames;
-        format!("{} bytes, {lines} lines, {} frames", self.source.length, frames.len())
+        format!(
+            "{}, {}, {}",
+            plural(self.source.length as usize, "byte"),
+            plural(*lines, "line"),
+            plural(frames.len(), "frame")
+        )
     }
 
     pub fn tail_words(&self) -> Option<String> {
         let tail = self.frames.tail.as_ref()?;
-        Some(format!("torn tail: {} bytes from byte {} on, {}; an opening leaves it out", tail.bytes, tail.from, tail.words()))
+        Some(format!(
+            "torn tail: {} bytes from byte {} on, {}; an opening leaves it out",
+            tail.bytes,
+            tail.from,
+            tail.words()
+        ))
     }
 }
 
@@ -59,10 +70,11 @@ fn words(judged: &Judged) -> String {
         Ok(reading) => {
             let shown = &reading.snapshot;
             let counts = [shown.tables().len(), shown.rowsets().count(), shown.dvs().count()];
-            let [tables, rowsets, vectors] = counts;
+            let names = ["table", "rowset", "vector"];
+            let held: Vec<String> = counts.iter().zip(names).map(|(n, name)| plural(*n, name)).collect();
             let tail = judged.tail_words().map_or(String::new(), |words| format!("  {words}\n"));
             let size = judged.size();
-            format!("{path}: opens\n  {size}; {tables} tables, {rowsets} rowsets, {vectors} vectors\n{tail}")
+            format!("{path}: opens\n  {size}; {}\n{tail}", held.join(", "))
         }
     }
 }

@@ -96,7 +96,9 @@ fn conflict(frames: &[Frame], place: usize) -> String {
                 let other = same.or_else(|| live.iter().find(|(_, taken, _)| taken == name));
                 return match other {
                     Some((id, taken, line)) => {
-                        format!("it creates table {table} `{name}`, but table {id} `{taken}` of line {line} is still there")
+                        format!(
+                            "it creates table {table} `{name}`, but table {id} `{taken}` of line {line} is still there"
+                        )
                     }
                     None => format!("it creates table {table} `{name}`, which is there"),
                 };
@@ -129,13 +131,15 @@ fn over_limit(frames: &[Frame], place: usize) -> String {
 fn strays(frames: &[Frame]) -> String {
     let strays = History::of(frames).strays();
     let named: Vec<String> = strays.iter().take(8).map(|(t, r)| format!("{t}/{r}")).collect();
-    let more = if strays.len() > named.len() { format!(" and {} more", strays.len() - named.len()) } else { String::new() };
+    let more =
+        if strays.len() > named.len() { format!(" and {} more", strays.len() - named.len()) } else { String::new() };
     format!("at the end there are rowsets whose table is not there: {}{more} (table/rowset)", named.join(", "))
 }
 
 fn advice(source: &Source, refusal: Refusal, opens_up_to: Option<usize>) -> String {
     if source.looks_like_json() {
-        return "This begins like a JSON manifest of the original store: `seqapti import` makes a manifest of it.".into();
+        return "This begins like a JSON manifest of the original store: `seqapti import` makes a manifest of it."
+            .into();
     }
     let first = match refusal {
         Refusal::ManifestTooLong => {
@@ -153,7 +157,9 @@ fn advice(source: &Source, refusal: Refusal, opens_up_to: Option<usize>) -> Stri
         _ => "The library refuses what it was handed; keep the file and report it.",
     };
     match opens_up_to {
-        Some(n) => format!("{first} The first {n} bytes open as they are (head -c {n}); what came later would be lost."),
+        Some(n) => {
+            format!("{first} The first {n} bytes open as they are (head -c {n}); what came later would be lost.")
+        }
         None => format!("{first} No run of whole frames from the start was found that opens."),
     }
 }

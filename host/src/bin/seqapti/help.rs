@@ -28,7 +28,8 @@ usage: seqapti inspect PATH [--json | --html FILE]
 
 Says what a manifest, or the one in a store's folder, holds: next ids, tables, rowsets (table/rowset), delete vectors, the
 frames since the last rewrite with their lines, what an opening passes over or drops, and a torn tail with what it
-would have done. The library judges what stands; where it refuses, the frames that could be read are listed.
+would have done. Of a folder also the rowset folders and vector files that are not live or missing. The library judges
+what stands; where it refuses, the frames that could be read are listed.
 
   --json        for programs, on one line
   --html FILE   writes a page with a picture of the same; it needs nothing else, and a page that is there is replaced

@@ -110,7 +110,11 @@ fn limits(sets: &Sets) -> Vec<Refused> {
     ];
     for (found, most, what) in counts {
         if found > most {
-            over.push(Refused { what, at: None, why: format!("there are {found} {what}, and a store has at most {most}") });
+            over.push(Refused {
+                what,
+                at: None,
+                why: format!("there are {found} {what}, and a store has at most {most}"),
+            });
         }
     }
     for (id, (name, _)) in &sets.tables {
@@ -225,10 +229,10 @@ impl Import {
 
     fn joined_words(&self) -> String {
         let heading = match self.dropped_torn {
-            true => "left out, of a torn frame with others behind it, which the original would count:",
+            true => "left out, a torn frame with others written behind it, which the original counts after a restart:",
             false => {
-                "imported as the original counts it, of a torn frame with others behind it: was this ever committed? \
-                 (--drop-torn leaves it out):"
+                "warning: imported, since the original counts it after a restart: a torn frame with others written behind \
+                 it. Its commit failed when it was written; --drop-torn leaves it out:"
             }
         };
         block(heading, &self.replayed.joined)

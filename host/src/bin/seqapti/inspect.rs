@@ -4,6 +4,7 @@ use crate::explain::Explained;
 use crate::frames::{Frame, Ignored, Placed, Tail};
 use crate::history::History;
 use crate::line::{readable, Vector};
+use crate::on_disk::OnDisk;
 use crate::value::{list, number, object, text, Value};
 use crate::{output, page, Done, Failed};
 use seqapti::{NextIds, Reading, Table};
@@ -17,11 +18,16 @@ pub enum Form<'a> {
 
 pub fn run(path: &Path, form: Form) -> Result<Done, Failed> {
     let judged = Judged::of(path)?;
+    let on_disk = match (&judged.source.folder, &judged.verdict) {
+        (Some(folder), Ok(reading)) => Some(OnDisk::of(folder, &reading.snapshot)?),
+        _ => None,
+    };
     let output = match form {
-        Form::Words => words(&judged),
-        Form::Json => format!("{}\n", json(&judged)),
+        Form::Words => words(&judged) + &on_disk.map_or(String::new(), |files| on_disk_words(&files)),
+        Form::Json => format!("{}\n", json(&judged, on_disk)),
         Form::Html(file) => {
-            output::replace(file, page::page(&judged).as_bytes())?;
+            let page = page::page(&judged, &on_disk.unwrap_or_default());
+            output::replace(file, page.as_bytes())?;
             format!("wrote {}\n", file.display())
         }
     };
@@ -70,7 +76,8 @@ fn standing(reading: &Reading) -> String {
 fn table_words(reading: &Reading, table: &Table) -> String {
     let id = table.table_id;
     let rowsets = reading.snapshot.get_rowsets_of(id).unwrap_or_default();
-    let mut out = format!("table {id} `{}`, shape {}: {}\n", table.table_name, table.shape, plural(rowsets.len(), "rowset"));
+    let mut out =
+        format!("table {id} `{}`, shape {}: {}\n", table.table_name, table.shape, plural(rowsets.len(), "rowset"));
     for rowset in rowsets {
         let vectors = reading.snapshot.get_dvs_of(id, *rowset).unwrap_or_default();
         let named: Vec<String> = vectors.iter().map(|v| v.to_string()).collect();
@@ -87,10 +94,12 @@ pub fn plural(n: usize, kind: &str) -> String {
 fn frames_words(judged: &Judged) -> String {
     let (rewrite, since) = judged.frames.parted();
     let mut out = match rewrite {
-        Some(frame) => format!("last rewrite: lines {}, {}\n", lines(frame), frame.tally().words()),
-        None => "no rewrite: these frames are all that was written\n".into(),
+        Some(frame) => {
+            let (lines, what) = (lines(frame), frame.tally().words());
+            format!("last rewrite: lines {lines}, {what}\n{} since\n", plural(since.len(), "frame"))
+        }
+        None => format!("{}, and no rewrite\n", plural(since.len(), "frame")),
     };
-    out += &format!("{} since\n", plural(since.len(), "frame"));
     for (i, frame) in since.iter().enumerate() {
         out += &format!("  frame {}, lines {}: {}\n", i + 1, lines(frame), frame.tally().words());
         for placed in &frame.ops {
@@ -125,7 +134,13 @@ fn tail_words(judged: &Judged, tail: &Tail) -> String {
     out
 }
 
-fn json(judged: &Judged) -> Value {
+fn on_disk_words(files: &OnDisk) -> String {
+    let not_live = files.not_live.iter().map(|name| format!("not live: {name}, which nothing committed names\n"));
+    let missing = files.missing.iter().map(|name| format!("missing: {name}, which the manifest names\n"));
+    not_live.chain(missing).collect()
+}
+
+fn json(judged: &Judged, on_disk: Option<OnDisk>) -> Value {
     let (rewrite, since) = judged.frames.parted();
     let reading = judged.verdict.as_ref().ok();
     object([
@@ -137,12 +152,17 @@ fn json(judged: &Judged) -> Value {
         ("next", reading.map_or(Value::Null, |r| next_json(&r.next))),
         ("tables", reading.map_or(Value::Null, |r| list(r.snapshot.tables().iter().map(table_json)))),
         ("rowsets", reading.map_or(Value::Null, |r| list(r.snapshot.rowsets().map(|(t, s)| pair_json(t.0, s.0))))),
-        ("vectors", reading.map_or(Value::Null, |r| list(r.snapshot.dvs().map(|(t, s, v)| vector_json((t.0, s.0, v.0)))))),
+        (
+            "vectors",
+            reading.map_or(Value::Null, |r| list(r.snapshot.dvs().map(|(t, s, v)| vector_json((t.0, s.0, v.0))))),
+        ),
         ("rewrite", rewrite.map_or(Value::Null, frame_json)),
         ("frames", list(since.iter().map(frame_json))),
         ("passed_over", list(judged.frames.ignored.iter().map(ignored_words).map(text))),
         ("orphan_vectors", list(orphans(judged).into_iter().map(vector_json))),
         ("tail", judged.frames.tail.as_ref().map_or(Value::Null, tail_json)),
+        ("not_live", on_disk.as_ref().map_or(Value::Null, |files| list(files.not_live.iter().map(text)))),
+        ("missing", on_disk.as_ref().map_or(Value::Null, |files| list(files.missing.iter().map(text)))),
     ])
 }
 

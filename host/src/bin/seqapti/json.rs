@@ -9,7 +9,10 @@ const DEEPEST: usize = 128;
 pub enum Fault {
     /// The text ends inside a value.
     Ends,
-    Bad { at: usize, why: String },
+    Bad {
+        at: usize,
+        why: String,
+    },
 }
 
 /// Hands on one value after another.

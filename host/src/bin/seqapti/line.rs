@@ -36,7 +36,11 @@ pub fn parse(line: &[u8]) -> Result<Line, String> {
         b"E" => return none(rest, "E").map(|()| Line::End),
         b"T" => {
             let [table, shape, name] = counted(rest, "T", "table, shape and name")?;
-            Op::Create { table: id32(table, "table")?, shape: number(shape, "shape", ANY32)? as u32, name: named(name)? }
+            Op::Create {
+                table: id32(table, "table")?,
+                shape: number(shape, "shape", ANY32)? as u32,
+                name: named(name)?,
+            }
         }
         b"X" => {
             let [table] = counted(rest, "X", "table")?;

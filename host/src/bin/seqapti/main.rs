@@ -8,6 +8,7 @@ mod import;
 mod inspect;
 mod json;
 mod line;
+mod on_disk;
 mod original;
 mod output;
 mod page;

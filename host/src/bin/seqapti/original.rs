@@ -115,8 +115,7 @@ fn operation(value: &Value, schema: &mut Option<u32>) -> Result<Read, String> {
     };
     let change = match name {
         "CreateTable" => {
-            let [id, name, descs, keys] =
-                fields(entry, ["schema_id", "table_name", "column_descs", "ordered_pk_ids"])?;
+            let [id, name, descs, keys] = fields(entry, ["schema_id", "table_name", "column_descs", "ordered_pk_ids"])?;
             same_schema(number(id, "schema_id")?, schema)?;
             let Value::Text(name) = name else { return Err("table_name is no text".into()) };
             Change::Create { name: name.clone(), columns: columns(descs, keys)? }
@@ -217,7 +216,12 @@ impl Sets {
         match change {
             Change::Create { name, columns } => {
                 if self.tables.values().any(|(taken, _)| taken == name) {
-                    return Err(("table", format!("it creates the table {name:?}, which is there; the original does not open this either")));
+                    return Err((
+                        "table",
+                        format!(
+                            "it creates the table {name:?}, which is there; the original does not open this either"
+                        ),
+                    ));
                 }
                 let id = self.next.0;
                 self.next.0 = id.checked_add(1).ok_or(("id", "there is no id left for this table".to_string()))?;
@@ -225,7 +229,10 @@ impl Sets {
             }
             Change::Other(Op::Drop { table }) => {
                 if self.tables.remove(table).is_none() {
-                    return Err(("table", format!("it drops table {table}, which is not there; the original does not open this either")));
+                    return Err((
+                        "table",
+                        format!("it drops table {table}, which is not there; the original does not open this either"),
+                    ));
                 }
             }
             Change::Other(Op::Add(pair)) => {

@@ -4,13 +4,14 @@ use crate::explain::Explained;
 use crate::frames::{Frame, Placed, Tail};
 use crate::inspect::{ignored_words, lines, orphans, plural};
 use crate::line::{readable, Op};
+use crate::on_disk::OnDisk;
 use crate::picture::{frames_a_column, picture};
 use seqapti::{Reading, RowsetId, Table};
 
 /// Operations of a frame that are shown at once; the others are folded.
 const MOST_SHOWN: usize = 12;
 
-pub fn page(judged: &Judged) -> String {
+pub fn page(judged: &Judged, on_disk: &OnDisk) -> String {
     let path = escaped(&judged.source.path.display().to_string());
     let mut body = format!("<header><h1>{path}</h1>{}</header>\n", badge(judged));
     body += &tiles(judged);
@@ -25,6 +26,7 @@ pub fn page(judged: &Judged) -> String {
         body += &standing(reading);
     }
     body += &passed_over(judged);
+    body += &files(on_disk);
     body += &frames(judged);
     format!(
         "<!DOCTYPE html>\n<html lang=\"en\">\n<head>\n<meta charset=\"utf-8\">\n\
@@ -100,7 +102,7 @@ fn grouped(n: u64) -> String {
     let digits = n.to_string();
     let mut out = String::new();
     for (i, digit) in digits.chars().enumerate() {
-        if i > 0 && (digits.len() - i) % 3 == 0 {
+        if i > 0 && (digits.len() - i).is_multiple_of(3) {
             out.push(',');
         }
         out.push(digit);
@@ -198,13 +200,32 @@ fn runs(ids: &[u64]) -> String {
 }
 
 fn passed_over(judged: &Judged) -> String {
-    let mut items: Vec<String> = judged.frames.ignored.iter().map(|i| format!("passed over: {}", ignored_words(i))).collect();
-    items.extend(orphans(judged).iter().map(|(t, r, v)| format!("dropped: vector {v} over rowset {t}/{r}, which is not there")));
+    let mut items: Vec<String> =
+        judged.frames.ignored.iter().map(|i| format!("passed over: {}", ignored_words(i))).collect();
+    items.extend(
+        orphans(judged).iter().map(|(t, r, v)| format!("dropped: vector {v} over rowset {t}/{r}, which is not there")),
+    );
     if items.is_empty() {
         return String::new();
     }
     let list: String = items.iter().map(|item| format!("<li>{}</li>", escaped(item))).collect();
     format!("<section class=\"note warn\"><h2>What an opening does not take</h2><ul>{list}</ul></section>\n")
+}
+
+fn files(on_disk: &OnDisk) -> String {
+    let kinds = [
+        (&on_disk.not_live, "not live, named by nothing committed"),
+        (&on_disk.missing, "missing, named by the manifest"),
+    ];
+    let items: String = kinds
+        .iter()
+        .filter(|(names, _)| !names.is_empty())
+        .map(|(names, kind)| format!("<li>{kind}: <code>{}</code></li>", escaped(&names.join("  "))))
+        .collect();
+    match items.is_empty() {
+        true => String::new(),
+        false => format!("<section class=\"note warn\"><h2>Files in the folder</h2><ul>{items}</ul></section>\n"),
+    }
 }
 
 fn frames(judged: &Judged) -> String {

@@ -145,13 +145,18 @@ fn bars(frames: &Frames, scale: &Scale, bottom: f64) -> String {
         let rewrite = scale.rewritten && column == 0;
         let name = if rewrite { "the last rewrite".to_string() } else { frames_of(scale.numbers(column)) };
         out += &format!("<g><title>{name}: adds {added}, deletes {deleted}</title>");
-        out += &format!("<rect class=\"adds\" x=\"{x:.1}\" y=\"{:.1}\" width=\"{w:.1}\" height=\"{up:.1}\"/>", base - up);
-        out += &format!("<rect class=\"deletes\" x=\"{x:.1}\" y=\"{base}\" width=\"{w:.1}\" height=\"{down:.1}\"/></g>\n");
+        out +=
+            &format!("<rect class=\"adds\" x=\"{x:.1}\" y=\"{:.1}\" width=\"{w:.1}\" height=\"{up:.1}\"/>", base - up);
+        out +=
+            &format!("<rect class=\"deletes\" x=\"{x:.1}\" y=\"{base}\" width=\"{w:.1}\" height=\"{down:.1}\"/></g>\n");
         let place = column - usize::from(scale.rewritten && column > 0);
         let label = if rewrite { "rewrite".into() } else { scale.numbers(column).0.to_string() };
         if rewrite || place % every == 0 && (!scale.rewritten || scale.width > 30.0 || column > 3) {
             let x = scale.middle(column);
-            out += &format!("<line class=\"grid\" x1=\"{x:.1}\" x2=\"{x:.1}\" y1=\"{:.1}\" y2=\"{bottom:.1}\"/>", TOP - 8.0);
+            out += &format!(
+                "<line class=\"grid\" x1=\"{x:.1}\" x2=\"{x:.1}\" y1=\"{:.1}\" y2=\"{bottom:.1}\"/>",
+                TOP - 8.0
+            );
             out += &format!("<text class=\"tick\" x=\"{x:.1}\" y=\"{:.1}\">{label}</text>\n", TOP - 13.0);
         }
     }
@@ -241,7 +246,9 @@ impl Heading {
                 let (title, shape) = (life.key.name.clone(), life.key.shape);
                 match life.to {
                     None => Heading { title, under: format!("table {table}, shape {shape}"), gone: false },
-                    Some(to) => Heading { title, under: format!("table {table}, dropped, {}", scale.label(to)), gone: true },
+                    Some(to) => {
+                        Heading { title, under: format!("table {table}, dropped, {}", scale.label(to)), gone: true }
+                    }
                 }
             }
         }
@@ -296,7 +303,7 @@ fn cut(name: &str) -> String {
 }
 
 fn bars_of(lives: &[&Life<Pair>], history: &History, scale: &Scale, grouped: bool) -> Vec<Bar> {
-    let mut groups: BTreeMap<(usize, Option<usize>, usize), Vec<&Life<Pair>>> = BTreeMap::new();
+    let mut groups = BTreeMap::<_, Vec<&Life<Pair>>>::new();
     for (i, life) in lives.iter().enumerate() {
         let place = if grouped { 0 } else { i };
         let to = life.to.map(|to| scale.column(to));
@@ -344,7 +351,9 @@ impl Bar {
         let class = if self.to.is_some() { "box past" } else { "box" };
         let width = to - from;
         let mut out = format!("<g><title>{}</title>", escaped(&self.says));
-        out += &format!("<rect class=\"{class}\" x=\"{from:.1}\" y=\"{top:.1}\" width=\"{width:.1}\" height=\"{tall}\" rx=\"3\"/>");
+        out += &format!(
+            "<rect class=\"{class}\" x=\"{from:.1}\" y=\"{top:.1}\" width=\"{width:.1}\" height=\"{tall}\" rx=\"3\"/>"
+        );
         let label = self.label();
         let shift = if self.vectors.iter().any(|v| scale.column(v.from) == self.from) { 9.0 } else { 5.0 };
         if tall > 12.0 && width > shift + 4.0 + label.len() as f64 * 6.3 {
@@ -371,7 +380,8 @@ impl Bar {
         for ((from, to), vectors) in marks {
             let x = scale.middle(from);
             let end = to.map_or(scale.now(), |to| scale.middle(to));
-            let named: Vec<String> = vectors.iter().map(|v| format!("{} over {}/{}", v.key.2, v.key.0, v.key.1)).collect();
+            let named: Vec<String> =
+                vectors.iter().map(|v| format!("{} over {}/{}", v.key.2, v.key.0, v.key.1)).collect();
             let says = format!("vector {}: {}", named.join(", "), scale.life(vectors[0]));
             let class = if to.is_some() { "mark past" } else { "mark" };
             out += &format!("<g class=\"{class}\"><title>{}</title>", escaped(&says));

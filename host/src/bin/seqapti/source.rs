@@ -11,6 +11,8 @@ pub const JSON_MANIFEST_FILE_NAME: &str = "manifest.json";
 
 pub struct Source {
     pub path: PathBuf,
+    /// The store's folder, if that was asked for.
+    pub folder: Option<PathBuf>,
     /// The first 65,537 bytes at most.
     pub bytes: Vec<u8>,
     /// The file's length, as far as it is known.
@@ -20,12 +22,12 @@ pub struct Source {
 impl Source {
     /// The manifest at a path: the file itself, or the one in a store's folder.
     pub fn manifest(path: &Path) -> Result<Source, Failed> {
-        let path = match path.is_dir() {
-            true => in_folder(path)?,
-            false => path.to_path_buf(),
+        let (path, folder) = match path.is_dir() {
+            true => (in_folder(path)?, Some(path.to_path_buf())),
+            false => (path.to_path_buf(), None),
         };
         let (bytes, length) = read(&path, MOST_READ).map_err(|e| failed("read", &path, e))?;
-        Ok(Source { path, bytes, length })
+        Ok(Source { path, folder, bytes, length })
     }
 
     /// Whether it begins as the original's manifest does.
