@@ -67,7 +67,7 @@ its shape's number. No file is ever written over, and nothing is written unless 
 
 What the original would show after a restart is imported. Left out, and named, are only a torn frame at the end and
 vectors whose rowset is not there. Where a frame was torn and more was written behind it, the original counts
-its operations with the next frame, and so does the import, which says so.
+what landed of it with the next frame, and so does the import, with a warning.
 
   --drop-torn   leaves out the operations of such frames, as a manifest of this store would
   --json        for programs, on one line

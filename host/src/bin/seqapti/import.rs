@@ -232,7 +232,7 @@ impl Import {
             true => "left out, a torn frame with others written behind it, which the original counts after a restart:",
             false => {
                 "warning: imported, since the original counts it after a restart: a torn frame with others written behind \
-                 it. Its commit failed when it was written; --drop-torn leaves it out:"
+                 it. The rest of it never reached the disk; --drop-torn leaves this part out:"
             }
         };
         block(heading, &self.replayed.joined)
