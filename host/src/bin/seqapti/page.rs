@@ -176,11 +176,11 @@ fn table_row(reading: &Reading, table: &Table) -> String {
     }
     let ids: Vec<u64> = rowsets.iter().map(|RowsetId(r)| u64::from(*r)).collect();
     format!(
-        "<tr><td class=\"n\">{id}</td><td><b>{}</b></td><td class=\"n\">{}</td><td>{} <span class=\"dim\">{}</span></td><td>{}</td></tr>\n",
+        "<tr><td class=\"n\">{id}</td><td><b>{}</b></td><td class=\"n\">{}</td><td>{}<span class=\"dim\">{}</span></td><td>{}</td></tr>\n",
         escaped(&table.table_name),
         table.shape,
         rowsets.len(),
-        runs(&ids),
+        if ids.is_empty() { String::new() } else { format!(": {}", runs(&ids)) },
         over.join("; ")
     )
 }

@@ -282,7 +282,8 @@ impl Lane {
         let gone = if self.gone { " gone" } else { "" };
         let mut out = format!("<g class=\"lane c{}{gone}\">", place % COLOURS);
         out += &format!("<rect class=\"floor{odd}\" x=\"0\" y=\"{y:.1}\" width=\"{WIDTH}\" height=\"{height:.1}\"/>");
-        out += &format!("<text class=\"name\" x=\"8\" y=\"{:.1}\">{}</text>", y + 20.0, escaped(&cut(&self.title)));
+        let (title, short) = (escaped(&self.title), escaped(&cut(&self.title)));
+        out += &format!("<text class=\"name\" x=\"8\" y=\"{:.1}\">{short}<title>{title}</title></text>", y + 20.0);
         out += &format!("<text class=\"dim\" x=\"8\" y=\"{:.1}\">{}</text>\n", y + 35.0, escaped(&self.under));
         let (step, tall) = self.row();
         for (row, bars) in self.rows.iter().enumerate() {
