@@ -158,6 +158,16 @@ fn odd_files_are_refused_and_nothing_more() {
     let zeros = on("check", &place.file("zeros", vec![0; 4_096]), &[]);
     assert_eq!(zeros.code, 0, "no line ends in it: {}", zeros.out);
     assert!(zeros.out.contains("torn tail: 4096 bytes"), "{}", zeros.out);
+    assert!(zeros.out.contains("warning: no line ends in it"), "{}", zeros.out);
+
+    // The original writes no newline: to an opening all of its manifest is a torn tail.
+    let original = place.file("original", include_bytes!("data/original.json"));
+    for command in ["check", "inspect"] {
+        let ran = on(command, &original, &[]);
+        assert_eq!(ran.code, 0);
+        assert!(ran.out.contains("warning: ") && ran.out.contains("`seqapti import`"), "{}", ran.out);
+        valid_json(&on(command, &original, &["--json"]).out);
+    }
 
     for (name, bytes) in [("lines", b"B\nE\n".repeat(2_621_440)), ("one_line", vec![b'x'; 10 << 20])] {
         let long = place.file(name, bytes);

@@ -46,6 +46,22 @@ impl Judged {
         )
     }
 
+    /// A file without a single line opens as an empty store, and the opening puts a new manifest in its place.
+    pub fn warning(&self) -> Option<String> {
+        if self.verdict.is_err() || self.frames.lines > 0 || self.source.bytes.is_empty() {
+            return None;
+        }
+        let json = match self.source.looks_like_json() {
+            true => {
+                " It begins like a JSON manifest of the original store, of which `seqapti import` makes a manifest."
+            }
+            false => "",
+        };
+        Some(format!(
+            "no line ends in it, so a store would open empty and this file would be replaced. Is it a manifest?{json}"
+        ))
+    }
+
     pub fn tail_words(&self) -> Option<String> {
         let tail = self.frames.tail.as_ref()?;
         Some(format!(
@@ -73,8 +89,9 @@ fn words(judged: &Judged) -> String {
             let names = ["table", "rowset", "vector"];
             let held: Vec<String> = counts.iter().zip(names).map(|(n, name)| plural(*n, name)).collect();
             let tail = judged.tail_words().map_or(String::new(), |words| format!("  {words}\n"));
+            let warning = judged.warning().map_or(String::new(), |words| format!("  warning: {words}\n"));
             let size = judged.size();
-            format!("{path}: opens\n  {size}; {}\n{tail}", held.join(", "))
+            format!("{path}: opens\n  {size}; {}\n{tail}{warning}", held.join(", "))
         }
     }
 }
@@ -85,6 +102,7 @@ fn json(judged: &Judged) -> Value {
         ("opens", Value::Bool(judged.verdict.is_ok())),
         ("bytes", number(judged.source.length)),
         ("torn_bytes", number(judged.frames.tail.as_ref().map_or(0, |tail| tail.bytes))),
+        ("warning", judged.warning().map_or(Value::Null, text)),
         ("refusal", judged.verdict.as_ref().err().map_or(Value::Null, Explained::json)),
     ])
 }

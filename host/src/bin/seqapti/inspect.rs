@@ -48,6 +48,9 @@ fn words(judged: &Judged) -> String {
         Ok(reading) => out += &standing(reading),
         Err(explained) => out += &explained.words(),
     }
+    if let Some(warning) = judged.warning() {
+        out += &format!("warning: {warning}\n");
+    }
     out += &frames_words(judged);
     for ignored in &judged.frames.ignored {
         out += &format!("passed over: {}\n", ignored_words(ignored));
@@ -147,6 +150,7 @@ fn json(judged: &Judged, on_disk: Option<OnDisk>) -> Value {
         ("path", text(judged.source.path.display())),
         ("opens", Value::Bool(reading.is_some())),
         ("refusal", judged.verdict.as_ref().err().map_or(Value::Null, Explained::json)),
+        ("warning", judged.warning().map_or(Value::Null, text)),
         ("bytes", number(judged.source.length)),
         ("lines", number(judged.frames.lines)),
         ("next", reading.map_or(Value::Null, |r| next_json(&r.next))),

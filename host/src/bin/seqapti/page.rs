@@ -18,6 +18,10 @@ pub fn page(judged: &Judged, on_disk: &OnDisk) -> String {
     if let Err(explained) = &judged.verdict {
         body += &refused(explained);
     }
+    if let Some(warning) = judged.warning() {
+        body +=
+            &format!("<section class=\"note bad\"><h2>Is it a manifest?</h2><p>{}</p></section>\n", escaped(&warning));
+    }
     if let Some(tail) = &judged.frames.tail {
         body += &torn(tail);
     }
