@@ -10,6 +10,7 @@ mod ids;
 mod manager;
 mod not_live;
 mod ops;
+mod reading;
 mod snapshot;
 mod sys;
 mod table_lock;
@@ -30,6 +31,7 @@ pub use not_live::NotLive;
 pub use ops::{
     AddDVEntry, AddRowSetEntry, CreateTableEntry, DeleteDVEntry, DeleteRowsetEntry, DropTableEntry, EpochOp,
 };
+pub use reading::Reading;
 pub use snapshot::{Snapshot, Table};
 pub use table_lock::TableLock;
 pub use version::Version;
