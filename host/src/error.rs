@@ -91,6 +91,8 @@ pub enum StorageError {
     InUse { path: PathBuf },
     /// The folder has rowsets, delete vectors or a JSON manifest, and no manifest that says which of them are live.
     NoManifest { path: PathBuf },
+    /// The manifest has bytes and no line. An opening would take all of it for a torn tail and replace it by an empty store's.
+    NotAManifest { path: PathBuf },
     /// A reopen in place while epochs are pinned.
     Pinned { epochs: usize },
     /// The archive that was linked does not lay out or number things as this crate does.
@@ -139,6 +141,9 @@ impl fmt::Display for StorageError {
                 "{} holds rowsets, delete vectors or a JSON manifest, and no manifest: it is not opened as an empty store",
                 path.display()
             ),
+            StorageError::NotAManifest { path } => {
+                write!(f, "no line ends in {}: it is no manifest, and is left as it is", path.display())
+            }
             StorageError::Pinned { epochs } => {
                 write!(f, "{epochs} epochs are pinned: a reopen would forget them")
             }

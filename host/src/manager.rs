@@ -14,7 +14,7 @@ use std::sync::mpsc::{channel, Receiver, Sender};
 use std::sync::{Arc, Condvar, Mutex, MutexGuard, PoisonError};
 
 /// A rewritten manifest always fits.
-const LONGEST_REWRITTEN: usize = 18_625;
+pub(crate) const LONGEST_REWRITTEN: usize = 18_625;
 /// No append is longer, since no manifest is.
 const LONGEST_MANIFEST: usize = 65_536;
 /// `B`, one `T` line and `E`, with numbers and a name as long as they come.
@@ -157,7 +157,12 @@ impl Inner {
         if first && (folder.has_json_manifest() || !NotLive::all(folder)?.is_empty()) {
             return Err(StorageError::NoManifest { path: folder.path().to_path_buf() });
         }
-        let (mut inner, rewritten) = Inner::bootstrap(&bytes.unwrap_or_default())?;
+        let bytes = bytes.unwrap_or_default();
+        let (mut inner, rewritten) = Inner::bootstrap(&bytes)?;
+        // An opening leaves whole lines behind before anything is appended, so this was never a manifest of this crate.
+        if !bytes.is_empty() && !bytes.contains(&b'\n') {
+            return Err(StorageError::NotAManifest { path: folder.path().join(files::MANIFEST_FILE_NAME) });
+        }
         let snapshot = inner.snapshot()?;
         let not_live = NotLive::find(folder, &snapshot)?;
         if first {

@@ -1,12 +1,9 @@
 //! A manifest's bytes, judged as an opening would judge them. Nothing is written and no lock is taken.
 use crate::error::StorageResult;
 use crate::ids::{RowsetId, TableId, VectorId};
-use crate::manager::{accepted, NextIds};
+use crate::manager::{accepted, NextIds, LONGEST_REWRITTEN};
 use crate::snapshot::Snapshot;
 use crate::sys;
-
-/// A rewritten manifest always fits.
-const LONGEST_REWRITTEN: usize = 18_625;
 
 /// What a store would show if it were opened with a manifest.
 #[derive(Clone, Debug, PartialEq, Eq)]

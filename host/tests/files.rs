@@ -142,6 +142,17 @@ fn a_folder_that_lost_its_manifest_is_not_opened_as_empty() {
 }
 
 #[test]
+fn bytes_without_a_line_are_no_manifest() {
+    for text in [&br#"{"Begin":null}"#[..], b"B", &[0; 4_096]] {
+        let folder = Folder::in_memory("foreign");
+        drop(folder.open());
+        fs::write(folder.manifest(), text).expect("a file");
+        assert!(matches!(VersionManager::open(folder.store()), Err(StorageError::NotAManifest { .. })));
+        assert_eq!(fs::read(folder.manifest()).expect("a file"), text);
+    }
+}
+
+#[test]
 fn manifests_that_are_refused_stay_as_they_are() {
     let texts: [(&[u8], u32, usize); 8] = [
         (&[b'x'; 65_537], 1, 0),
