@@ -51,7 +51,7 @@ use Rattle.plain_record.proofs.Stands.{inv-stays}
 use Rattle.plain_record.proofs.CommitFile.{append-taken, filed-after, torn-after}
 
 -- what the manager shows from now on is the record's last sets
-now-at : (w : World) (r : Record) → Inv w r → (d : ℕ) → w .manager .inner .epoch ≤ d → plainAt d (heldBy (w .manager)) ≡ r .whole .now
+pub now-at : (w : World) (r : Record) → Inv w r → (d : ℕ) → w .manager .inner .epoch ≤ d → plainAt d (heldBy (w .manager)) ≡ r .whole .now
 now-at w r i d h =
     let k = bound-le (guardsOf (heldBy (w .manager)) (w .book)) in
     let q : setsAt d (r .whole) ≡ r .whole .now = shows-now (r .whole .past) (r .whole .now) d (omega (arith, i .epoch)) in
@@ -207,7 +207,7 @@ module _ (w : World) (t : Told) (l : List (List ℕ)) (v : World) (n : ℕ) (out
       (ap (value 1) q, ap (λ (z : Sets). dropOperations n (z .pairs) (z .vectors)) (sym (now-at w r i (w .manager .inner .epoch) (omega arith))), made-laws .drop (w .manager .inner) n (length out) (i .sound) (d .narrow) (rw (i .sound) at a))))
 
 -- A compaction.
-few-new : (n : NewRowset) → length (newOf n) ≤ 1
+pub few-new : (n : NewRowset) → length (newOf n) ≤ 1
 few-new new.None = omega arith
 few-new (new.One r) = omega arith
 

@@ -66,7 +66,7 @@ apply-on o z =
     let d = editsOf o in
     rw (plain-edited (d .tables) (z .tables), ids-edited (d .pairs) (z .pairs), ids-edited (d .vectors) (z .vectors))
 
-apply-at : (e : ℕ) (o : Operation) (s : State) → 1 ≤ e → Ordered s → plainAt e (applied e o s) ≡ apply o (plainAt e s)
+pub apply-at : (e : ℕ) (o : Operation) (s : State) → 1 ≤ e → Ordered s → plainAt e (applied e o s) ≡ apply o (plainAt e s)
 apply-at e o s h r =
     sym (plain-of e (applied e o s))
     ∙ ap plainOf (effects.on-sets e o s h r)

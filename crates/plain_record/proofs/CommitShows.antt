@@ -19,7 +19,7 @@ use Rattle.version_state.proofs.Facts.{sound-of}
 use Rattle.plain_record.specs.Sets.{Sets}
 
 -- The record's past, with one more epoch.
-getD-more : (l : List Sets) (x y : Sets) (d : ℕ) → d ≤ length l → getD (l ++ (x ∷ [])) d y ≡ getD l d x
+pub getD-more : (l : List Sets) (x y : Sets) (d : ℕ) → d ≤ length l → getD (l ++ (x ∷ [])) d y ≡ getD l d x
 getD-more [] x y zero h = refl
 getD-more [] x y (suc d) h = absurd (not-suc-le-zero h)
 getD-more (z ∷ l) x y zero h = refl

@@ -41,15 +41,15 @@ map-arranged : {A : Type 0} (key : A → List ℕ) (l : List A) → map key (arr
 map-arranged key [] = refl
 map-arranged key (x ∷ l) = map-placed key x (arranged key l) ∙ ap (placed itself (key x)) (map-arranged key l)
 
-place-swap : (a b : List ℕ) (l : List (List ℕ)) → placed itself a (placed itself b l) ≡ placed itself b (placed itself a l)
+pub place-swap : (a b : List ℕ) (l : List (List ℕ)) → placed itself a (placed itself b l) ≡ placed itself b (placed itself a l)
 place-swap = placed-swap itself (λ x y h. h)
 
 -- keys placed one after another
-abbrev placedAll : List (List ℕ) → List (List ℕ) → List (List ℕ)
+abbrev pub placedAll : List (List ℕ) → List (List ℕ) → List (List ℕ)
 placedAll [] l = l
 placedAll (k ∷ ks) l = placedAll ks (placed itself k l)
 
-await-keys : (ws l : List Waiting) → map byEpochAndPair (await ws l) ≡ placedAll (map byEpochAndPair ws) (map byEpochAndPair l)
+pub await-keys : (ws l : List Waiting) → map byEpochAndPair (await ws l) ≡ placedAll (map byEpochAndPair ws) (map byEpochAndPair l)
 await-keys [] l = refl
 await-keys (w ∷ ws) l =
     await-keys ws (placed byEpochAndPair w l)

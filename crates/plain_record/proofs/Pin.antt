@@ -26,7 +26,7 @@ use Rattle.plain_record.proofs.Stands.{Stands, stands-of, accepted-stan
 filed-pins : (f : List ℕ) (s : State) (l : List PinEntry) (p : Plain) → Filed f s p → Filed f s (withPins l p)
 filed-pins f s l p k = record { state = k .state; holds = k .holds; same = k .same; long = k .long; next = k .next }
 
-with-pin : (e : ℕ) (l : List PinEntry) → withPin (placeOn e) l ≡ onePin e l
+pub with-pin : (e : ℕ) (l : List PinEntry) → withPin (placeOn e) l ≡ onePin e l
 with-pin e l = rw (ne-eqb (pinsAt (placeOn e) l + 1) 0 (omega arith))
 
 -- a book with other pins, whose bound is not lower

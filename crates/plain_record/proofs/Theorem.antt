@@ -55,12 +55,12 @@ start-inv o f =
       torn = nothing-yet;
     }
 
-starts : (w : World) → Starts port w → Inv w atStart
+pub starts : (w : World) → Starts port w → Inv w atStart
 starts w s = subst (λ (x : World). Inv x atStart) (sym (s .fresh)) (start-inv (s .opened) (s .says))
 
 -- One turn, by its call.
 
-turned : (c : Call) (e : Event) (r : Record) → Inv (e .before) r → LinkBy port (e .before) (e .told) (e .listed) (e .after) c → Kept r e (kindOf c)
+pub turned : (c : Call) (e : Event) (r : Record) → Inv (e .before) r → LinkBy port (e .before) (e .told) (e .listed) (e .after) c → Kept r e (kindOf c)
 turned drawRowset e r i d = record { inv = draw-rowset-kept (value 0 (e .told)) (e .before) r (e .told) (e .listed) (e .after) i d; answer = tt }
 turned drawVector e r i d = record { inv = draw-vector-kept (value 0 (e .told)) (e .before) r (e .told) (e .listed) (e .after) i d; answer = tt }
 turned (group h rs ls cs fs ms) e r i d = record { inv = group-kept (value 0 (e .told)) (e .before) r (e .told) (e .listed) (e .after) i h rs ls cs fs ms d; answer = tt }

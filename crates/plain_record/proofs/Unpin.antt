@@ -25,7 +25,7 @@ use Rattle.plain_record.proofs.Invariant.{Inv}
 use Rattle.plain_record.proofs.Stands.{Stands, stands-of, accepted-stands, onward-kept}
 use Rattle.plain_record.proofs.Pin.{stands-pins}
 
-without-pin : (e : ℕ) (l : List PinEntry) → withoutPin (placeOn e) l ≡ oneLess e l
+pub without-pin : (e : ℕ) (l : List PinEntry) → withoutPin (placeOn e) l ≡ oneLess e l
 without-pin e l =
     let n = pinsAt (placeOn e) l in
     by-cases (leb n 1)

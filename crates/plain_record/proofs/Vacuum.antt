@@ -50,7 +50,7 @@ all-arranged : {A : Type 0} (key : A → List ℕ) (P : A → Type 0) (l : List 
 all-arranged key P [] h = tt
 all-arranged key P (x ∷ l) h = all-placed key P x (arranged key l) (h .0) (all-arranged key P l (h .1))
 
-map-map : {A B C : Type 0} (f : A → B) (g : B → C) (l : List A) → map g (map f l) ≡ map (λ x. g (f x)) l
+pub map-map : {A B C : Type 0} (f : A → B) (g : B → C) (l : List A) → map g (map f l) ≡ map (λ x. g (f x)) l
 map-map f g [] = refl
 map-map f g (x ∷ l) = ap (λ k. g (f x) ∷ k) (map-map f g l)
 

@@ -1,0 +1,246 @@
+-- A start: it does not fail on what was written, shows it, and writes it anew. Assumes nothing.
+use mathlib.Core.Path.{_≡_, refl, sym, ap, subst, _∙_}
+use mathlib.Core.Bool.{Bool, true, false, cond, not, _&&_, _||_}
+use mathlib.Core.List.{List, [], _∷_, _++_, map}
+use Prim.Native.Nat.{ℕ}
+use Rattle.lists.specs.Order.{same}
+use Rattle.lists.specs.Keyed.{keep, allOf, isAt, has, arranged}
+use Rattle.lists.proofs.Tests.{by-cases, clash, join}
+use Rattle.lists.proofs.Order.{same-refl}
+use Rattle.lists.proofs.Keyed.{All, all-map, all-any, all-append, all-mapped, all-allOf, kept-all}
+use Rattle.manifest.specs.Operations.{Operation, createTable, dropTable, addRowset, deleteRowset, addVector, deleteVector, nextIds}
+use Rattle.manifest.specs.Edits.{Edit, leaves, adds, deletes, Table, editsOf}
+use Rattle.plain_record.specs.Sets.{Sets, none, byId, itself, apply, applyAll}
+use Rattle.risinglight.specs.Maps.{Outcome, fails, ok, andThen}
+use Rattle.risinglight.specs.Manifest.{Value, frame, replaying, replay}
+use Rattle.risinglight.specs.Snapshot.{default}
+use Rattle.risinglight.specs.VersionManager.{fresh, Changing, changing, committed}
+use Rattle.risinglight.specs.Storage.{apply-table, apply-tables, Rowset, pairOf, openRowset, rowsets-to-open, Dv, tripleOf, openDv, dvs-to-open, isOfTable, table-changeset, changeset, openable, Storage, storage, bootstrap}
+use Rattle.risinglight.proofs.Fitting.{Finds, FindsAll}
+use Rattle.risinglight.proofs.Changes.{Shows, deletedBy, deletedAll, changed}
+use Rattle.risinglight.proofs.Files.{any-arranged, tables-append, rowsets-append, dvs-append, instead, frame-replayed, Boots, Filed, rowsets-alike, dvs-alike}
+
+-- the operations that open rowsets, and those that open vectors
+abbrev opens : Rowset → Operation
+opens x = addRowset (x .table) (x .rowset)
+
+abbrev opensDv : Dv → Operation
+opensDv x = addVector (x .table) (x .rowset) (x .dv)
+
+-- Operations that delete nothing.
+abbrev AddsOnly : {A : Type 0} → Edit A → Type 0
+AddsOnly leaves = Unit {0}
+AddsOnly (adds x) = Unit {0}
+AddsOnly (deletes k) = ⊥
+
+record Deletionless (o : Operation) : Type 0 where
+  pairs : AddsOnly (editsOf o .pairs)
+  vectors : AddsOnly (editsOf o .vectors)
+
+finds-any : (d : Edit (List ℕ)) (l : List (List ℕ)) → AddsOnly d → Finds d l
+finds-any leaves l h = tt
+finds-any (adds k) l h = tt
+finds-any (deletes k) l h = absurd h
+
+deletes-none : (d : Edit (List ℕ)) → AddsOnly d → deletedBy d ≡ []
+deletes-none leaves h = refl
+deletes-none (adds k) h = refl
+deletes-none (deletes k) h = absurd h
+
+finds-all : (os : List Operation) (x : Sets) → All Deletionless os → FindsAll os x
+finds-all [] x h = tt
+finds-all (o ∷ os) x h =
+    (record { pairs = finds-any (editsOf o .pairs) (x .pairs) (h .0 .pairs); vectors = finds-any (editsOf o .vectors) (x .vectors) (h .0 .vectors) }, finds-all os (apply o x) (h .1))
+
+none-deleted : (os : List Operation) → All Deletionless os → deletedAll os ≡ []
+none-deleted [] h = refl
+none-deleted (o ∷ os) h = ap (λ l. l ++ deletedAll os) (deletes-none (editsOf o .pairs) (h .0 .pairs)) ∙ none-deleted os (h .1)
+
+-- Operations of tables leave the rest.
+record OfTable (o : Operation) : Type 0 where
+  deletionless : Deletionless o
+  rowsets : (l : List Rowset) → openRowset o l ≡ l
+  dvs : (l : List Dv) → openDv o l ≡ l
+
+of-table : (o : Operation) → isOfTable o ≡ true → OfTable o
+of-table (createTable t h n) e = record { deletionless = record { pairs = tt; vectors = tt }; rowsets = λ l. refl; dvs = λ l. refl }
+of-table (dropTable t) e = record { deletionless = record { pairs = tt; vectors = tt }; rowsets = λ l. refl; dvs = λ l. refl }
+of-table (addRowset t r) e = clash e refl
+of-table (deleteRowset t r) e = clash e refl
+of-table (addVector t r v) e = clash e refl
+of-table (deleteVector t r v) e = clash e refl
+of-table (nextIds t r v) e = clash e refl
+
+all-of-table : (ops : List Operation) → All OfTable (table-changeset ops)
+all-of-table ops = all-map (table-changeset ops) of-table (kept-all isOfTable ops)
+
+changeset-tables : (ops : List Operation) (l : List Table) → apply-tables (table-changeset ops) l ≡ apply-tables ops l
+changeset-tables [] l = refl
+changeset-tables (createTable t h n ∷ ops) l = then-same (apply-table (createTable t h n) l) (changeset-tables ops)
+  where
+    then-same : (x : Outcome (List Table)) → ((m : List Table) → apply-tables (table-changeset ops) m ≡ apply-tables ops m)
+        → andThen x (apply-tables (table-changeset ops)) ≡ andThen x (apply-tables ops)
+    then-same fails ih = refl
+    then-same (ok m) ih = ih m
+changeset-tables (dropTable t ∷ ops) l = then-same (apply-table (dropTable t) l) (changeset-tables ops)
+  where
+    then-same : (x : Outcome (List Table)) → ((m : List Table) → apply-tables (table-changeset ops) m ≡ apply-tables ops m)
+        → andThen x (apply-tables (table-changeset ops)) ≡ andThen x (apply-tables ops)
+    then-same fails ih = refl
+    then-same (ok m) ih = ih m
+changeset-tables (addRowset t r ∷ ops) l = changeset-tables ops l
+changeset-tables (deleteRowset t r ∷ ops) l = changeset-tables ops l
+changeset-tables (addVector t r v ∷ ops) l = changeset-tables ops l
+changeset-tables (deleteVector t r v ∷ ops) l = changeset-tables ops l
+changeset-tables (nextIds t r v ∷ ops) l = changeset-tables ops l
+
+-- Operations that leave one of the three.
+tables-stay : (os : List Operation) (l : List Table) → All (λ o. apply-table o l ≡ ok l) os → apply-tables os l ≡ ok l
+tables-stay [] l h = refl
+tables-stay (o ∷ os) l h = ap (λ x. andThen x (apply-tables os)) (h .0) ∙ tables-stay os l (h .1)
+
+rowsets-stay : (os : List Operation) (l : List Rowset) → All (λ o. (m : List Rowset) → openRowset o m ≡ m) os → rowsets-to-open os l ≡ l
+rowsets-stay [] l h = refl
+rowsets-stay (o ∷ os) l h = ap (rowsets-to-open os) (h .0 l) ∙ rowsets-stay os l (h .1)
+
+dvs-stay : (os : List Operation) (l : List Dv) → All (λ o. (m : List Dv) → openDv o m ≡ m) os → dvs-to-open os l ≡ l
+dvs-stay [] l h = refl
+dvs-stay (o ∷ os) l h = ap (dvs-to-open os) (h .0 l) ∙ dvs-stay os l (h .1)
+
+shuffle : (a b c : Bool) → b || (a || c) ≡ (a || b) || c
+shuffle true true c = refl
+shuffle true false c = refl
+shuffle false b c = refl
+
+rowsets-opened : (k : List ℕ) (rs l : List Rowset) → has pairOf k (rowsets-to-open (map opens rs) l) ≡ has pairOf k rs || has pairOf k l
+rowsets-opened k [] l = refl
+rowsets-opened k (x ∷ rs) l =
+    rowsets-opened k rs (openRowset (opens x) l)
+    ∙ ap (λ b. has pairOf k rs || b) (instead pairOf k x l)
+    ∙ shuffle (same (pairOf x) k) (has pairOf k rs) (has pairOf k l)
+
+dvs-opened : (k : List ℕ) (vs l : List Dv) → has tripleOf k (dvs-to-open (map opensDv vs) l) ≡ has tripleOf k vs || has tripleOf k l
+dvs-opened k [] l = refl
+dvs-opened k (x ∷ vs) l =
+    dvs-opened k vs (openDv (opensDv x) l)
+    ∙ ap (λ b. has tripleOf k vs || b) (instead tripleOf k x l)
+    ∙ shuffle (same (tripleOf x) k) (has tripleOf k vs) (has tripleOf k l)
+
+or-none : (b : Bool) → b || false ≡ b
+or-none true = refl
+or-none false = refl
+
+-- The changeset of what is opened.
+module _ (rs : List Rowset) (vs : List Dv) (ops : List Operation) where
+  abbrev ts : List Operation
+  ts = table-changeset ops
+
+  abbrev cs : List Operation
+  cs = changeset rs vs ts
+
+  deletionless : All Deletionless cs
+  deletionless =
+      all-append Deletionless (map opens rs) (map opensDv vs ++ ts)
+      (all-mapped Deletionless opens rs (all-any rs (λ x. record { pairs = tt; vectors = tt })))
+      (all-append Deletionless (map opensDv vs) ts
+      (all-mapped Deletionless opensDv vs (all-any vs (λ x. record { pairs = tt; vectors = tt })))
+      (all-map ts (λ o h. h .deletionless) (all-of-table ops)))
+
+  tables-of : apply-tables cs [] ≡ apply-tables ops []
+  tables-of =
+      tables-append (map opens rs) (map opensDv vs ++ ts) []
+      ∙ ap (λ x. andThen x (apply-tables (map opensDv vs ++ ts))) (tables-stay (map opens rs) [] (all-mapped (λ o. apply-table o [] ≡ ok []) opens rs (all-any rs (λ x. refl))))
+      ∙ tables-append (map opensDv vs) ts []
+      ∙ ap (λ x. andThen x (apply-tables ts)) (tables-stay (map opensDv vs) [] (all-mapped (λ o. apply-table o [] ≡ ok []) opensDv vs (all-any vs (λ x. refl))))
+      ∙ changeset-tables ops []
+
+  rowsets-of : (k : List ℕ) → has pairOf k (rowsets-to-open cs []) ≡ has pairOf k rs
+  rowsets-of k =
+      ap (has pairOf k)
+      (rowsets-append (map opens rs) (map opensDv vs ++ ts) []
+      ∙ rowsets-append (map opensDv vs) ts (rowsets-to-open (map opens rs) [])
+      ∙ ap (rowsets-to-open ts) (rowsets-stay (map opensDv vs) (rowsets-to-open (map opens rs) []) (all-mapped (λ o. (m : List Rowset) → openRowset o m ≡ m) opensDv vs (all-any vs (λ x m. refl))))
+      ∙ rowsets-stay ts (rowsets-to-open (map opens rs) []) (all-map ts (λ o h. h .rowsets) (all-of-table ops)))
+      ∙ rowsets-opened k rs []
+      ∙ or-none (has pairOf k rs)
+
+  dvs-of : (k : List ℕ) → has tripleOf k (dvs-to-open cs []) ≡ has tripleOf k vs
+  dvs-of k =
+      ap (has tripleOf k)
+      (dvs-append (map opens rs) (map opensDv vs ++ ts) []
+      ∙ ap (dvs-to-open (map opensDv vs ++ ts)) (dvs-stay (map opens rs) [] (all-mapped (λ o. (m : List Dv) → openDv o m ≡ m) opens rs (all-any rs (λ x m. refl))))
+      ∙ dvs-append (map opensDv vs) ts []
+      ∙ dvs-stay ts (dvs-to-open (map opensDv vs) []) (all-map ts (λ o h. h .dvs) (all-of-table ops)))
+      ∙ dvs-opened k vs []
+      ∙ or-none (has tripleOf k vs)
+
+-- every pair and vector has its table
+pub record Whole (x : Sets) : Type 0 where
+  pub pairs : (t r : ℕ) → has itself (t ∷ r ∷ []) (x .pairs) ≡ true → has byId (t ∷ []) (x .tables) ≡ true
+  pub vectors : (t r v : ℕ) → has itself (t ∷ r ∷ v ∷ []) (x .vectors) ≡ true → has byId (t ∷ []) (x .tables) ≡ true
+
+members : {A : Type 0} (key : A → List ℕ) (l m : List A) → ((k : List ℕ) → has key k l ≡ true → has key k m ≡ true) → All (λ x. has key (key x) m ≡ true) l
+members key [] m h = tt
+members key (x ∷ l) m h = (h (key x) (rw (same-refl (key x))), members key l m (λ k e. h k (by-cases (same (key x) k) (λ f. rw f) (λ f. rw f e))))
+
+pub record Started (f : List Value) (x : Sets) : Type 0 where
+  pub result : Storage
+  pub runs : bootstrap f ≡ ok result
+  pub catalog : arranged byId (result .catalog) ≡ x .tables
+  pub changing : Changing
+  pub version : result .version ≡ committed fresh changing
+  pub shows : Shows (changing .snapshot) x
+  pub deletions : changing .deletions ≡ []
+  pub filed : Filed (result .manifest) x
+
+module _ (f : List Value) (x : Sets) (b : Boots (replay f) x) (w : Whole x) where
+  abbrev ops : List Operation
+  ops = replay f
+
+  abbrev rows : List Rowset
+  rows = rowsets-to-open ops []
+
+  abbrev dvs : List Dv
+  dvs = dvs-to-open ops []
+
+  abbrev written : List Operation
+  written = changeset rows dvs (table-changeset ops)
+
+  in-catalog : (t : ℕ) → has byId (t ∷ []) (x .tables) ≡ true → has byId (t ∷ []) (b .catalog) ≡ true
+  in-catalog t h = sym (any-arranged byId (isAt byId (t ∷ [])) (b .catalog)) ∙ ap (has byId (t ∷ [])) (b .tables) ∙ h
+
+  rows-have : allOf (λ (y : Rowset). has byId (y .table ∷ []) (b .catalog)) rows ≡ true
+  rows-have =
+      all-allOf (λ (y : Rowset). has byId (y .table ∷ []) (b .catalog)) rows
+      (all-map rows (λ y h. in-catalog (y .table) (w .pairs (y .table) (y .rowset) (b .rowsets (pairOf y) ∙ h))) (members pairOf rows rows (λ k e. e)))
+
+  dvs-have : allOf (λ (y : Dv). has byId (y .table ∷ []) (b .catalog)) dvs ≡ true
+  dvs-have =
+      all-allOf (λ (y : Dv). has byId (y .table ∷ []) (b .catalog)) dvs
+      (all-map dvs (λ y h. in-catalog (y .table) (w .vectors (y .table) (y .rowset) (y .dv) (b .dvs (tripleOf y) ∙ h))) (members tripleOf dvs dvs (λ k e. e)))
+
+  pub starts : Started f x
+  starts =
+      let c = changed written (changing default []) none (record { pairs = λ t r. refl; vectors = λ t r v. refl }) (finds-all written none (deletionless rows dvs ops)) in
+      let boots : Boots written x =
+          record {
+            catalog = b .catalog;
+            runs = tables-of rows dvs ops ∙ b .runs;
+            tables = b .tables;
+            rowsets = λ k. b .rowsets k ∙ sym (rowsets-of rows dvs ops k);
+            dvs = λ k. b .dvs k ∙ sym (dvs-of rows dvs ops k);
+          } in
+      record {
+        result = storage (b .catalog) (committed fresh (c .left)) (frame written);
+        runs = rw (b .runs, rows-have, dvs-have, c .runs);
+        catalog = b .tables;
+        changing = c .left;
+        version = refl;
+        shows =
+            record {
+              pairs = λ t r. boots .rowsets (t ∷ r ∷ []) ∙ sym (rowsets-alike written none [] (λ k. refl) (t ∷ r ∷ [])) ∙ c .shows .pairs t r;
+              vectors = λ t r v. boots .dvs (t ∷ r ∷ v ∷ []) ∙ sym (dvs-alike written none [] (λ k. refl) (t ∷ r ∷ v ∷ [])) ∙ c .shows .vectors t r v;
+            };
+        deletions = c .deletions ∙ none-deleted written (deletionless rows dvs ops);
+        filed = record { ops = written; read = frame-replayed written []; boots = boots };
+      }

@@ -1,0 +1,118 @@
+-- `VersionManagerInner` and the methods of `VersionManager` and `Version`, of version_manager.rs. Assumes nothing.
+use mathlib.Core.Bool.{Bool, true, false, cond, not}
+use mathlib.Core.List.{List, [], _∷_, _++_}
+use Prim.Native.Nat.{ℕ, _+_, _-_, min}
+use lib.Dec.{eqb, leb}
+use Rattle.lists.specs.Keyed.{keep}
+use Rattle.manifest.specs.Operations.{Operation, createTable, dropTable, addRowset, deleteRowset, addVector, deleteVector, nextIds}
+use Rattle.risinglight.specs.Maps.{Outcome, fails, ok, andThen, Option, none, some, unwrap, unwrapOr, Binding, get, insert, remove, keys}
+use Rattle.risinglight.specs.Snapshot.{Snapshot, default, add-rowset, delete-rowset, add-dv, delete-dv}
+
+-- what is in the pools of rowsets and of vectors is in no answer, and left out
+pub record Inner : Type 0 where
+  pub status : List (Binding Snapshot)
+  pub ref-cnt : List (Binding ℕ)
+  -- by epoch: pairs (table, rowset)
+  pub rowset-deletion-to-apply : List (Binding (List (List ℕ)))
+  pub epoch : ℕ
+
+abbrev pub inner : List (Binding Snapshot) → List (Binding ℕ) → List (Binding (List (List ℕ))) → ℕ → Inner
+inner s c d e = record { status = s; ref-cnt = c; rowset-deletion-to-apply = d; epoch = e }
+
+-- `VersionManagerInner::default`
+abbrev pub fresh : Inner
+fresh = inner [] [] [] 0
+
+-- `commit-changes`: the snapshot and the deletions, operation by operation
+pub record Changing : Type 0 where
+  pub snapshot : Snapshot
+  pub deletions : List (List ℕ)
+
+abbrev pub changing : Snapshot → List (List ℕ) → Changing
+changing s d = record { snapshot = s; deletions = d }
+
+abbrev pub change : Operation → Changing → Outcome Changing
+change (createTable t h n) c = ok c
+change (dropTable t) c = ok c
+change (addRowset t r) c = ok (changing (add-rowset t r (c .snapshot)) (c .deletions))
+change (deleteRowset t r) c = andThen (delete-rowset t r (c .snapshot)) (λ s. ok (changing s (c .deletions ++ ((t ∷ r ∷ []) ∷ []))))
+change (addVector t r v) c = ok (changing (add-dv t r v (c .snapshot)) (c .deletions))
+change (deleteVector t r v) c = andThen (delete-dv t r v (c .snapshot)) (λ s. ok (changing s (c .deletions)))
+change (nextIds t r v) c = ok c
+
+abbrev pub changes : List Operation → Changing → Outcome Changing
+changes [] c = ok c
+changes (o ∷ os) c = andThen (change o c) (changes os)
+
+abbrev pub latest : Inner → Snapshot
+latest m = unwrapOr default (get (m .epoch) (m .status))
+
+abbrev pub committed : Inner → Changing → Inner
+committed m c =
+    inner (insert (m .epoch + 1) (c .snapshot) (m .status)) (m .ref-cnt) (insert (m .epoch + 1) (c .deletions) (m .rowset-deletion-to-apply)) (m .epoch + 1)
+
+-- the new epoch is the answer
+abbrev pub commit-changes : List Operation → Inner → Outcome Inner
+commit-changes ops m = andThen (changes ops (changing (latest m) [])) (λ c. ok (committed m c))
+
+-- `pin`: the `Version`, and what is left
+pub record Pinned : Type 0 where
+  pub epoch : ℕ
+  pub snapshot : Snapshot
+  pub left : Inner
+
+abbrev pub withCounts : List (Binding ℕ) → Inner → Inner
+withCounts c m = inner (m .status) c (m .rowset-deletion-to-apply) (m .epoch)
+
+abbrev pub pin : Inner → Outcome Pinned
+pin m =
+    let n = unwrapOr 0 (get (m .epoch) (m .ref-cnt)) in
+    andThen (unwrap (get (m .epoch) (m .status)))
+    (λ s. ok (record { epoch = m .epoch; snapshot = s; left = withCounts (insert (m .epoch) (n + 1) (m .ref-cnt)) m }))
+
+-- `Drop` of a `Version` of epoch e: whether a notice is sent, and what is left
+pub record Dropped : Type 0 where
+  pub notice : Bool
+  pub left : Inner
+
+abbrev pub dropped : Bool → Inner → Dropped
+dropped b m = record { notice = b; left = m }
+
+abbrev pub drop : ℕ → Inner → Outcome Dropped
+drop e m =
+    andThen (unwrap (get e (m .ref-cnt)))
+    (λ n. ok (cond (eqb (n - 1) 0)
+    (dropped (not (eqb e (m .epoch))) (withCounts (remove e (m .ref-cnt)) m))
+    (dropped false (withCounts (insert e (n - 1) (m .ref-cnt)) m))))
+
+-- `find-vacuum`
+abbrev pub smallest : ℕ → List ℕ → ℕ
+smallest x [] = x
+smallest x (y ∷ l) = min x (smallest y l)
+
+abbrev pub minimum : List ℕ → Option ℕ
+minimum [] = none
+minimum (x ∷ l) = some (smallest x l)
+
+abbrev pub vacuum-epoch : Inner → ℕ
+vacuum-epoch m = unwrapOr (m .epoch) (minimum (keys (m .ref-cnt)))
+
+abbrev pub can-apply : Inner → Binding (List (List ℕ)) → Bool
+can-apply m b = leb (b .key) (vacuum-epoch m)
+
+abbrev pub extended : List (Binding (List (List ℕ))) → List (List ℕ)
+extended [] = []
+extended (b ∷ l) = b .value ++ extended l
+
+-- the deletions, and what is left
+pub record Vacuumed : Type 0 where
+  pub deletions : List (List ℕ)
+  pub left : Inner
+
+abbrev pub find-vacuum : Inner → Vacuumed
+find-vacuum m =
+    let d = m .rowset-deletion-to-apply in
+    record {
+      deletions = extended (keep (can-apply m) d);
+      left = inner (m .status) (m .ref-cnt) (keep (λ b. not (can-apply m b)) d) (m .epoch);
+    }
