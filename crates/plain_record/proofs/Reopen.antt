@@ -49,13 +49,13 @@ module _ (src : List ℕ) (s : State) (h : replayOf src ≡ given s) where
   whole : Whole s
   whole = whole-replayed src s h
 
-  pairs-stand : All Standing (s .pairs)
+  pub pairs-stand : All Standing (s .pairs)
   pairs-stand = all-both (s .pairs) (λ x a b. record { added = a .added; stands = b }) (whole .rests .kept .pairs) (whole .rests .pairs)
 
-  vectors-stand : All Standing (s .vectors)
+  pub vectors-stand : All Standing (s .vectors)
   vectors-stand = all-both (s .vectors) (λ x a b. record { added = a .added; stands = b }) (whole .rests .kept .vectors) (whole .rests .vectors)
 
-  at-one : s .epoch ≡ 1
+  pub at-one : s .epoch ≡ 1
   at-one = whole .rests .kept .epoch
 
   pairs-at : (d : ℕ) → 1 ≤ d → pairsAt d s ≡ pairsAt (s .epoch) s

@@ -208,6 +208,10 @@ module _ (w : World) (r : Record) (t : Told) (l : List (List ℕ)) (v : World) (
   lists-by Accepted ts′ rs′ e f g a = (rw (e, f, g) (pairs-written list ts rs (two-ids inner to)), rw e)
   lists-by (Refused q) ts′ rs′ e f g a = clash a (rw e (refused-number q))
 
+  -- what it lists, by the slices that it left
+  pub vacuum-pairs : isAccepted t ≡ true → l ≡ map (λ (x : Entry). x .ids) list
+  vacuum-pairs a = d .listed ∙ lists-by verdict (d .tables) (d .rowsets) tells (d .says .tables) (d .says .rowsets) a .0
+
   -- it lists what the record lists, and answers how many these are
   pub vacuum-lists : isAccepted t ≡ true → (l ≡ pairsOf (listed (r .whole))) × (value 0 t ≡ length l)
   vacuum-lists a =

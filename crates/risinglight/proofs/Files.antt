@@ -18,7 +18,7 @@ use Rattle.plain_record.proofs.Vacuum.{keep-arranged}
 use Rattle.risinglight.specs.Maps.{Outcome, fails, ok, andThen}
 use Rattle.risinglight.specs.Manifest.{Value, Begin, End, entry, frame, Replaying, replaying, next, replayFrom, replay}
 use Rattle.risinglight.specs.Storage.{apply-table, apply-tables, Rowset, pairOf, openRowset, rowsets-to-open, Dv, tripleOf, openDv, dvs-to-open, isOfTable, table-changeset, changeset}
-use Rattle.risinglight.proofs.Maps.{has-without}
+use Rattle.risinglight.proofs.Maps.{has-without, instead}
 use Rattle.risinglight.proofs.Fitting.{TableFinds, Finds, FindsAt, FindsAll, TablesFind}
 
 -- The catalog.
@@ -83,10 +83,6 @@ rowsets-append (o ∷ os) ps l = rowsets-append os ps (openRowset o l)
 pub dvs-append : (os ps : List Operation) (l : List Dv) → dvs-to-open (os ++ ps) l ≡ dvs-to-open ps (dvs-to-open os l)
 dvs-append [] ps l = refl
 dvs-append (o ∷ os) ps l = dvs-append os ps (openDv o l)
-
--- x in the place of what had its key
-pub instead : {A : Type 0} (key : A → List ℕ) (k : List ℕ) (x : A) (l : List A) → has key k (x ∷ without key (key x) l) ≡ same (key x) k || has key k l
-instead key k x l = by-cases (same (key x) k) (λ e. rw e) (λ e. rw e (has-without key k (key x) l ∙ rw e))
 
 -- the same ids on both sides
 abbrev pub Alike : {A : Type 0} → (A → List ℕ) → List (List ℕ) → List A → Type 0
@@ -185,9 +181,17 @@ filed-more f os x t k =
 pub found-whole : (f : List Value) (x : Sets) → Filed f x → Boots (replay f) x
 found-whole f x k = subst (λ (o : List Operation). Boots o x) (sym (ap (λ (s : Replaying). s .ops) (k .read))) (k .boots)
 
+-- what is read of it
+pub replay-more : (f : List Value) (os : List Operation) (x : Sets) → Filed f x → replay (f ++ frame os) ≡ replay f ++ os
+replay-more f os x k =
+    ap (λ (s : Replaying). s .ops) (replay-append f (frame os) (replaying [] [] false) ∙ ap (replayFrom (frame os)) (k .read) ∙ frame-replayed os (k .ops))
+    ∙ sym (ap (λ (s : Replaying). s .ops ++ os) (k .read))
+
+pub replay-part : (f : List Value) (os : List Operation) (x : Sets) (j : ℕ) → j < length (frame os) → Filed f x → replay (f ++ take j (frame os)) ≡ replay f
+replay-part f os x j h k =
+    ap (λ (s : Replaying). s .ops) (replay-append f (take j (frame os)) (replaying [] [] false) ∙ ap (replayFrom (take j (frame os))) (k .read))
+    ∙ part-replayed os (k .ops) j h
+    ∙ sym (ap (λ (s : Replaying). s .ops) (k .read))
+
 pub found-part : (f : List Value) (os : List Operation) (x : Sets) (j : ℕ) → j < length (frame os) → Filed f x → Boots (replay (f ++ take j (frame os))) x
-found-part f os x j h k =
-    let q : replay (f ++ take j (frame os)) ≡ k .ops =
-        ap (λ (s : Replaying). s .ops) (replay-append f (take j (frame os)) (replaying [] [] false) ∙ ap (replayFrom (take j (frame os))) (k .read))
-        ∙ part-replayed os (k .ops) j h in
-    subst (λ (o : List Operation). Boots o x) (sym q) (k .boots)
+found-part f os x j h k = subst (λ (o : List Operation). Boots o x) (sym (replay-part f os x j h k)) (found-whole f x k)

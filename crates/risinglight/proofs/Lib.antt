@@ -7,5 +7,7 @@ pub mod Deletions
 pub mod Counts
 pub mod Files
 pub mod Starts
+pub mod Pools
 pub mod Relation
+pub mod Held
 pub mod Theorem

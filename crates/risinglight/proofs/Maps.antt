@@ -66,3 +66,16 @@ module _ {X : Type 0} where
 pub get-settled : {A : Type 0} (k j : ℕ) (l : List A) (m : List (Binding (List A))) → unwrapOr [] (get k (settled j l m)) ≡ cond (eqb j k) l (unwrapOr [] (get k m))
 get-settled k j [] m = rw (get-remove k j m) (by-cases (eqb j k) (λ e. rw e) (λ e. rw e))
 get-settled k j (x ∷ l) m = rw (get-insert k j (x ∷ l) m) (by-cases (eqb j k) (λ e. rw e) (λ e. rw e))
+
+-- x in the place of what had its key
+pub instead : {A : Type 0} (key : A → List ℕ) (k : List ℕ) (x : A) (l : List A) → has key k (x ∷ without key (key x) l) ≡ same (key x) k || has key k l
+instead key k x l = by-cases (same (key x) k) (λ e. rw e) (λ e. rw e (has-without key k (key x) l ∙ rw e))
+
+pub shuffle : (a b c : Bool) → b || (a || c) ≡ (a || b) || c
+shuffle true true c = refl
+shuffle true false c = refl
+shuffle false b c = refl
+
+pub or-none : (b : Bool) → b || false ≡ b
+or-none true = refl
+or-none false = refl

@@ -1,6 +1,6 @@
 -- What holds between two calls of the Rust's state beside the plain record, and what each of its calls does to it. Assumes nothing.
 use mathlib.Core.Path.{_≡_, refl, sym, ap, subst, _∙_}
-use mathlib.Core.Bool.{Bool, true, false, cond, not, _&&_}
+use mathlib.Core.Bool.{Bool, true, false, cond, not, _&&_, _||_}
 use mathlib.Core.List.{List, [], _∷_, _++_, map}
 use Prim.Native.Nat.{ℕ, zero, suc, _+_, _-_, _≤_, _<_, min}
 use native.Mathlib.Omega.{arith}
@@ -9,7 +9,7 @@ use lib.ListN.{length, take, getD, length-append}
 use lib.Seq.{take-all}
 use borrow.Author.Tests.{eq-eqb, ne-eqb, eqb-true, eqb-false, leb-true, leb-false}
 use Rattle.lists.specs.Order.{same}
-use Rattle.lists.specs.Keyed.{keep, arranged}
+use Rattle.lists.specs.Keyed.{keep, has, arranged}
 use Rattle.lists.proofs.Tests.{by-cases, clash}
 use Rattle.lists.proofs.Keyed.{All, all-keep, all-map, keep-same, keep-map}
 use Rattle.manifest.specs.Operations.{Operation}
@@ -35,12 +35,12 @@ use Rattle.risinglight.specs.Run.{Engine, engine, landing, landed}
 use Rattle.risinglight.specs.Agreement.{deletionsIn}
 use Rattle.risinglight.proofs.Maps.{get-insert, get-remove}
 use Rattle.risinglight.proofs.Fitting.{Found}
-use Rattle.risinglight.proofs.Changes.{Shows, Changed, changed}
+use Rattle.risinglight.proofs.Changes.{Shows, addsAny, ofPairs, ofVectors, Changed, changed}
 use Rattle.risinglight.proofs.Deletions.{UpTo, up-later, arranged-append, arranged-map, deleted-keys, inserted, deletions-kept, pairIn, extended-pairs, epochs-up}
 use Rattle.risinglight.proofs.Counts.{counted-back, counted-some, Pinning, applies}
 use Rattle.risinglight.proofs.Counts as counts
 use Rattle.risinglight.proofs.Files.{Follows, follows, Boots, Filed, filed-more, found-whole, found-part}
-use Rattle.risinglight.proofs.Starts.{Whole, starts}
+use Rattle.risinglight.proofs.Starts.{Whole, Started, starts}
 
 abbrev pub Showing : Option Snapshot → Sets → Type 0
 Showing none x = ⊥
@@ -62,16 +62,16 @@ pub record Rel (g : Engine) (r : Record) : Type 0 where
   pub torn : Boots (replay (g .torn)) (r .torn .now)
 
 -- a call that finds everything landed
-pub rel-landed : (s : Storage) (p : Plain) (n : ℕ) → Beside s p → Rel (engine s (s .manifest)) (recorded p p n)
-rel-landed s p n b = record { whole = b; torn = found-whole (s .manifest) (p .now) (b .file) }
+pub rel-landed : (s : Storage) (p : Plain) (starts n : ℕ) → Beside s p → Rel (engine s (s .manifest) starts) (recorded p p n)
+rel-landed s p starts n b = record { whole = b; torn = found-whole (s .manifest) (p .now) (b .file) }
 
 -- A commit.
 module _ (s : Storage) (p : Plain) (b : Beside s p) (os : List Operation) (f : Found os (p .now)) (c : ℕ) where
   abbrev m : Inner
   m = s .version
 
-  change : Changed os (changing (latest m) []) (p .now)
-  change = changed os (changing (latest m) []) (p .now) (b .now) (f .ids)
+  change : Changed os (changing (latest m) (m .rowsets) (m .dvs) []) (p .now)
+  change = changed os (changing (latest m) (m .rowsets) (m .dvs) []) (p .now) (b .now) (f .ids)
 
   follow : Follows os (s .catalog) (p .now)
   follow = follows os (s .catalog) (p .now) (b .catalog) (f .tables)
@@ -119,7 +119,7 @@ module _ (s : Storage) (p : Plain) (b : Beside s p) (os : List Operation) (f : F
       ∙ sym (await-keys (deletions c (epochOf p + 1) 0 os) (p .waiting))
 
   abbrev stored : Storage
-  stored = storage (follow .left) after (s .manifest ++ frame os)
+  stored = storage (follow .left) after (s .next) (s .manifest ++ frame os)
 
   commit-beside : Beside stored (counted c os p)
   commit-beside =
@@ -145,12 +145,15 @@ module _ (s : Storage) (p : Plain) (b : Beside s p) (os : List Operation) (f : F
 
 pub record Committing (cut : ℕ) (g : Engine) (r : Record) (os : List Operation) (missing : ℕ) : Type 0 where
   pub version : Inner
+  -- the pools
+  pub rowsets : (k : List ℕ) → has itself k (version .rowsets) ≡ addsAny ofPairs os k || has itself k (g .running .version .rowsets)
+  pub dvs : (k : List ℕ) → has itself k (version .dvs) ≡ addsAny ofVectors os k || has itself k (g .running .version .dvs)
   pub catalog : List Table
   pub runs : commit-changes os (g .running .version) ≡ ok version
   pub follows : apply-tables os (g .running .catalog) ≡ ok catalog
   pub rel :
       let file = g .running .manifest in
-      Rel (engine (storage catalog version (file ++ frame os)) (file ++ take (landing missing cut (length (frame os))) (frame os))) (counts os missing r)
+      Rel (engine (storage catalog version (g .running .next) (file ++ frame os)) (file ++ take (landing missing cut (length (frame os))) (frame os)) (g .starts)) (counts os missing r)
 
 pub commits : (cut : ℕ) (g : Engine) (r : Record) (os : List Operation) (missing : ℕ) → Rel g r → Found os (r .whole .now) → Committing cut g r os missing
 commits cut g r os missing k f =
@@ -159,6 +162,8 @@ commits cut g r os missing k f =
     let b = k .whole in
     record {
       version = after s p b os f (r .place);
+      rowsets = change s p b os f (r .place) .rowsets;
+      dvs = change s p b os f (r .place) .dvs;
       catalog = follow s p b os f (r .place) .left;
       runs = commit-runs s p b os f (r .place);
       follows = follow s p b os f (r .place) .runs;
@@ -167,7 +172,7 @@ commits cut g r os missing k f =
 
 -- Pins: other counts beside other pins.
 beside-counts : (s : Storage) (p : Plain) (m : List (Binding ℕ)) (l : List PinEntry) → Beside s p → ((d : ℕ) → get d m ≡ counts.counted (pinsAt (placeOn d) l))
-    → Beside (storage (s .catalog) (withCounts m (s .version)) (s .manifest)) (withPins l p)
+    → Beside (storage (s .catalog) (withCounts m (s .version)) (s .next) (s .manifest)) (withPins l p)
 beside-counts s p m l b h =
     record { epoch = b .epoch; now = b .now; status = b .status; counts = h; waiting = b .waiting; upTo = b .upTo; catalog = b .catalog; file = b .file }
 
@@ -195,7 +200,9 @@ module _ (g : Engine) (r : Record) (k : Rel g r) where
     pub result : Pinned
     pub runs : version.pin running ≡ ok result
     pub answer : result .epoch ≡ epochOf (r .whole)
-    pub rel : Rel (landed (result .left) g) (plain.landed (withPins (recounted (placeOn (epochOf (r .whole))) (pinsAt (placeOn (epochOf (r .whole))) (r .whole .pinned) + 1) (r .whole .pinned)) (r .whole)) r)
+    pub rowsets : result .left .rowsets ≡ running .rowsets
+    pub dvs : result .left .dvs ≡ running .dvs
+    pub rel : Rel (landed (result .left) (g .running .next) g) (plain.landed (withPins (recounted (placeOn (epochOf (r .whole))) (pinsAt (placeOn (epochOf (r .whole))) (r .whole .pinned) + 1) (r .whole .pinned)) (r .whole)) r)
 
   pub pins-on : 1 ≤ epochOf (r .whole) → PinsOn
   pins-on h =
@@ -210,9 +217,11 @@ module _ (g : Engine) (r : Record) (k : Rel g r) where
         result = record { epoch = e; snapshot = o .0; left = withCounts c running };
         runs = pin-runs running (o .0) (o .1);
         answer = q;
+        rowsets = refl;
+        dvs = refl;
         rel =
-            subst (λ (d : ℕ). Rel (landed (withCounts c running) g) (plain.landed (withPins (recounted (placeOn d) (pinsAt (placeOn d) (p .pinned) + 1) (p .pinned)) p) r)) q
-            (rel-landed (storage (g .running .catalog) (withCounts c running) (g .running .manifest)) (withPins (recounted (placeOn e) (n + 1) (p .pinned)) p) (r .place + 1)
+            subst (λ (d : ℕ). Rel (landed (withCounts c running) (g .running .next) g) (plain.landed (withPins (recounted (placeOn d) (pinsAt (placeOn d) (p .pinned) + 1) (p .pinned)) p) r)) q
+            (rel-landed (storage (g .running .catalog) (withCounts c running) (g .running .next) (g .running .manifest)) (withPins (recounted (placeOn e) (n + 1) (p .pinned)) p) (g .starts) (r .place + 1)
             (beside-counts (g .running) p c (recounted (placeOn e) (n + 1) (p .pinned)) (k .whole)
             (λ d. get-insert d e (unwrapOr 0 (get e (running .ref-cnt)) + 1) (running .ref-cnt)
             ∙ recounts e (n + 1) d (p .pinned) (some (unwrapOr 0 (get e (running .ref-cnt)) + 1)) (running .ref-cnt) (k .whole .counts) (ap (λ (x : ℕ). some (x + 1)) back ∙ sym (counted-some (n + 1) (omega arith))))));
@@ -222,7 +231,9 @@ module _ (g : Engine) (r : Record) (k : Rel g r) where
     pub result : Dropped
     pub runs : version.drop e running ≡ ok result
     pub answer : result .notice ≡ eqb (pinsAt (placeOn e) (r .whole .pinned) - 1) 0 && not (eqb e (epochOf (r .whole)))
-    pub rel : Rel (landed (result .left) g) (plain.landed (withPins (recounted (placeOn e) (pinsAt (placeOn e) (r .whole .pinned) - 1) (r .whole .pinned)) (r .whole)) r)
+    pub rowsets : result .left .rowsets ≡ running .rowsets
+    pub dvs : result .left .dvs ≡ running .dvs
+    pub rel : Rel (landed (result .left) (g .running .next) g) (plain.landed (withPins (recounted (placeOn e) (pinsAt (placeOn e) (r .whole .pinned) - 1) (r .whole .pinned)) (r .whole)) r)
 
   pub drops-one : (e : ℕ) → 1 ≤ pinsAt (placeOn e) (r .whole .pinned) → DropsOne e
   drops-one e h =
@@ -236,8 +247,10 @@ module _ (g : Engine) (r : Record) (k : Rel g r) where
         result = dropped (not (eqb e (running .epoch))) (withCounts c running);
         runs = rw (o, t);
         answer = rw (t, k .whole .epoch);
+        rowsets = refl;
+        dvs = refl;
         rel =
-            rel-landed (storage (g .running .catalog) (withCounts c running) (g .running .manifest)) (withPins (recounted (placeOn e) (n - 1) (p .pinned)) p) (r .place + 1)
+            rel-landed (storage (g .running .catalog) (withCounts c running) (g .running .next) (g .running .manifest)) (withPins (recounted (placeOn e) (n - 1) (p .pinned)) p) (g .starts) (r .place + 1)
             (beside-counts (g .running) p c (recounted (placeOn e) (n - 1) (p .pinned)) (k .whole)
             (λ d. get-remove d e (running .ref-cnt) ∙ recounts e (n - 1) d (p .pinned) none (running .ref-cnt) (k .whole .counts) (ap counts.counted (sym (eqb-true (n - 1) 0 t)))));
       })
@@ -247,8 +260,10 @@ module _ (g : Engine) (r : Record) (k : Rel g r) where
         result = dropped false (withCounts c running);
         runs = rw (o, t);
         answer = rw t;
+        rowsets = refl;
+        dvs = refl;
         rel =
-            rel-landed (storage (g .running .catalog) (withCounts c running) (g .running .manifest)) (withPins (recounted (placeOn e) (n - 1) (p .pinned)) p) (r .place + 1)
+            rel-landed (storage (g .running .catalog) (withCounts c running) (g .running .next) (g .running .manifest)) (withPins (recounted (placeOn e) (n - 1) (p .pinned)) p) (g .starts) (r .place + 1)
             (beside-counts (g .running) p c (recounted (placeOn e) (n - 1) (p .pinned)) (k .whole)
             (λ d. get-insert d e (n - 1) (running .ref-cnt) ∙ recounts e (n - 1) d (p .pinned) (some (n - 1)) (running .ref-cnt) (k .whole .counts) (sym (counted-some (n - 1) (positive (n - 1) (eqb-false (n - 1) 0 t))))));
       })
@@ -307,9 +322,9 @@ module _ (g : Engine) (r : Record) (k : Rel g r) where
         ∙ ap (keep held) (k .whole .waiting)
         ∙ keep-map byEpochAndPair held (r .whole .waiting)
 
-    pub vacuum-rel : Rel (landed (find-vacuum running .left) g) (plain.landed (swept (r .whole)) r)
+    pub vacuum-rel : Rel (landed (find-vacuum running .left) (g .running .next) g) (plain.landed (swept (r .whole)) r)
     vacuum-rel =
-        rel-landed (storage (g .running .catalog) (find-vacuum running .left) (g .running .manifest)) (swept (r .whole)) (r .place + 1)
+        rel-landed (storage (g .running .catalog) (find-vacuum running .left) (g .running .next) (g .running .manifest)) (swept (r .whole)) (g .starts) (r .place + 1)
         (record {
           epoch = k .whole .epoch;
           now = k .whole .now;
@@ -323,9 +338,8 @@ module _ (g : Engine) (r : Record) (k : Rel g r) where
 
   -- A start.
   pub record StartsOn (stale : Bool) : Type 0 where
-    pub result : Storage
-    pub runs : bootstrap (g .torn) ≡ ok result
-    pub rel : Rel (engine result (cond stale (g .torn) (result .manifest))) (plain.landed (kept (r .torn)) r)
+    pub started : Started (g .torn) (r .torn .now)
+    pub rel : Rel (engine (started .result) (cond stale (g .torn) (started .result .manifest)) (g .starts + 1)) (plain.landed (kept (r .torn)) r)
 
   pub starts-on : (stale : Bool) → Whole (r .torn .now) → StartsOn stale
   starts-on stale w =
@@ -333,7 +347,7 @@ module _ (g : Engine) (r : Record) (k : Rel g r) where
       let a = starts (g .torn) x (k .torn) w in
       let s = a .result in
       let v = committed version.fresh (a .changing) in
-      let b : Beside (storage (s .catalog) v (s .manifest)) (kept (r .torn)) =
+      let b : Beside (storage (s .catalog) v (s .next) (s .manifest)) (kept (r .torn)) =
           record {
             epoch = refl;
             now = a .shows;
@@ -344,10 +358,9 @@ module _ (g : Engine) (r : Record) (k : Rel g r) where
             catalog = a .catalog;
             file = a .filed;
           } in
-      let c : Beside s (kept (r .torn)) = subst (λ (y : Inner). Beside (storage (s .catalog) y (s .manifest)) (kept (r .torn))) (sym (a .version)) b in
+      let c : Beside s (kept (r .torn)) = subst (λ (y : Inner). Beside (storage (s .catalog) y (s .next) (s .manifest)) (kept (r .torn))) (sym (a .version)) b in
       record {
-        result = s;
-        runs = a .runs;
+        started = a;
         rel = record { whole = c; torn = torn stale (g .torn) (s .manifest) (k .torn) (found-whole (s .manifest) x (a .filed)) };
       }
     where

@@ -5,20 +5,22 @@ use mathlib.Core.List.{List, [], _∷_, _++_, map}
 use Prim.Native.Nat.{ℕ}
 use Rattle.lists.specs.Order.{same}
 use Rattle.lists.specs.Keyed.{keep, allOf, isAt, has, arranged}
-use Rattle.lists.proofs.Tests.{by-cases, clash, join}
+use lib.Dec.{eqb}
+use Rattle.lists.proofs.Tests.{by-cases, clash, both, join}
 use Rattle.lists.proofs.Order.{same-refl}
 use Rattle.lists.proofs.Keyed.{All, all-map, all-any, all-append, all-mapped, all-allOf, kept-all}
 use Rattle.manifest.specs.Operations.{Operation, createTable, dropTable, addRowset, deleteRowset, addVector, deleteVector, nextIds}
 use Rattle.manifest.specs.Edits.{Edit, leaves, adds, deletes, Table, editsOf}
 use Rattle.plain_record.specs.Sets.{Sets, none, byId, itself, apply, applyAll}
 use Rattle.risinglight.specs.Maps.{Outcome, fails, ok, andThen}
-use Rattle.risinglight.specs.Manifest.{Value, frame, replaying, replay}
+use Rattle.risinglight.specs.Manifest.{Value, frame, Replaying, replay}
 use Rattle.risinglight.specs.Snapshot.{default}
 use Rattle.risinglight.specs.VersionManager.{fresh, Changing, changing, committed}
-use Rattle.risinglight.specs.Storage.{apply-table, apply-tables, Rowset, pairOf, openRowset, rowsets-to-open, Dv, tripleOf, openDv, dvs-to-open, isOfTable, table-changeset, changeset, openable, Storage, storage, bootstrap}
+use Rattle.risinglight.specs.Storage.{apply-table, apply-tables, Rowset, pairOf, openRowset, rowsets-to-open, Dv, tripleOf, openDv, dvs-to-open, isOfTable, table-changeset, changeset, openable, nextId, raised, Storage, storage, bootstrap}
 use Rattle.risinglight.proofs.Fitting.{Finds, FindsAll}
-use Rattle.risinglight.proofs.Changes.{Shows, deletedBy, deletedAll, changed}
-use Rattle.risinglight.proofs.Files.{any-arranged, tables-append, rowsets-append, dvs-append, instead, frame-replayed, Boots, Filed, rowsets-alike, dvs-alike}
+use Rattle.risinglight.proofs.Changes.{Shows, deletedBy, deletedAll, addsAny, ofPairs, ofVectors, changed}
+use Rattle.risinglight.proofs.Maps.{instead, shuffle, or-none}
+use Rattle.risinglight.proofs.Files.{any-arranged, tables-append, rowsets-append, dvs-append, frame-replayed, Boots, Filed, rowsets-alike, dvs-alike}
 
 -- the operations that open rowsets, and those that open vectors
 abbrev opens : Rowset → Operation
@@ -61,10 +63,11 @@ record OfTable (o : Operation) : Type 0 where
   deletionless : Deletionless o
   rowsets : (l : List Rowset) → openRowset o l ≡ l
   dvs : (l : List Dv) → openDv o l ≡ l
+  adds : (k : List ℕ) → ofPairs o k ≡ false
 
 of-table : (o : Operation) → isOfTable o ≡ true → OfTable o
-of-table (createTable t h n) e = record { deletionless = record { pairs = tt; vectors = tt }; rowsets = λ l. refl; dvs = λ l. refl }
-of-table (dropTable t) e = record { deletionless = record { pairs = tt; vectors = tt }; rowsets = λ l. refl; dvs = λ l. refl }
+of-table (createTable t h n) e = record { deletionless = record { pairs = tt; vectors = tt }; rowsets = λ l. refl; dvs = λ l. refl; adds = λ k. refl }
+of-table (dropTable t) e = record { deletionless = record { pairs = tt; vectors = tt }; rowsets = λ l. refl; dvs = λ l. refl; adds = λ k. refl }
 of-table (addRowset t r) e = clash e refl
 of-table (deleteRowset t r) e = clash e refl
 of-table (addVector t r v) e = clash e refl
@@ -107,11 +110,6 @@ dvs-stay : (os : List Operation) (l : List Dv) → All (λ o. (m : List Dv) → 
 dvs-stay [] l h = refl
 dvs-stay (o ∷ os) l h = ap (dvs-to-open os) (h .0 l) ∙ dvs-stay os l (h .1)
 
-shuffle : (a b c : Bool) → b || (a || c) ≡ (a || b) || c
-shuffle true true c = refl
-shuffle true false c = refl
-shuffle false b c = refl
-
 rowsets-opened : (k : List ℕ) (rs l : List Rowset) → has pairOf k (rowsets-to-open (map opens rs) l) ≡ has pairOf k rs || has pairOf k l
 rowsets-opened k [] l = refl
 rowsets-opened k (x ∷ rs) l =
@@ -126,9 +124,33 @@ dvs-opened k (x ∷ vs) l =
     ∙ ap (λ b. has tripleOf k vs || b) (instead tripleOf k x l)
     ∙ shuffle (same (tripleOf x) k) (has tripleOf k vs) (has tripleOf k l)
 
-or-none : (b : Bool) → b || false ≡ b
-or-none true = refl
-or-none false = refl
+-- What goes into the pools.
+adds-append : (f : Operation → List ℕ → Bool) (os ps : List Operation) (k : List ℕ) → addsAny f (os ++ ps) k ≡ addsAny f os k || addsAny f ps k
+adds-append f [] ps k = refl
+adds-append f (o ∷ os) ps k = by-cases (f o k) (λ e. rw e) (λ e. rw e (adds-append f os ps k))
+
+adds-none : (f : Operation → List ℕ → Bool) (k : List ℕ) (os : List Operation) → All (λ o. f o k ≡ false) os → addsAny f os k ≡ false
+adds-none f k [] h = refl
+adds-none f k (o ∷ os) h = rw (h .0) (adds-none f k os (h .1))
+
+adds-opened : (k : List ℕ) (rs : List Rowset) → addsAny ofPairs (map opens rs) k ≡ has pairOf k rs
+adds-opened k [] = refl
+adds-opened k (x ∷ rs) = ap (λ b. same (pairOf x) k || b) (adds-opened k rs)
+
+same-ends : (x : Dv) (t r v : ℕ) → same (tripleOf x) (t ∷ r ∷ v ∷ []) ≡ true → same (x .table ∷ x .dv ∷ []) (t ∷ v ∷ []) ≡ true
+same-ends x t r v h =
+    let a = both (eqb (x .table) t) (eqb (x .rowset) r && (eqb (x .dv) v && true)) h in
+    let b = both (eqb (x .rowset) r) (eqb (x .dv) v && true) (a .1) in
+    join (a .0) (b .1)
+
+adds-dv : (t r v : ℕ) (vs : List Dv) → has tripleOf (t ∷ r ∷ v ∷ []) vs ≡ true → addsAny ofVectors (map opensDv vs) (t ∷ v ∷ []) ≡ true
+adds-dv t r v [] h = clash h refl
+adds-dv t r v (x ∷ vs) h =
+    by-cases (same (tripleOf x) (t ∷ r ∷ v ∷ []))
+    (λ e. rw (same-ends x t r v e))
+    (λ e.
+    let i = adds-dv t r v vs (rw e at h) in
+    by-cases (same (x .table ∷ x .dv ∷ []) (t ∷ v ∷ [])) (λ f. rw f) (λ f. rw f i))
 
 -- The changeset of what is opened.
 module _ (rs : List Rowset) (vs : List Dv) (ops : List Operation) where
@@ -174,6 +196,23 @@ module _ (rs : List Rowset) (vs : List Dv) (ops : List Operation) where
       ∙ dvs-opened k vs []
       ∙ or-none (has tripleOf k vs)
 
+  pools-rowsets : (k : List ℕ) → addsAny ofPairs cs k ≡ has pairOf k rs
+  pools-rowsets k =
+      adds-append ofPairs (map opens rs) (map opensDv vs ++ ts) k
+      ∙ ap (λ b. addsAny ofPairs (map opens rs) k || b)
+      (adds-append ofPairs (map opensDv vs) ts k
+      ∙ ap (λ b. b || addsAny ofPairs ts k) (adds-none ofPairs k (map opensDv vs) (all-mapped (λ o. ofPairs o k ≡ false) opensDv vs (all-any vs (λ x. refl))))
+      ∙ adds-none ofPairs k ts (all-map ts (λ o h. h .adds k) (all-of-table ops)))
+      ∙ or-none (addsAny ofPairs (map opens rs) k)
+      ∙ adds-opened k rs
+
+  pools-dvs : (t r v : ℕ) → has tripleOf (t ∷ r ∷ v ∷ []) vs ≡ true → addsAny ofVectors cs (t ∷ v ∷ []) ≡ true
+  pools-dvs t r v h =
+      adds-append ofVectors (map opens rs) (map opensDv vs ++ ts) (t ∷ v ∷ [])
+      ∙ ap (λ b. b || addsAny ofVectors (map opensDv vs ++ ts) (t ∷ v ∷ [])) (adds-none ofVectors (t ∷ v ∷ []) (map opens rs) (all-mapped (λ o. ofVectors o (t ∷ v ∷ []) ≡ false) opens rs (all-any rs (λ x. refl))))
+      ∙ adds-append ofVectors (map opensDv vs) ts (t ∷ v ∷ [])
+      ∙ ap (λ b. b || addsAny ofVectors ts (t ∷ v ∷ [])) (adds-dv t r v vs h)
+
 -- every pair and vector has its table
 pub record Whole (x : Sets) : Type 0 where
   pub pairs : (t r : ℕ) → has itself (t ∷ r ∷ []) (x .pairs) ≡ true → has byId (t ∷ []) (x .tables) ≡ true
@@ -191,6 +230,10 @@ pub record Started (f : List Value) (x : Sets) : Type 0 where
   pub version : result .version ≡ committed fresh changing
   pub shows : Shows (changing .snapshot) x
   pub deletions : changing .deletions ≡ []
+  pub next : result .next ≡ raised (replay f) (nextId 0 0)
+  pub rowsets : (k : List ℕ) → has itself k (x .pairs) ≡ has itself k (changing .rowsets)
+  pub dvs : (t r v : ℕ) → has itself (t ∷ r ∷ v ∷ []) (x .vectors) ≡ true → has itself (t ∷ v ∷ []) (changing .dvs) ≡ true
+  pub written : replay (result .manifest) ≡ changeset (rowsets-to-open (replay f) []) (dvs-to-open (replay f) []) (table-changeset (replay f))
   pub filed : Filed (result .manifest) x
 
 module _ (f : List Value) (x : Sets) (b : Boots (replay f) x) (w : Whole x) where
@@ -221,7 +264,7 @@ module _ (f : List Value) (x : Sets) (b : Boots (replay f) x) (w : Whole x) wher
 
   pub starts : Started f x
   starts =
-      let c = changed written (changing default []) none (record { pairs = λ t r. refl; vectors = λ t r v. refl }) (finds-all written none (deletionless rows dvs ops)) in
+      let c = changed written (changing default [] [] []) none (record { pairs = λ t r. refl; vectors = λ t r v. refl }) (finds-all written none (deletionless rows dvs ops)) in
       let boots : Boots written x =
           record {
             catalog = b .catalog;
@@ -231,7 +274,7 @@ module _ (f : List Value) (x : Sets) (b : Boots (replay f) x) (w : Whole x) wher
             dvs = λ k. b .dvs k ∙ sym (dvs-of rows dvs ops k);
           } in
       record {
-        result = storage (b .catalog) (committed fresh (c .left)) (frame written);
+        result = storage (b .catalog) (committed fresh (c .left)) (raised ops (nextId 0 0)) (frame written);
         runs = rw (b .runs, rows-have, dvs-have, c .runs);
         catalog = b .tables;
         changing = c .left;
@@ -242,5 +285,9 @@ module _ (f : List Value) (x : Sets) (b : Boots (replay f) x) (w : Whole x) wher
               vectors = λ t r v. boots .dvs (t ∷ r ∷ v ∷ []) ∙ sym (dvs-alike written none [] (λ k. refl) (t ∷ r ∷ v ∷ [])) ∙ c .shows .vectors t r v;
             };
         deletions = c .deletions ∙ none-deleted written (deletionless rows dvs ops);
+        next = refl;
+        rowsets = λ k. b .rowsets k ∙ sym (c .rowsets k ∙ or-none (addsAny ofPairs written k) ∙ pools-rowsets rows dvs ops k);
+        dvs = λ t r v h. c .dvs (t ∷ v ∷ []) ∙ or-none (addsAny ofVectors written (t ∷ v ∷ [])) ∙ pools-dvs rows dvs ops t r v (sym (b .dvs (t ∷ r ∷ v ∷ [])) ∙ h);
+        written = ap (λ (s : Replaying). s .ops) (frame-replayed written []);
         filed = record { ops = written; read = frame-replayed written []; boots = boots };
       }

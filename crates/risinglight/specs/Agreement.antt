@@ -2,8 +2,9 @@
 use mathlib.Core.Path.{_≡_}
 use mathlib.Core.Bool.{true, false}
 use mathlib.Core.List.{List, [], _∷_, _++_, map}
-use Prim.Native.Nat.{ℕ, _+_}
+use Prim.Native.Nat.{ℕ, _+_, _≤_}
 use Rattle.lists.specs.Keyed.{has, arranged}
+use Rattle.snapshot.specs.Entries.{byIds}
 use Rattle.pins.specs.Book.{pinsOf, placeOn}
 use Rattle.pins.specs.Guards.{guardsOf, mayShow}
 use Rattle.pins.specs.Counts.{pinsAt}
@@ -46,6 +47,12 @@ pub record Matches (S : Steps) (w : World) (g : Engine) : Type 0 where
   pub pairs : (d : ℕ) → mayShow (guardsOf (heldBy (w .manager)) (w .book)) d ≡ true → SamePairs S w d (snapshotAt d (g .running .version))
   pub vectors : (d : ℕ) → mayShow (guardsOf (heldBy (w .manager)) (w .book)) d ≡ true → SameVectors S w d (snapshotAt d (g .running .version))
   pub pins : (d : ℕ) → pinsAt (placeOn d) (pinsOf (w .book)) ≡ unwrapOr 0 (get d (g .running .version .ref-cnt))
+  -- what is held is in the pool of rowsets, and no other; held vectors are in theirs
+  pub rowsets : (k : List ℕ) → has byIds k (heldBy (w .manager) .pairs) ≡ has itself k (g .running .version .rowsets)
+  pub dvs : (t r v : ℕ) → has byIds (t ∷ r ∷ v ∷ []) (heldBy (w .manager) .vectors) ≡ true → has itself (t ∷ v ∷ []) (g .running .version .dvs) ≡ true
+  -- the next ids are at least the Rust's, and the same where there was no start
+  pub nextRowset : (g .running .next .rowset ≤ heldBy (w .manager) .nextRowset) × (g .starts ≡ 0 → g .running .next .rowset ≡ heldBy (w .manager) .nextRowset)
+  pub nextDv : (g .running .next .dv ≤ heldBy (w .manager) .nextVector) × (g .starts ≡ 0 → g .running .next .dv ≡ heldBy (w .manager) .nextVector)
   -- the same deletions, each as often
   pub waiting : waitingIn (heldBy (w .manager)) ≡ arranged itself (deletionsIn (g .running .version .rowset-deletion-to-apply))
 

@@ -2,7 +2,7 @@
 use mathlib.Core.Path.{_≡_}
 use mathlib.Core.Bool.{Bool, cond}
 use mathlib.Core.List.{List, [], _++_}
-use Prim.Native.Nat.{ℕ, zero, suc, _-_, min}
+use Prim.Native.Nat.{ℕ, zero, suc, _+_, _-_, _≤_, min}
 use lib.ListN.{length, take}
 use Rattle.lists.specs.Keyed.{arranged}
 use Rattle.manifest.specs.Operations.{Operation}
@@ -20,19 +20,20 @@ use Rattle.risinglight.specs.Maps.{Outcome, ok}
 use Rattle.risinglight.specs.Manifest.{Value, frame}
 use Rattle.risinglight.specs.VersionManager.{Inner, fresh, commit-changes, Pinned, Dropped, find-vacuum}
 use Rattle.risinglight.specs.VersionManager as version
-use Rattle.risinglight.specs.Storage.{Storage, storage, apply-tables, bootstrap}
+use Rattle.risinglight.specs.Storage.{Storage, storage, NextId, nextId, apply-tables, bootstrap}
 
--- the storage, and the manifest that a start finds if it is the next call
+-- the storage, the manifest that a start finds if it is the next call, and how many starts there were
 pub record Engine : Type 0 where
   pub running : Storage
   pub torn : List Value
+  pub starts : ℕ
 
-abbrev pub engine : Storage → List Value → Engine
-engine s t = record { running = s; torn = t }
+abbrev pub engine : Storage → List Value → ℕ → Engine
+engine s t n = record { running = s; torn = t; starts = n }
 
 -- nothing yet. The Rust begins by a start on an empty folder, which is a commit: that one is left out
 abbrev pub started : Engine
-started = engine (storage [] fresh []) []
+started = engine (storage [] fresh (nextId 0 0) []) [] 0
 
 -- how many of the n values of a commit's append land where a start is the next call: all, or fewer. Which value a crash cuts is
 -- open, and what is cut of one counts for none: the Rust does not start on half a value
@@ -41,14 +42,23 @@ landing zero cut n = n
 landing (suc missing) cut n = min cut (n - 1)
 
 -- any other call finds that everything had landed
-abbrev pub landed : Inner → Engine → Engine
-landed m g = engine (storage (g .running .catalog) m (g .running .manifest)) (g .running .manifest)
+abbrev pub landed : Inner → NextId → Engine → Engine
+landed m n g = engine (storage (g .running .catalog) m n (g .running .manifest)) (g .running .manifest) (g .starts)
 
 -- The event of an accepted call of the port, and the engine g before it and h after it.
 module _ (cut : ℕ) (g h : Engine) (e : Event) where
-  -- draws, grouping and locks are not the version manager's
+  -- the id of a draw, and the first one of a grouping, which draws n: never above the port's, and the same where there was no start
+  pub record Draws (mine theirs : ℕ) (left : NextId) : Type 0 where
+    pub notAbove : mine ≤ theirs
+    pub same : g .starts ≡ 0 → mine ≡ theirs
+    pub after : h ≡ landed (g .running .version) left g
+
+  abbrev pub ids : NextId
+  ids = g .running .next
+
+  -- locks are not the version manager's
   abbrev pub Rests : Type 0
-  Rests = h ≡ landed (g .running .version) g
+  Rests = h ≡ landed (g .running .version) ids g
 
   -- commits the same operations; whoever commits creates and drops makes the catalog follow
   pub record Commits (os : List Operation) (missing : ℕ) : Type 0 where
@@ -59,35 +69,35 @@ module _ (cut : ℕ) (g h : Engine) (e : Event) where
     pub epoch : version .epoch ≡ heldBy (e .after .manager) .epoch
     pub after :
         let file = g .running .manifest in
-        h ≡ engine (storage catalog version (file ++ frame os)) (file ++ take (landing missing cut (length (frame os))) (frame os))
+        h ≡ engine (storage catalog version ids (file ++ frame os)) (file ++ take (landing missing cut (length (frame os))) (frame os)) (g .starts)
 
   pub record Pins : Type 0 where
     pub result : Pinned
     pub runs : version.pin (g .running .version) ≡ ok result
     pub answer : result .epoch ≡ value 0 (e .told)
-    pub after : h ≡ landed (result .left) g
+    pub after : h ≡ landed (result .left) ids g
 
   -- the notice is sent where the port says that a vacuum is due
   pub record Unpins (d : ℕ) : Type 0 where
     pub result : Dropped
     pub runs : version.drop d (g .running .version) ≡ ok result
     pub answer : flag (result .notice) ≡ value 0 (e .told)
-    pub after : h ≡ landed (result .left) g
+    pub after : h ≡ landed (result .left) ids g
 
   -- the same pairs, each as often
   pub record Vacuums : Type 0 where
     pub answer : arranged itself (find-vacuum (g .running .version) .deletions) ≡ arranged itself (e .listed)
-    pub after : h ≡ landed (find-vacuum (g .running .version) .left) g
+    pub after : h ≡ landed (find-vacuum (g .running .version) .left) ids g
 
   pub record Starts (stale : Bool) : Type 0 where
     pub result : Storage
     pub runs : bootstrap (g .torn) ≡ ok result
-    pub after : h ≡ engine result (cond stale (g .torn) (result .manifest))
+    pub after : h ≡ engine result (cond stale (g .torn) (result .manifest)) (g .starts + 1)
 
   abbrev pub DoesBy : Call → Type 0
-  DoesBy drawRowset = Rests
-  DoesBy drawVector = Rests
-  DoesBy (group x rs ls cs fs ms) = Rests
+  DoesBy drawRowset = Draws (ids .rowset) (value 0 (e .told)) (nextId (ids .rowset + 1) (ids .dv))
+  DoesBy drawVector = Draws (ids .dv) (value 0 (e .told)) (nextId (ids .rowset) (ids .dv + 1))
+  DoesBy (group x rs ls cs fs ms) = Draws (ids .dv) (value 1 (e .told)) (nextId (ids .rowset) (ids .dv + value 0 (e .told)))
   DoesBy (lock n) = Rests
   DoesBy (unlock n) = Rests
   DoesBy (commit os out missing) = Commits os missing

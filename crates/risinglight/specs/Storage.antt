@@ -1,7 +1,7 @@
 -- `SecondaryStorage`: the catalog, and `bootstrap` of storage.rs. Assumes nothing.
 use mathlib.Core.Bool.{Bool, true, false, cond, _&&_}
 use mathlib.Core.List.{List, [], _∷_, _++_, map}
-use Prim.Native.Nat.{ℕ}
+use Prim.Native.Nat.{ℕ, _+_, max}
 use Rattle.lists.specs.Order.{same}
 use Rattle.lists.specs.Keyed.{keep, allOf, anyOf, has, without}
 use Rattle.manifest.specs.Operations.{Operation, createTable, dropTable, addRowset, deleteRowset, addVector, deleteVector, nextIds}
@@ -95,24 +95,47 @@ changeset rs vs ts =
 abbrev pub openable : List Table → List Rowset → List Dv → Bool
 openable l rs vs = allOf (λ (x : Rowset). has byId (x .table ∷ []) l) rs && allOf (λ (x : Dv). has byId (x .table ∷ []) l) vs
 
--- the catalog, the version manager and the manifest
+-- `next_id` of rowsets and of vectors
+pub record NextId : Type 0 where
+  pub rowset : ℕ
+  pub dv : ℕ
+
+abbrev pub nextId : ℕ → ℕ → NextId
+nextId r v = record { rowset = r; dv = v }
+
+-- `fetch_max`: past every id that the manifest still adds
+abbrev pub raise : Operation → NextId → NextId
+raise (createTable t h n) x = x
+raise (dropTable t) x = x
+raise (addRowset t r) x = nextId (max (x .rowset) (r + 1)) (x .dv)
+raise (deleteRowset t r) x = x
+raise (addVector t r v) x = nextId (x .rowset) (max (x .dv) (v + 1))
+raise (deleteVector t r v) x = x
+raise (nextIds t r v) x = x
+
+abbrev pub raised : List Operation → NextId → NextId
+raised [] x = x
+raised (o ∷ os) x = raised os (raise o x)
+
+-- the catalog, the version manager, the next ids and the manifest
 pub record Storage : Type 0 where
   pub catalog : List Table
   pub version : Inner
+  pub next : NextId
   pub manifest : List Value
 
-abbrev pub storage : List Table → Inner → List Value → Storage
-storage c v m = record { catalog = c; version = v; manifest = m }
+abbrev pub storage : List Table → Inner → NextId → List Value → Storage
+storage c v n m = record { catalog = c; version = v; next = n; manifest = m }
 
 -- `rewrite_changes`: committed by a manager that has nothing yet, into a new file
-abbrev pub rewritten : List Table → List Operation → Outcome Storage
-rewritten l os = andThen (commit-changes os fresh) (λ m. ok (storage l m (frame os)))
+abbrev pub rewritten : List Table → NextId → List Operation → Outcome Storage
+rewritten l n os = andThen (commit-changes os fresh) (λ m. ok (storage l m n (frame os)))
 
 abbrev pub opened : List Operation → List Table → Outcome Storage
 opened ops l =
     let rs = rowsets-to-open ops [] in
     let vs = dvs-to-open ops [] in
-    cond (openable l rs vs) (rewritten l (changeset rs vs (table-changeset ops))) fails
+    cond (openable l rs vs) (rewritten l (raised ops (nextId 0 0)) (changeset rs vs (table-changeset ops))) fails
 
 abbrev pub bootstrap : List Value → Outcome Storage
 bootstrap file = andThen (apply-tables (replay file) []) (opened (replay file))

@@ -3,41 +3,51 @@ use mathlib.Core.Bool.{Bool, true, false, cond, not}
 use mathlib.Core.List.{List, [], _∷_, _++_}
 use Prim.Native.Nat.{ℕ, _+_, _-_, min}
 use lib.Dec.{eqb, leb}
-use Rattle.lists.specs.Keyed.{keep}
+use Rattle.lists.specs.Keyed.{keep, without}
 use Rattle.manifest.specs.Operations.{Operation, createTable, dropTable, addRowset, deleteRowset, addVector, deleteVector, nextIds}
+use Rattle.plain_record.specs.Sets.{itself}
 use Rattle.risinglight.specs.Maps.{Outcome, fails, ok, andThen, Option, none, some, unwrap, unwrapOr, Binding, get, insert, remove, keys}
 use Rattle.risinglight.specs.Snapshot.{Snapshot, default, add-rowset, delete-rowset, add-dv, delete-dv}
 
--- what is in the pools of rowsets and of vectors is in no answer, and left out
 pub record Inner : Type 0 where
   pub status : List (Binding Snapshot)
+  -- the pools of rowsets, by (table, rowset), and of vectors, by (table, vector): what has an object
+  pub rowsets : List (List ℕ)
+  pub dvs : List (List ℕ)
   pub ref-cnt : List (Binding ℕ)
   -- by epoch: pairs (table, rowset)
   pub rowset-deletion-to-apply : List (Binding (List (List ℕ)))
   pub epoch : ℕ
 
-abbrev pub inner : List (Binding Snapshot) → List (Binding ℕ) → List (Binding (List (List ℕ))) → ℕ → Inner
-inner s c d e = record { status = s; ref-cnt = c; rowset-deletion-to-apply = d; epoch = e }
+abbrev pub inner : List (Binding Snapshot) → List (List ℕ) → List (List ℕ) → List (Binding ℕ) → List (Binding (List (List ℕ))) → ℕ → Inner
+inner s r v c d e = record { status = s; rowsets = r; dvs = v; ref-cnt = c; rowset-deletion-to-apply = d; epoch = e }
 
 -- `VersionManagerInner::default`
 abbrev pub fresh : Inner
-fresh = inner [] [] [] 0
+fresh = inner [] [] [] [] [] 0
 
--- `commit-changes`: the snapshot and the deletions, operation by operation
+-- an object in the place of what has its key
+abbrev pub pooled : List ℕ → List (List ℕ) → List (List ℕ)
+pooled k l = k ∷ without itself k l
+
+-- `commit_changes`: the snapshot, the pools and the deletions, operation by operation
 pub record Changing : Type 0 where
   pub snapshot : Snapshot
+  pub rowsets : List (List ℕ)
+  pub dvs : List (List ℕ)
   pub deletions : List (List ℕ)
 
-abbrev pub changing : Snapshot → List (List ℕ) → Changing
-changing s d = record { snapshot = s; deletions = d }
+abbrev pub changing : Snapshot → List (List ℕ) → List (List ℕ) → List (List ℕ) → Changing
+changing s r v d = record { snapshot = s; rowsets = r; dvs = v; deletions = d }
 
 abbrev pub change : Operation → Changing → Outcome Changing
 change (createTable t h n) c = ok c
 change (dropTable t) c = ok c
-change (addRowset t r) c = ok (changing (add-rowset t r (c .snapshot)) (c .deletions))
-change (deleteRowset t r) c = andThen (delete-rowset t r (c .snapshot)) (λ s. ok (changing s (c .deletions ++ ((t ∷ r ∷ []) ∷ []))))
-change (addVector t r v) c = ok (changing (add-dv t r v (c .snapshot)) (c .deletions))
-change (deleteVector t r v) c = andThen (delete-dv t r v (c .snapshot)) (λ s. ok (changing s (c .deletions)))
+change (addRowset t r) c = ok (changing (add-rowset t r (c .snapshot)) (pooled (t ∷ r ∷ []) (c .rowsets)) (c .dvs) (c .deletions))
+change (deleteRowset t r) c =
+    andThen (delete-rowset t r (c .snapshot)) (λ s. ok (changing s (c .rowsets) (c .dvs) (c .deletions ++ ((t ∷ r ∷ []) ∷ []))))
+change (addVector t r v) c = ok (changing (add-dv t r v (c .snapshot)) (c .rowsets) (pooled (t ∷ v ∷ []) (c .dvs)) (c .deletions))
+change (deleteVector t r v) c = andThen (delete-dv t r v (c .snapshot)) (λ s. ok (changing s (c .rowsets) (c .dvs) (c .deletions)))
 change (nextIds t r v) c = ok c
 
 abbrev pub changes : List Operation → Changing → Outcome Changing
@@ -49,11 +59,12 @@ latest m = unwrapOr default (get (m .epoch) (m .status))
 
 abbrev pub committed : Inner → Changing → Inner
 committed m c =
-    inner (insert (m .epoch + 1) (c .snapshot) (m .status)) (m .ref-cnt) (insert (m .epoch + 1) (c .deletions) (m .rowset-deletion-to-apply)) (m .epoch + 1)
+    let e = m .epoch + 1 in
+    inner (insert e (c .snapshot) (m .status)) (c .rowsets) (c .dvs) (m .ref-cnt) (insert e (c .deletions) (m .rowset-deletion-to-apply)) e
 
 -- the new epoch is the answer
 abbrev pub commit-changes : List Operation → Inner → Outcome Inner
-commit-changes ops m = andThen (changes ops (changing (latest m) [])) (λ c. ok (committed m c))
+commit-changes ops m = andThen (changes ops (changing (latest m) (m .rowsets) (m .dvs) [])) (λ c. ok (committed m c))
 
 -- `pin`: the `Version`, and what is left
 pub record Pinned : Type 0 where
@@ -62,7 +73,7 @@ pub record Pinned : Type 0 where
   pub left : Inner
 
 abbrev pub withCounts : List (Binding ℕ) → Inner → Inner
-withCounts c m = inner (m .status) c (m .rowset-deletion-to-apply) (m .epoch)
+withCounts c m = inner (m .status) (m .rowsets) (m .dvs) c (m .rowset-deletion-to-apply) (m .epoch)
 
 abbrev pub pin : Inner → Outcome Pinned
 pin m =
@@ -109,10 +120,13 @@ pub record Vacuumed : Type 0 where
   pub deletions : List (List ℕ)
   pub left : Inner
 
+-- what is listed leaves the pool
+abbrev pub released : List (List ℕ) → List (List ℕ) → List (List ℕ)
+released [] pool = pool
+released (k ∷ l) pool = released l (without itself k pool)
+
 abbrev pub find-vacuum : Inner → Vacuumed
 find-vacuum m =
     let d = m .rowset-deletion-to-apply in
-    record {
-      deletions = extended (keep (can-apply m) d);
-      left = inner (m .status) (m .ref-cnt) (keep (λ b. not (can-apply m b)) d) (m .epoch);
-    }
+    let l = extended (keep (can-apply m) d) in
+    record { deletions = l; left = inner (m .status) (released l (m .rowsets)) (m .dvs) (m .ref-cnt) (keep (λ b. not (can-apply m b)) d) (m .epoch) }
