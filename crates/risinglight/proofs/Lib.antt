@@ -9,3 +9,4 @@ pub mod Files
 pub mod Starts
 pub mod Relation
 pub mod Theorem
+pub mod Selections
