@@ -10,3 +10,4 @@ pub mod Starts
 pub mod Relation
 pub mod Theorem
 pub mod Selections
+pub mod Groupings

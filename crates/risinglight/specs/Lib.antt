@@ -9,3 +9,5 @@ pub mod Agreement
 pub mod Numbers
 pub mod Compactor
 pub mod Selections
+pub mod Transaction
+pub mod Groupings

@@ -3,6 +3,7 @@
 ghost use Rattle.plain_record.specs.Run.{port};
 ghost use Rattle.risinglight.specs.Agreement.{Agreement};
 ghost use Rattle.risinglight.specs.Selections.{SelectionLaws};
+ghost use Rattle.risinglight.specs.Groupings.{GroupingLaws};
 
 pub fn agrees()
     ensures { λ _. ⌜ Agreement port ⌝ }
@@ -10,4 +11,8 @@ pub fn agrees()
 
 pub fn selections_agree()
     ensures { λ _. ⌜ SelectionLaws ⌝ }
+{}
+
+pub fn groupings_agree()
+    ensures { λ _. ⌜ GroupingLaws ⌝ }
 {}
