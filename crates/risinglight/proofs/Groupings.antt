@@ -14,19 +14,27 @@ use Rattle.lists.proofs.Order.{less-total, less-le}
 use Rattle.lists.proofs.Keyed.{All, all-map, all-any, anyOf-none, anyOf-map, keep-map, Ascending, Sorted, ascend-to, ascending-sorted, sorted-arranged, put-new, length-arranged}
 use Rattle.vacuum.proofs.Arranged.{arranged-map, all-arranged}
 use Rattle.delete_vector.specs.Records.{recordsOf}
-use Rattle.delete_vector.specs.Memory.{rowKey, isIn, inMemory}
+use Rattle.delete_vector.specs.Memory.{rowKey, inMemory}
 use Rattle.delete_vector.proofs.Merging.{memory-same-set, memory-of}
 use Rattle.delete_vector.proofs.Together.{laws-hold}
-use Rattle.transaction.specs.Groups.{Handle, rowsOf, rowsetsOf, Vector, vectorOf, vectorsOf}
-use Rattle.transaction.specs.Says.{usedUp}
+use Rattle.transaction.specs.declared.Handles.{Handles}
+use Rattle.transaction.specs.Groups.{Handle, handlesOf, rowsOf, rowsetsOf, Vector, vectorOf, vectorsOf}
+use Rattle.transaction.specs.Says.{usedUp, groupRules}
 use Rattle.ids.specs.Ids.{largest64}
+use Rattle.ids.specs.declared.refusal.Refusal.the-variants.{BadManager}
+use Rattle.ids.specs.declared.refusal.Verdict.the-variants.{Accepted}
+use Rattle.ids.specs.Verdicts.{_⇒_}
+use Rattle.ids.proofs.Verdicts.{none-judged}
+use Rattle.version_manager.specs.declared.VersionManager.{VersionManager}
+use Rattle.version_manager.specs.Managers.{heldBy, badManager}
+use Rattle.version_manager.specs.Group.{groupedBy, groupVerdict}
 use Rattle.risinglight.specs.Maps.{Option, some, unwrapOr, contains, withNumber, withoutNumber, Binding, binding, get, insert, keys}
 use Rattle.risinglight.specs.Numbers.{wrapping}
 use Rattle.risinglight.specs.Transaction.{pushed, splitOn, split, dedupOn, dedup, sort-unstable, DeleteVector, dvs}
 use Rattle.risinglight.specs.Groupings.{byKey, Walks, grouping-order, vectorIn, byRowset, following, GroupingLaws}
 use Rattle.risinglight.proofs.Maps.{get-insert, contains-with, contains-without}
 use Rattle.risinglight.proofs.Files.{any-arranged}
-use Rattle.risinglight.proofs.Selections.{arranged-sorted}
+use Rattle.risinglight.proofs.Selections.{isIn-contains, arranged-sorted}
 
 -- The map.
 
@@ -78,10 +86,6 @@ distinct-split [] m d = d
 distinct-split (h ∷ hs) m d =
     let v = unwrapOr [] (get (h .rowset) m) ++ (h .row ∷ []) in
     distinct-split hs (pushed (h .rowset) (h .row) m) (subst Distinct (sym (keys-insert (h .rowset) v m)) (distinct-with (h .rowset) (keys m) d))
-
-isIn-contains : (l : List ℕ) (x : ℕ) → isIn l x ≡ contains x l
-isIn-contains [] x = refl
-isIn-contains (y ∷ l) x = by-cases (eqb y x) (λ e. rw e) (λ e. rw e (isIn-contains l x))
 
 -- numbers of which none is twice, sorted
 arranged-distinct : (l : List ℕ) → Distinct l → arranged rowKey l ≡ inMemory l
@@ -204,6 +208,13 @@ module _ (hs : List Handle) (m : List (Binding (List ℕ))) (next : ℕ) (w : Wa
       ∙ ap (map made) (sym (arranged-sorted byKey m (ascending-sorted byKey m (ascend-to byKey m up))))
       ∙ made-walked
 
+accepted-ids : (m : VersionManager) (h : Handles) (rs ls cs fs ms : List ℕ) (b : List (Binding (List ℕ))) → groupVerdict m h rs ls cs fs ms ≡ Accepted → Walks (handlesOf h) b
+    → map (λ (v : DeleteVector). v .dv-id) (dvs (heldBy m .nextVector) b) ≡ following (heldBy m .nextVector) (length (groupedBy h))
+accepted-ids m h rs ls cs fs ms b a w =
+    let next = heldBy m .nextVector in
+    let rules = (badManager m ⇒ BadManager) ∷ groupRules (handlesOf h) (h .count) next (length rs) (length ls) (length cs) (length fs) (length ms) in
+    same-ids (handlesOf h) b next w (none-judged rules a .1 .1 .1 .0)
+
 pub groupings : GroupingLaws
 groupings =
     record {
@@ -212,6 +223,7 @@ groupings =
       memory = new-memory;
       vectors = same-vectors;
       ids = same-ids;
+      accepted = accepted-ids;
       upwards = same-upwards;
       order = record { walks = refl; apart = refl; ids = refl; rust = refl; port = refl };
     }

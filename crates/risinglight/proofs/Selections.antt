@@ -1,28 +1,41 @@
 -- The Rust's selection for a compaction beside the port's. Assumes nothing.
-use mathlib.Core.Path.{_≡_, refl, ap, _∙_}
-use mathlib.Core.Bool.{true, false, cond, not}
+use mathlib.Core.Path.{_≡_, refl, sym, ap, subst, _∙_}
+use mathlib.Core.Bool.{true, false, cond, not, _&&_}
 use mathlib.Core.List.{List, [], _∷_, map}
 use Prim.Native.Nat.{ℕ, _+_, _≤_}
 use native.Mathlib.Omega.{arith}
-use lib.Dec.{leb, ltb}
-use lib.ListN.{length}
-use borrow.Author.Tests.{le-leb, le-ltb, ltb-false}
-use Rattle.lists.specs.Order.{less}
-use Rattle.lists.specs.Keyed.{placed, arranged, ascending}
+use lib.Dec.{eqb, leb, ltb}
+use lib.ListN.{length, getD}
+use borrow.Author.Tests.{leb-true, le-leb, le-ltb, ltb-false}
+use Rattle.lists.specs.Order.{less, same}
+use Rattle.lists.specs.Keyed.{keep, has, placed, arranged, ascending}
 use Rattle.lists.proofs.Tests.{by-cases, clash, neither}
-use Rattle.lists.proofs.Keyed.{All, all-any, Ascending, Sorted, ascend-to, ascending-sorted, placed-first, length-arranged}
+use Rattle.lists.proofs.Keyed.{All, all-any, all-keep, all-mapped, Ascending, Sorted, ascend-to, ascending-sorted, placed-first, length-arranged}
 use Rattle.ids.specs.Ids.{largest64}
+use Rattle.columns.specs.Rows.{rows}
+use Rattle.columns.proofs.Rows.{rows-all}
+use Rattle.delete_vector.specs.Memory.{rowKey, isIn, inMemory}
+use Rattle.delete_vector.proofs.Merging.{memory-of}
+use Rattle.delete_vector.proofs.Together.{laws-hold}
+use Rattle.snapshot.specs.Entries.{Entry, shownBy, entryAt}
 use Rattle.vacuum.proofs.Arranged.{arranged-map}
 use Rattle.version_state.specs.declared.VersionManagerInner.{VersionManagerInner}
-use Rattle.version_state.specs.State.{stateOf}
+use Rattle.version_state.specs.State.{stateOf, pairsAt}
 use Rattle.version_state.specs.Sound.{badInner}
-use Rattle.compactor.specs.Selection.{Sized, takenOn, taken, sized, rowsetsNow, selected}
+use Rattle.compactor.specs.Selection.{Sized, sizedAs, takenOn, taken, compacted, sized, rowsetsNow, selected}
 use Rattle.compactor.specs.Laws.{total}
 use Rattle.compactor.specs.Laws as compactor
 use Rattle.compactor.proofs.Rising.{selected-rises}
+use Rattle.plain_record.specs.Sets.{itself}
+use Rattle.risinglight.specs.Maps.{contains}
+use Rattle.risinglight.specs.Snapshot.{Snapshot, hasRowset}
 use Rattle.risinglight.specs.Numbers.{wrapping}
-use Rattle.risinglight.specs.Compactor.{rowset-id, byRowset, selecting, select}
+use Rattle.risinglight.specs.Compactor.{get-rowsets-of, rowset-id, byRowset, selecting, select}
 use Rattle.risinglight.specs.Selections.{selectedOf, selection-order, wrapsOn, selection-wraps, SelectionLaws}
+
+pub isIn-contains : (l : List ℕ) (x : ℕ) → isIn l x ≡ contains x l
+isIn-contains [] x = refl
+isIn-contains (y ∷ l) x = by-cases (eqb y x) (λ e. rw e) (λ e. rw e (isIn-contains l x))
 
 -- where no sum wraps, the loop takes what the port takes
 selecting-on : (target n : ℕ) (l : List Sized) → wrapsOn target n l ≡ false → selecting target n l ≡ takenOn target n l
@@ -85,6 +98,64 @@ shown-same m g t target ns w =
     let up : ascending compactor.byRowset ids ≡ true = rw e at (selected-rises m g t target ns) in
     arranged-ids (taken target l) ∙ arranged-sorted compactor.byRowset ids (ascending-sorted compactor.byRowset ids (ascend-to compactor.byRowset ids up)))
 
+-- The rowsets of a table that are shown rise: with sizes of 0 all are selected.
+
+abbrev zeros : List ℕ → List ℕ
+zeros [] = []
+zeros (r ∷ rs) = 0 ∷ zeros rs
+
+zeros-taken : (rs : List ℕ) → takenOn 0 0 (sized rs (zeros rs)) ≡ sized rs (zeros rs)
+zeros-taken [] = refl
+zeros-taken (r ∷ rs) = ap (λ (l : List Sized). sizedAs r 0 ∷ l) (zeros-taken rs)
+
+zeros-ids : (rs : List ℕ) → map rowset-id (sized rs (zeros rs)) ≡ rs
+zeros-ids [] = refl
+zeros-ids (r ∷ rs) = ap (λ (l : List ℕ). r ∷ l) (zeros-ids rs)
+
+few-rise : (l : List Sized) → leb (length l) 1 ≡ true → Ascending rowKey (map rowset-id l)
+few-rise [] h = tt
+few-rise (x ∷ []) h = (tt, tt)
+few-rise (x ∷ (y ∷ l)) h = absurd (omega (arith, leb-true (length (x ∷ (y ∷ l))) 1 h))
+
+now-rises : (m : VersionManagerInner) → badInner m ≡ false → (t : ℕ) → Ascending rowKey (rowsetsNow t (stateOf m))
+now-rises m g t =
+    let rs = rowsetsNow t (stateOf m) in
+    let l = sized rs (zeros rs) in
+    let q : taken 0 l ≡ l = zeros-taken rs in
+    let up : ascending rowKey (map rowset-id (compacted l)) ≡ true = subst (λ (k : List Sized). ascending rowKey (map rowset-id (compacted k)) ≡ true) q (selected-rises m g t 0 (zeros rs)) in
+    subst (Ascending rowKey) (zeros-ids rs)
+    (by-cases (leb (length l) 1)
+    (λ e. few-rise l e)
+    (λ e. let v : ascending rowKey (map rowset-id l) ≡ true = rw e at up in ascend-to rowKey (map rowset-id l) v))
+
+-- they are those of the pairs
+abbrev Pair : List ℕ → Type 0
+Pair k = k ≡ getD k 0 0 ∷ getD k 1 0 ∷ []
+
+pairs-now : (m : VersionManagerInner) → All Pair (pairsAt (m .epoch) (stateOf m))
+pairs-now m =
+    let ps = m .rowsets in
+    let f = entryAt (ps .tables ∷ ps .rowsets ∷ []) (ps .added) (ps .deleted) in
+    all-mapped Pair (λ (x : Entry). x .ids) (keep (shownBy (m .epoch)) (rows f (ps .count)))
+    (all-keep (λ (x : Entry). Pair (x .ids)) (shownBy (m .epoch)) (rows f (ps .count)) (rows-all f (λ (x : Entry). Pair (x .ids)) (λ i. refl) (ps .count)))
+
+now-has : (t r : ℕ) (l : List (List ℕ)) → All Pair l → contains r (map (λ k. getD k 1 0) (keep (λ k. eqb (getD k 0 0) t) l)) ≡ has itself (t ∷ r ∷ []) l
+now-has t r [] h = refl
+now-has t r (k ∷ l) h =
+    let ih = now-has t r l (h .1) in
+    let q : same k (t ∷ r ∷ []) ≡ eqb (getD k 0 0) t && (eqb (getD k 1 0) r && true) = ap (λ (x : List ℕ). same x (t ∷ r ∷ [])) (h .0) in
+    by-cases (eqb (getD k 0 0) t)
+    (λ e. by-cases (eqb (getD k 1 0) r) (λ f. rw (q, e, f)) (λ f. rw (q, e, f) ih))
+    (λ e. rw (q, e) ih)
+
+set-walked : (m : VersionManagerInner) → badInner m ≡ false → (t : ℕ) (s : Snapshot) → ((r : ℕ) → has itself (t ∷ r ∷ []) (pairsAt (m .epoch) (stateOf m)) ≡ hasRowset t r s)
+    → inMemory (get-rowsets-of t s) ≡ rowsetsNow t (stateOf m)
+set-walked m g t s h =
+    let rs = rowsetsNow t (stateOf m) in
+    laws-hold .oneForm (get-rowsets-of t s) rs
+    (λ r. isIn-contains (get-rowsets-of t s) r ∙ sym (h r) ∙ sym (now-has t r (pairsAt (m .epoch) (stateOf m)) (pairs-now m)) ∙ sym (isIn-contains rs r))
+    ∙ memory-of rs (now-rises m g t)
+
 fits-on : (target n : ℕ) (l : List Sized) → n + total l ≤ largest64 → wrapsOn target n l ≡ false
 fits-on target n [] h = refl
 fits-on target n (x ∷ l) h =
@@ -125,6 +196,7 @@ selections =
     record {
       same = upwards-same;
       shown = shown-same;
+      walked = set-walked;
       fits = λ target l h. fits-on target 0 l (omega arith);
       all = all-same;
       order = record { apart = refl; alike = refl; fits = refl; rust = refl; port = refl };

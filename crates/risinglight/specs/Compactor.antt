@@ -6,7 +6,13 @@ use lib.Dec.{leb}
 use lib.ListN.{length}
 use Rattle.lists.specs.Keyed.{arranged}
 use Rattle.compactor.specs.Selection.{Sized}
+use Rattle.risinglight.specs.Maps.{unwrapOr, get}
+use Rattle.risinglight.specs.Snapshot.{Snapshot}
 use Rattle.risinglight.specs.Numbers.{wrapping}
+
+-- `get_rowsets_of`: the set that is walked; where a table has none, nothing is
+abbrev pub get-rowsets-of : ℕ → Snapshot → List ℕ
+get-rowsets-of t s = unwrapOr [] (get t (s .rowsets))
 
 abbrev pub rowset-id : Sized → ℕ
 rowset-id x = x .rowset

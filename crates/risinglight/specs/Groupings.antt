@@ -7,8 +7,13 @@ use lib.ListN.{length}
 use Rattle.lists.specs.Keyed.{arranged, ascending}
 use Rattle.delete_vector.specs.Records.{recordsOf}
 use Rattle.delete_vector.specs.Memory.{rowKey, inMemory}
-use Rattle.transaction.specs.Groups.{Handle, rowsOf, rowsetsOf, Vector, vectorsOf}
+use Rattle.ids.specs.declared.refusal.Verdict.the-variants.{Accepted}
+use Rattle.transaction.specs.declared.Handles.{Handles}
+use Rattle.transaction.specs.Groups.{Handle, handlesOf, rowsOf, rowsetsOf, Vector, vectorsOf}
 use Rattle.transaction.specs.Says.{usedUp}
+use Rattle.version_manager.specs.declared.VersionManager.{VersionManager}
+use Rattle.version_manager.specs.Managers.{heldBy}
+use Rattle.version_manager.specs.Group.{groupedBy, groupVerdict}
 use Rattle.risinglight.specs.Maps.{unwrapOr, Binding, binding, get, keys}
 use Rattle.risinglight.specs.Transaction.{split, dedup, sort-unstable, DeleteVector, dvs}
 
@@ -63,6 +68,9 @@ pub record GroupingLaws : Type 0 where
   -- with the same ids, where the port has so many
   pub ids : (hs : List Handle) (m : List (Binding (List ℕ))) (next : ℕ) → Walks hs m → usedUp next (vectorsOf hs) ≡ false
       → map (λ (v : DeleteVector). v .dv-id) (dvs next m) ≡ following next (length (vectorsOf hs))
+  -- which it has for a grouping that it accepts
+  pub accepted : (m : VersionManager) (h : Handles) (rs ls cs fs ms : List ℕ) (b : List (Binding (List ℕ))) → groupVerdict m h rs ls cs fs ms ≡ Accepted → Walks (handlesOf h) b
+      → map (λ (v : DeleteVector). v .dv-id) (dvs (heldBy m .nextVector) b) ≡ following (heldBy m .nextVector) (length (groupedBy h))
   -- and upwards in the same order, so that each has the same id
   pub upwards : (hs : List Handle) (m : List (Binding (List ℕ))) (next : ℕ) → Walks hs m → grouping-order m ≡ false → map vectorIn (dvs next m) ≡ vectorsOf hs
   -- where they differ

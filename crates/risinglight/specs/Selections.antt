@@ -4,14 +4,17 @@ use mathlib.Core.Bool.{Bool, true, false, cond, not, _||_}
 use mathlib.Core.List.{List, [], _∷_, map}
 use Prim.Native.Nat.{ℕ, _+_, _≤_}
 use lib.Dec.{leb, ltb}
-use Rattle.lists.specs.Keyed.{arranged, ascending}
+use Rattle.lists.specs.Keyed.{has, arranged, ascending}
 use Rattle.ids.specs.Ids.{largest64}
 use Rattle.version_state.specs.declared.VersionManagerInner.{VersionManagerInner}
-use Rattle.version_state.specs.State.{stateOf}
+use Rattle.version_state.specs.State.{stateOf, pairsAt}
 use Rattle.version_state.specs.Sound.{badInner}
+use Rattle.delete_vector.specs.Memory.{inMemory}
 use Rattle.compactor.specs.Selection.{Sized, sizedAs, taken, compacted, sized, rowsetsNow, selected}
 use Rattle.compactor.specs.Laws.{total}
-use Rattle.risinglight.specs.Compactor.{rowset-id, byRowset, select}
+use Rattle.plain_record.specs.Sets.{itself}
+use Rattle.risinglight.specs.Snapshot.{Snapshot, hasRowset}
+use Rattle.risinglight.specs.Compactor.{get-rowsets-of, rowset-id, byRowset, select}
 
 -- what the port selects of rowsets
 abbrev pub selectedOf : ℕ → List Sized → List ℕ
@@ -59,6 +62,9 @@ pub record SelectionLaws : Type 0 where
   -- of the rowsets of a table that the current epoch shows, with their sizes
   pub shown : (m : VersionManagerInner) → badInner m ≡ false → (t target : ℕ) (ns : List ℕ) → selection-wraps target (sized (rowsetsNow t (stateOf m)) ns) ≡ false
       → select target (sized (rowsetsNow t (stateOf m)) ns) ≡ selected t target ns (stateOf m)
+  -- which are the set of a snapshot that has the same pairs, in ascending order
+  pub walked : (m : VersionManagerInner) → badInner m ≡ false → (t : ℕ) (s : Snapshot) → ((r : ℕ) → has itself (t ∷ r ∷ []) (pairsAt (m .epoch) (stateOf m)) ≡ hasRowset t r s)
+      → inMemory (get-rowsets-of t s) ≡ rowsetsNow t (stateOf m)
   -- no sum passes 64 bits where all sizes together do not
   pub fits : (target : ℕ) (l : List Sized) → total l ≤ largest64 → selection-wraps target l ≡ false
   -- in any order where all are taken
