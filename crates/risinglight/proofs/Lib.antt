@@ -11,3 +11,5 @@ pub mod Pools
 pub mod Relation
 pub mod Held
 pub mod Theorem
+pub mod Selections
+pub mod Groupings

@@ -6,3 +6,8 @@ pub mod VersionManager
 pub mod Storage
 pub mod Run
 pub mod Agreement
+pub mod Numbers
+pub mod Compactor
+pub mod Selections
+pub mod Transaction
+pub mod Groupings

@@ -2,7 +2,17 @@
 // functions pin what is claimed to the check.
 ghost use Rattle.plain_record.specs.Run.{port};
 ghost use Rattle.risinglight.specs.Agreement.{Agreement};
+ghost use Rattle.risinglight.specs.Selections.{SelectionLaws};
+ghost use Rattle.risinglight.specs.Groupings.{GroupingLaws};
 
 pub fn agrees()
     ensures { λ _. ⌜ Agreement port ⌝ }
+{}
+
+pub fn selections_agree()
+    ensures { λ _. ⌜ SelectionLaws ⌝ }
+{}
+
+pub fn groupings_agree()
+    ensures { λ _. ⌜ GroupingLaws ⌝ }
 {}
