@@ -9,3 +9,6 @@ pub mod Files
 pub mod Starts
 pub mod Relation
 pub mod Theorem
+pub mod DeleteVectorBytes
+pub mod DeleteVectorRows
+pub mod DeleteVectorLaws

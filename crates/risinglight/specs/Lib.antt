@@ -6,3 +6,5 @@ pub mod VersionManager
 pub mod Storage
 pub mod Run
 pub mod Agreement
+pub mod DeleteVector
+pub mod DeleteVectorLaws

@@ -2,7 +2,12 @@
 // functions pin what is claimed to the check.
 ghost use Rattle.plain_record.specs.Run.{port};
 ghost use Rattle.risinglight.specs.Agreement.{Agreement};
+ghost use Rattle.risinglight.specs.DeleteVectorLaws.{DeleteVectorLaws};
 
 pub fn agrees()
     ensures { λ _. ⌜ Agreement port ⌝ }
+{}
+
+pub fn delete_vectors_agree()
+    ensures { λ _. ⌜ DeleteVectorLaws ⌝ }
 {}
