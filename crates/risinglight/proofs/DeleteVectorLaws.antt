@@ -17,8 +17,9 @@ use Rattle.delete_vector.specs.Laws.{areRows}
 use Rattle.delete_vector.proofs.Merging.{memory-all}
 use Rattle.delete_vector.proofs.Together.{laws-hold}
 use Rattle.risinglight.specs.Maps.{Outcome, fails, ok, andThen}
-use Rattle.risinglight.specs.DeleteVector.{decode-all, new, «open», apply-to}
+use Rattle.risinglight.specs.DeleteVector.{new, «open», apply-to}
 use Rattle.risinglight.specs.DeleteVectorLaws.{ReaderDiffers, Examples, isSet, DeleteVectorLaws}
+use Rattle.risinglight.proofs.DeleteVectorLoops.{never, loops}
 use Rattle.risinglight.proofs.DeleteVectorBytes.{all-encoded, all-decoded}
 use Rattle.risinglight.proofs.DeleteVectorRows.{new-memory, mask-applied}
 
@@ -34,9 +35,6 @@ opens : (file rows : List ℕ) → recordsIn file ≡ Rows rows → «open» fil
 opens file rows e =
     let w = laws-hold .onlyWritten file rows e in
     ap (λ (f : List ℕ). «open» f) (w .0) ∙ opened rows (w .1)
-
-never : {A : Type 0} {a : A} → fails ≡ ok a → ⊥
-never e = let z : _≡_ {A = ℕ} 0 1 = cc in omega arith
 
 refused : (file : List ℕ) → «open» file ≡ fails → (r : Records) → recordsIn file ≡ r → isBad r ≡ true
 refused file f (Rows rows) e = absurd (never (sym f ∙ opens file rows e))
@@ -87,6 +85,7 @@ examples = record {
 
 pub delete-vectors : DeleteVectorLaws
 delete-vectors = record {
+  loops = loops;
   writes = λ rows h. all-encoded rows (rows-all rows h);
   opens = opens;
   refuses = λ file f. refused file f (recordsIn file) refl;

@@ -9,6 +9,7 @@ pub mod Files
 pub mod Starts
 pub mod Relation
 pub mod Theorem
+pub mod DeleteVectorLoops
 pub mod DeleteVectorBytes
 pub mod DeleteVectorRows
 pub mod DeleteVectorLaws

@@ -2,11 +2,12 @@
 use mathlib.Core.Bool.{Bool, false, cond, _&&_, _||_}
 use mathlib.Core.List.{List, [], _∷_, _++_}
 use Prim.Native.Nat.{ℕ, zero, suc, _+_, _-_, _*_, _/_, _%_}
+use lib.Count.{leadingZeros}
 use lib.Dec.{ltb, leb, eqb}
 use lib.ListN.{length, drop}
 use Rattle.risinglight.specs.Maps.{Outcome, fails, ok, andThen}
 
--- Reading. Where a loop of the Rust's has a bound here, it is one that the bytes left set, since each turn takes one at least.
+-- Reading. A loop has a bound here, `within` it, that the law `Loops` shows to be none: each turn takes a byte at least.
 
 -- a number that was read, and the bytes after it
 pub record Read : Type 0 where
@@ -44,13 +45,16 @@ abbrev pub advance : ℕ → List ℕ → Outcome (List ℕ)
 advance n buf = cond (ltb (length buf) n) fails (ok (drop n buf))
 
 -- fields up to the end of the group, at most n of them
-abbrev pub skip-group : (ℕ → ℕ → List ℕ → Outcome (List ℕ)) → ℕ → ℕ → List ℕ → Outcome (List ℕ)
-skip-group skip zero tag buf = fails
-skip-group skip (suc n) tag buf =
+abbrev pub group-within : (ℕ → ℕ → List ℕ → Outcome (List ℕ)) → ℕ → ℕ → List ℕ → Outcome (List ℕ)
+group-within skip zero tag buf = fails
+group-within skip (suc n) tag buf =
     andThen (decode-key buf) (λ k.
     cond (eqb (wireOf k) 4)
     (cond (eqb (tagOf k) tag) (ok (k .left)) fails)
-    (andThen (skip (wireOf k) (tagOf k) (k .left)) (λ rest. skip-group skip n tag rest)))
+    (andThen (skip (wireOf k) (tagOf k) (k .left)) (λ rest. group-within skip n tag rest)))
+
+abbrev pub skip-group : (ℕ → ℕ → List ℕ → Outcome (List ℕ)) → ℕ → List ℕ → Outcome (List ℕ)
+skip-group skip tag buf = group-within skip (length buf) tag buf
 
 -- wire types: 0 a varint, 1 eight bytes, 2 bytes behind their count, 3 the start of a group, 4 its end, 5 four bytes. Fields in
 -- groups are nested at most `depth` deep
@@ -60,44 +64,52 @@ skip-field (suc depth) wire tag buf =
     cond (eqb wire 0) (andThen (decode-varint buf) (λ r. ok (r .left)))
     (cond (eqb wire 1) (advance 8 buf)
     (cond (eqb wire 2) (andThen (decode-varint buf) (λ r. advance (r .value) (r .left)))
-    (cond (eqb wire 3) (skip-group (skip-field depth) (length buf) tag buf)
+    (cond (eqb wire 3) (skip-group (skip-field depth) tag buf)
     (cond (eqb wire 5) (advance 4 buf) fails))))
 
--- a field of the record: number 1 is `row_id`, its low 32 bits. 99 is the recursion limit of 100 less the record
-abbrev pub merge-field : ℕ → List ℕ → Outcome Read
-merge-field row buf =
-    andThen (decode-key buf) (λ k.
+-- a field of the record, behind its key: number 1 is `row_id`, its low 32 bits. 99 is the recursion limit of 100 less the record
+abbrev pub merge-field : ℕ → Read → Outcome Read
+merge-field row k =
     cond (eqb (tagOf k) 1)
     (cond (eqb (wireOf k) 0) (andThen (decode-varint (k .left)) (λ r. ok (read (r .value % 4294967296) (r .left)))) fails)
-    (andThen (skip-field 99 (wireOf k) (tagOf k) (k .left)) (λ rest. ok (read row rest))))
+    (andThen (skip-field 99 (wireOf k) (tagOf k) (k .left)) (λ rest. ok (read row rest)))
+
+abbrev pub merge-next : ℕ → List ℕ → Outcome Read
+merge-next row buf = andThen (decode-key buf) (λ k. merge-field row k)
 
 -- no fields more: the record must end where its length says
 abbrev pub merged : ℕ → ℕ → List ℕ → Outcome Read
 merged limit row buf = cond (eqb (length buf) limit) (ok (read row buf)) fails
 
--- fields, at most n of them, while more than `limit` bytes are left
-abbrev pub merge-loop : ℕ → ℕ → ℕ → List ℕ → Outcome Read
-merge-loop zero limit row buf = merged limit row buf
-merge-loop (suc n) limit row buf =
+-- fields while more than `limit` bytes are left, at most n of them
+abbrev pub fields-within : ℕ → ℕ → ℕ → List ℕ → Outcome Read
+fields-within zero limit row buf = merged limit row buf
+fields-within (suc n) limit row buf =
     cond (ltb limit (length buf))
-    (andThen (merge-field row buf) (λ r. merge-loop n limit (r .value) (r .left)))
+    (andThen (merge-next row buf) (λ r. fields-within n limit (r .value) (r .left)))
     (merged limit row buf)
+
+abbrev pub merge-loop : ℕ → ℕ → List ℕ → Outcome Read
+merge-loop limit row buf = fields-within (length buf) limit row buf
 
 -- the fields, whose count of bytes is n
 abbrev pub merge-delimited : ℕ → List ℕ → Outcome Read
-merge-delimited n buf = cond (ltb (length buf) n) fails (merge-loop (length buf) (length buf - n) 0 buf)
+merge-delimited n buf = cond (ltb (length buf) n) fails (merge-loop (length buf - n) 0 buf)
 
 abbrev pub decode-length-delimited : List ℕ → Outcome Read
 decode-length-delimited buf = andThen (decode-varint buf) (λ r. merge-delimited (r .value) (r .left))
 
 -- records until the bytes are used up, at most n of them
-abbrev pub decode-all : ℕ → List ℕ → Outcome (List ℕ)
-decode-all zero [] = ok []
-decode-all zero (b ∷ buf) = fails
-decode-all (suc n) [] = ok []
-decode-all (suc n) (b ∷ buf) =
+abbrev pub records-within : ℕ → List ℕ → Outcome (List ℕ)
+records-within zero [] = ok []
+records-within zero (b ∷ buf) = fails
+records-within (suc n) [] = ok []
+records-within (suc n) (b ∷ buf) =
     andThen (decode-length-delimited (b ∷ buf)) (λ r.
-    andThen (decode-all n (r .left)) (λ rows. ok (r .value ∷ rows)))
+    andThen (records-within n (r .left)) (λ rows. ok (r .value ∷ rows)))
+
+abbrev pub decode-all : List ℕ → Outcome (List ℕ)
+decode-all buf = records-within (length buf) buf
 
 -- Writing.
 
@@ -109,12 +121,19 @@ varint-bytes (suc n) value = cond (ltb value 128) (value ∷ []) ((value % 128 +
 abbrev pub encode-varint : ℕ → List ℕ
 encode-varint value = varint-bytes 10 value
 
+-- of 64 bits. n / 2 * 2 + 1 is `n | 1`
+abbrev pub encoded-len-varint : ℕ → ℕ
+encoded-len-varint n = ((63 - leadingZeros 64 (n / 2 * 2 + 1)) * 9 + 73) / 64
+
 -- the default is left out
 abbrev pub encode-raw : ℕ → List ℕ
 encode-raw row = cond (eqb row 0) [] (encode-varint 8 ++ encode-varint row)
 
+abbrev pub encoded-len : ℕ → ℕ
+encoded-len row = cond (eqb row 0) 0 (encoded-len-varint 8 + encoded-len-varint row)
+
 abbrev pub encode-length-delimited : ℕ → List ℕ
-encode-length-delimited row = encode-varint (length (encode-raw row)) ++ encode-raw row
+encode-length-delimited row = encode-varint (encoded-len row) ++ encode-raw row
 
 abbrev pub write-all : List ℕ → List ℕ
 write-all [] = []
@@ -144,7 +163,7 @@ abbrev pub new : List ℕ → List ℕ
 new deletes = dedup (sort-unstable deletes)
 
 abbrev pub «open» : List ℕ → Outcome (List ℕ)
-«open» file = andThen (decode-all (length file) file) (λ deletes. ok (new deletes))
+«open» file = andThen (decode-all file) (λ deletes. ok (new deletes))
 
 -- Masks.
 

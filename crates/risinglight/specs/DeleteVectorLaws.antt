@@ -1,16 +1,17 @@
 -- Delete vectors: what the port writes, keeps in memory and clears is what the Rust does, and where their readers differ. Assumes nothing.
 use mathlib.Core.Path.{_≡_}
-use mathlib.Core.Bool.{Bool, true, not}
+use mathlib.Core.Bool.{Bool, true, cond, not}
 use mathlib.Core.List.{List, [], _∷_, map}
 use Prim.Native.Nat.{ℕ}
-use lib.Dec.{eqb}
+use lib.Dec.{ltb, eqb}
+use lib.ListN.{length}
 use Rattle.lists.specs.Keyed.{ascending}
 use Rattle.delete_vector.specs.Records.{recordsOf, Rows, Bad, recordsIn, isBad}
 use Rattle.delete_vector.specs.Memory.{rowKey, isIn, inMemory}
 use Rattle.delete_vector.specs.Mask.{masked}
 use Rattle.delete_vector.specs.Laws.{areRows}
-use Rattle.risinglight.specs.Maps.{fails, ok}
-use Rattle.risinglight.specs.DeleteVector.{write-all, new, «open», apply-to}
+use Rattle.risinglight.specs.Maps.{fails, ok, andThen}
+use Rattle.risinglight.specs.DeleteVector.{wireOf, tagOf, decode-key, skip-group, skip-field, merge-next, merged, merge-loop, decode-length-delimited, decode-all, write-all, new, «open», apply-to}
 
 -- the Rust opens the file, and the port does not
 pub record ReaderDiffers (file : List ℕ) : Type 0 where
@@ -57,7 +58,19 @@ pub record Examples : Type 0 where
 abbrev pub isSet : ℕ → Bool
 isSet byte = not (eqb byte 0)
 
+-- each loop of the reader is one turn of it and itself again, without a bound
+pub record Loops : Type 0 where
+  pub groups : (depth tag : ℕ) (buf : List ℕ) → skip-group (skip-field depth) tag buf ≡ andThen (decode-key buf) (λ k.
+      cond (eqb (wireOf k) 4)
+      (cond (eqb (tagOf k) tag) (ok (k .left)) fails)
+      (andThen (skip-field depth (wireOf k) (tagOf k) (k .left)) (λ rest. skip-group (skip-field depth) tag rest)))
+  pub fields : (limit row : ℕ) (buf : List ℕ) → merge-loop limit row buf ≡
+      cond (ltb limit (length buf)) (andThen (merge-next row buf) (λ r. merge-loop limit (r .value) (r .left))) (merged limit row buf)
+  pub records : (b : ℕ) (buf : List ℕ) → decode-all (b ∷ buf) ≡
+      andThen (decode-length-delimited (b ∷ buf)) (λ r. andThen (decode-all (r .left)) (λ rows. ok (r .value ∷ rows)))
+
 pub record DeleteVectorLaws : Type 0 where
+  pub loops : Loops
   pub writes : (rows : List ℕ) → areRows rows ≡ true → write-all rows ≡ recordsOf rows
   -- what the port's reader accepts the Rust opens, with the same rows in memory
   pub opens : (file rows : List ℕ) → recordsIn file ≡ Rows rows → «open» file ≡ ok (inMemory rows)
