@@ -1,6 +1,6 @@
 -- Delete vectors: the bytes of the two writers, and the Rust's reader on them. Assumes nothing.
 use mathlib.Core.Path.{_≡_, refl, sym, ap, _∙_}
-use mathlib.Core.Bool.{true, false, cond}
+use mathlib.Core.Bool.{true, false}
 use mathlib.Core.List.{List, [], _∷_, _++_}
 use Prim.Native.Nat.{ℕ, zero, suc, _+_, _-_, _*_, _/_, _%_, _^_, _<_, _≤_}
 use native.Mathlib.Omega.{arith}
@@ -18,8 +18,8 @@ use Rattle.delete_vector.specs.Sizes.{Significant}
 use Rattle.delete_vector.proofs.Encoding.{varint-small, varint-big}
 use Rattle.delete_vector.proofs.Bytes.{big-length}
 use Rattle.delete_vector.proofs.Sizes.{varint-length, varint-short, record-zero, record-more, record-short}
-use Rattle.risinglight.specs.Maps.{Outcome, fails, ok, andThen}
-use Rattle.risinglight.specs.DeleteVector.{Read, read, varint-within, decode-varint, merge-next, fields-within, merge-delimited, decode-length-delimited, records-within, encoded-len-varint, encoded-len, varint-bytes, encode-varint, encode-raw, encode-length-delimited, write-all}
+use Rattle.risinglight.specs.Maps.{Outcome, ok, andThen}
+use Rattle.risinglight.specs.DeleteVector.{Read, read, varint-within, merge-next, fields-within, merge-delimited, decode-length-delimited, records-within, encoded-len-varint, encoded-len, varint-bytes, encode-varint, encode-raw, encode-length-delimited, write-all}
 
 -- Writing.
 

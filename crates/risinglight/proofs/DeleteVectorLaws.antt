@@ -1,17 +1,16 @@
 -- The laws of delete vectors hold. Assumes nothing.
 use mathlib.Core.Path.{_≡_, refl, sym, ap, _∙_}
-use mathlib.Core.Bool.{Bool, true, false}
+use mathlib.Core.Bool.{Bool, true}
 use mathlib.Core.List.{List, [], _∷_, map}
 use Prim.Native.Nat.{ℕ, _+_, _<_}
 use native.Mathlib.Omega.{arith}
 use lib.Dec.{ltb}
 use lib.ListN.{length}
 use borrow.Author.Tests.{ltb-true}
-use Rattle.lists.specs.Keyed.{allOf, ascending}
 use Rattle.lists.proofs.Keyed.{All, all-map, allOf-all, all-allOf}
 use Rattle.delete_vector.specs.Encoding.{varintBy, varint, uintField, delimited}
 use Rattle.delete_vector.specs.Records.{rowLimit, recordOf, recordsOf, isRecord, sizeIn, Records, Rows, Bad, recordsBy, recordsAt, recordsIn, isBad}
-use Rattle.delete_vector.specs.Memory.{rowKey, isIn, inMemory}
+use Rattle.delete_vector.specs.Memory.{isIn, inMemory}
 use Rattle.delete_vector.specs.Mask.{masked}
 use Rattle.delete_vector.specs.Laws.{areRows}
 use Rattle.delete_vector.proofs.Merging.{memory-all}
@@ -58,7 +57,7 @@ masked-same p q offset (b ∷ bytes) h = rw (h offset, masked-same p q (offset +
 mask-new : (rows bytes : List ℕ) (offset : ℕ) → areRows rows ≡ true → apply-to (new rows) (map isSet bytes) offset ≡ map isSet (masked (isIn rows) offset bytes)
 mask-new rows bytes offset h =
     let r : areRows (inMemory rows) ≡ true =
-        all-allOf (λ row. ltb row rowLimit) (inMemory rows) (memory-all (λ row. ltb row rowLimit ≡ true) rows (allOf-all (λ row. ltb row rowLimit) rows h)) in
+    all-allOf (λ row. ltb row rowLimit) (inMemory rows) (memory-all (λ row. ltb row rowLimit ≡ true) rows (allOf-all (λ row. ltb row rowLimit) rows h)) in
     ap (λ (l : List ℕ). apply-to l (map isSet bytes) offset) (new-memory rows)
     ∙ mask-applied (inMemory rows) bytes offset r (laws-hold .ascends rows)
     ∙ ap (map isSet) (masked-same (isIn (inMemory rows)) (isIn rows) offset bytes (laws-hold .sameSet rows))

@@ -1,21 +1,20 @@
 -- Delete vectors: rows in memory, and the masks that they clear. Assumes nothing.
-use mathlib.Core.Path.{_≡_, refl, sym, ap, ap₂, _∙_}
+use mathlib.Core.Path.{_≡_, refl, sym, ap, _∙_}
 use mathlib.Core.Bool.{Bool, true, false, _&&_, _||_, true≢false}
 use mathlib.Core.List.{List, [], _∷_, map}
-use Prim.Native.Nat.{ℕ, suc, _+_, _%_, _<_, _≤_}
+use Prim.Native.Nat.{ℕ, _+_, _%_, _<_, _≤_}
 use native.Mathlib.Omega.{arith}
 use lib.Dec.{ltb, leb, eqb}
-use lib.ListN.{drop}
-use borrow.Author.Tests.{lt-ltb, ltb-true, ltb-false, leb-true, leb-false, eqb-true, eqb-false, eq-eqb, ne-eqb}
+use borrow.Author.Tests.{lt-ltb, ltb-true, ltb-false, leb-true, leb-false, eqb-true, eqb-false, ne-eqb}
 use Rattle.lists.specs.Keyed.{above, ascending}
 use Rattle.lists.proofs.Tests.{by-cases, or-swap, both}
 use Rattle.delete_vector.specs.Records.{rowLimit}
 use Rattle.delete_vector.specs.Memory.{rowKey, isIn, inMemory}
 use Rattle.delete_vector.specs.Mask.{masked}
 use Rattle.delete_vector.specs.Laws.{areRows}
-use Rattle.delete_vector.proofs.Masking.{masked-none, masked-more, masked-below}
+use Rattle.delete_vector.proofs.Masking.{masked-more, masked-below}
 use Rattle.delete_vector.proofs.Together.{laws-hold}
-use Rattle.risinglight.specs.DeleteVector.{sorted-in, sort-unstable, dedup-after, dedup, new, partition-point, cleared, apply-to}
+use Rattle.risinglight.specs.DeleteVector.{sorted-in, sort-unstable, dedup-after, dedup, new, cleared, apply-to}
 use Rattle.risinglight.specs.DeleteVectorLaws.{isSet}
 
 -- In memory.

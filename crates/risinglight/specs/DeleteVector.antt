@@ -7,7 +7,8 @@ use lib.Dec.{ltb, leb, eqb}
 use lib.ListN.{length, drop}
 use Rattle.risinglight.specs.Maps.{Outcome, fails, ok, andThen}
 
--- Reading. A loop has a bound here, `within` it, that the law `Loops` shows to be none: each turn takes a byte at least.
+-- Reading. Groups, fields and records are bounded by the bytes left, for recursion to end: the law `Loops` says that this bounds
+-- nothing. The bounds of a varint and of the depth are prost's own.
 
 -- a number that was read, and the bytes after it
 pub record Read : Type 0 where
@@ -17,7 +18,7 @@ pub record Read : Type 0 where
 abbrev pub read : ℕ → List ℕ → Read
 read n buf = record { value = n; left = buf }
 
--- of at most n bytes, the last of which is at most 1
+-- of at most n bytes, and an n-th is at most 1
 abbrev pub varint-within : ℕ → List ℕ → Outcome Read
 varint-within zero buf = fails
 varint-within (suc n) [] = fails

@@ -72,7 +72,8 @@ pub record Loops : Type 0 where
 pub record DeleteVectorLaws : Type 0 where
   pub loops : Loops
   pub writes : (rows : List ℕ) → areRows rows ≡ true → write-all rows ≡ recordsOf rows
-  -- what the port's reader accepts the Rust opens, with the same rows in memory
+  -- What the port's reader accepts the Rust opens, with the same rows in memory. That the port's call takes 4,096 records at most is a rule
+  -- of its own, beside the reader
   pub opens : (file rows : List ℕ) → recordsIn file ≡ Rows rows → «open» file ≡ ok (inMemory rows)
   -- what the Rust does not open the port's reader refuses
   pub refuses : (file : List ℕ) → «open» file ≡ fails → isBad (recordsIn file) ≡ true
