@@ -30,10 +30,12 @@ use Rattle.version_manager.specs.Managers.{heldBy, badManager}
 use Rattle.version_manager.specs.Group.{groupedBy, groupVerdict}
 use Rattle.risinglight.specs.Maps.{Option, some, unwrapOr, contains, withNumber, withoutNumber, Binding, binding, get, insert, keys}
 use Rattle.risinglight.specs.Numbers.{wrapping}
-use Rattle.risinglight.specs.Transaction.{pushed, splitOn, split, dedupOn, dedup, sort-unstable, DeleteVector, dvs}
+use Rattle.risinglight.specs.Transaction.{pushed, splitOn, split, DeleteVector, dvs}
+use Rattle.risinglight.specs.DeleteVector as vector
 use Rattle.risinglight.specs.Groupings.{byKey, Walks, grouping-order, vectorIn, byRowset, following, GroupingLaws}
 use Rattle.risinglight.proofs.Maps.{get-insert, contains-with, contains-without}
 use Rattle.risinglight.proofs.Files.{any-arranged}
+use Rattle.risinglight.proofs.DeleteVectorRows.{new-memory}
 use Rattle.risinglight.proofs.Selections.{isIn-contains, arranged-sorted}
 
 -- The map.
@@ -116,46 +118,10 @@ values-split : (hs : List Handle) → All (λ b. b .value ≡ rowsOf (b .key) hs
 values-split hs =
     all-map (split hs) (λ b e. sym (ap (unwrapOr []) e) ∙ rows-split (b .key) hs []) (all-found (split hs) (distinct-split hs [] tt))
 
--- `DeleteVector::new`.
-
-any-dedup : (x row : ℕ) (l : List ℕ) → contains row (dedupOn x l) ≡ eqb x row || contains row l
-any-dedup x row [] = refl
-any-dedup x row (y ∷ l) =
-    by-cases (eqb y x)
-    (λ e.
-    let q : y ≡ x = eqb-true y x e in
-    rw e (any-dedup x row l ∙ rw q (by-cases (eqb x row) (λ f. rw f) (λ f. rw f))))
-    (λ e. rw e (ap (λ b. eqb x row || b) (any-dedup y row l)))
-
-all-dedup : (P : ℕ → Type 0) (x : ℕ) (l : List ℕ) → P x → All P l → All P (dedupOn x l)
-all-dedup P x [] p h = (p, tt)
-all-dedup P x (y ∷ l) p h = by-cases (eqb y x) (λ e. rw e (all-dedup P x l p (h .1))) (λ e. rw e (p, all-dedup P y l (h .0) (h .1)))
-
-rises-dedup : (x : ℕ) (l : List ℕ) → Sorted rowKey (x ∷ l) → Ascending rowKey (dedupOn x l)
-rises-dedup x [] s = (tt, tt)
-rises-dedup x (y ∷ l) s =
-    by-cases (eqb y x)
-    (λ e. rw e (rises-dedup x l (s .0 .1, s .1 .1)))
-    (λ e.
-    let q : less (rowKey x) (rowKey y) ≡ true =
-    by-cases (less (rowKey x) (rowKey y)) (λ t. t) (λ t. absurd (eqb-false y x e (cc (less-total (rowKey y) (rowKey x) (s .0 .0) t)))) in
-    rw e (all-dedup (λ z. less (rowKey x) (rowKey z) ≡ true) y l q (all-map l (λ z t. less-le (rowKey x) (rowKey y) (rowKey z) q t) (s .1 .0)), rises-dedup y l (s .1)))
-
-new-sorted : (l : List ℕ) → Sorted rowKey l → inMemory l ≡ dedup l
-new-sorted [] s = refl
-new-sorted (x ∷ l) s =
-    laws-hold .oneForm (x ∷ l) (dedupOn x l) (λ row. isIn-contains (x ∷ l) row ∙ sym (any-dedup x row l) ∙ sym (isIn-contains (dedupOn x l) row))
-    ∙ memory-of (dedupOn x l) (rises-dedup x l s)
-
-new-memory : (l : List ℕ) → dedup (sort-unstable l) ≡ inMemory l
-new-memory l =
-    sym (laws-hold .oneForm l (arranged rowKey l) (λ row. sym (any-arranged rowKey (isAt rowKey (rowKey row)) l))
-    ∙ new-sorted (arranged rowKey l) (sorted-arranged rowKey l))
-
 -- The vectors.
 
 abbrev made : Binding (List ℕ) → Vector
-made b = record { rowset = b .key; file = recordsOf (b .value); memory = dedup (sort-unstable (b .value)) }
+made b = record { rowset = b .key; file = recordsOf (b .value); memory = vector.new (b .value) }
 
 dvs-made : (v : ℕ) (m : List (Binding (List ℕ))) → map vectorIn (dvs v m) ≡ map made m
 dvs-made v [] = refl
@@ -220,7 +186,6 @@ groupings =
     record {
       rows = λ hs r. rows-split r hs [];
       rowsets = rowsets-split;
-      memory = new-memory;
       vectors = same-vectors;
       ids = same-ids;
       accepted = accepted-ids;

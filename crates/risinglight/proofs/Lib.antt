@@ -11,5 +11,9 @@ pub mod Pools
 pub mod Relation
 pub mod Held
 pub mod Theorem
+pub mod DeleteVectorLoops
+pub mod DeleteVectorBytes
+pub mod DeleteVectorRows
+pub mod DeleteVectorLaws
 pub mod Selections
 pub mod Groupings

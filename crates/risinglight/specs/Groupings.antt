@@ -15,7 +15,7 @@ use Rattle.version_manager.specs.declared.VersionManager.{VersionManager}
 use Rattle.version_manager.specs.Managers.{heldBy}
 use Rattle.version_manager.specs.Group.{groupedBy, groupVerdict}
 use Rattle.risinglight.specs.Maps.{unwrapOr, Binding, binding, get, keys}
-use Rattle.risinglight.specs.Transaction.{split, dedup, sort-unstable, DeleteVector, dvs}
+use Rattle.risinglight.specs.Transaction.{split, DeleteVector, dvs}
 
 abbrev pub byKey : Binding (List ℕ) → List ℕ
 byKey b = b .key ∷ []
@@ -62,7 +62,6 @@ pub record GroupingLaws : Type 0 where
   pub rows : (hs : List Handle) (r : ℕ) → unwrapOr [] (get r (split hs)) ≡ rowsOf r hs
   -- and one binding where a handle names it
   pub rowsets : (hs : List Handle) → arranged rowKey (keys (split hs)) ≡ rowsetsOf hs
-  pub memory : (rows : List ℕ) → dedup (sort-unstable rows) ≡ inMemory rows
   -- in any order there are the same vectors
   pub vectors : (hs : List Handle) (m : List (Binding (List ℕ))) (next : ℕ) → Walks hs m → arranged byRowset (map vectorIn (dvs next m)) ≡ vectorsOf hs
   -- with the same ids, where the port has so many

@@ -4,6 +4,7 @@ ghost use Rattle.plain_record.specs.Run.{port};
 ghost use Rattle.risinglight.specs.Agreement.{Agreement};
 ghost use Rattle.risinglight.specs.Selections.{SelectionLaws};
 ghost use Rattle.risinglight.specs.Groupings.{GroupingLaws};
+ghost use Rattle.risinglight.specs.DeleteVectors.{DeleteVectorLaws};
 
 pub fn agrees()
     ensures { λ _. ⌜ Agreement port ⌝ }
@@ -15,4 +16,8 @@ pub fn selections_agree()
 
 pub fn groupings_agree()
     ensures { λ _. ⌜ GroupingLaws ⌝ }
+{}
+
+pub fn delete_vectors_agree()
+    ensures { λ _. ⌜ DeleteVectorLaws ⌝ }
 {}
