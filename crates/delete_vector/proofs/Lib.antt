@@ -4,7 +4,11 @@ pub mod Sizes
 pub mod Records
 pub mod Bytes
 pub mod Files
-pub mod Merging
+pub mod InMemory
+pub mod Dedup
+pub mod Insertion
+pub mod Buckets
+pub mod Passes
 pub mod Masking
 pub mod Says
 pub mod Together

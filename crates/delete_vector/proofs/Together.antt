@@ -12,7 +12,7 @@ use Rattle.delete_vector.specs.Records.{rowLimit, recordsOf, Records, Ro
 use Rattle.delete_vector.specs.Memory.{rowKey, isIn}
 use Rattle.delete_vector.specs.Laws.{areRows, BadFrom, Laws}
 use Rattle.delete_vector.proofs.Records.{reads-back, Holds, holds}
-use Rattle.delete_vector.proofs.Merging.{memory-ascending, memory-same-set, memory-ext, memory-own}
+use Rattle.delete_vector.proofs.InMemory.{memory-ascending, memory-same-set, memory-ext, memory-own}
 
 rows-all : (rows : List ℕ) → areRows rows ≡ true → All (λ row. row < rowLimit) rows
 rows-all rows h = all-map rows (λ row. ltb-true row rowLimit) (allOf-all (λ row. ltb row rowLimit) rows h)

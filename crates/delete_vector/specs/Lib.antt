@@ -3,6 +3,7 @@ pub mod Encoding
 pub mod Sizes
 pub mod Records
 pub mod Memory
+pub mod Digits
 pub mod Mask
 pub mod Answers
 pub mod Says

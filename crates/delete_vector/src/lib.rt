@@ -12,6 +12,7 @@ ghost use Rattle.delete_vector.specs.Sizes.{sizeTable};
 ghost use Rattle.delete_vector.specs.Laws.{Laws};
 ghost use Rattle.delete_vector.specs.Says.{mostRecords, WriteSays, ReadSays, MemorySays, MaskSays};
 
+pub mod digits;
 pub mod file;
 pub mod mask;
 pub mod memory;

@@ -10,7 +10,7 @@ use Rattle.lists.specs.Keyed.{ascending}
 use Rattle.lists.specs.Written.{Wrote, over}
 use Rattle.lists.proofs.Written.{wrote-over}
 use Rattle.delete_vector.specs.Memory.{rowKey, inMemory}
-use Rattle.delete_vector.proofs.Merging.{memory-own}
+use Rattle.delete_vector.proofs.InMemory.{memory-own}
 
 pub copied : (rows s t : List ℕ) (i : ℕ) → Wrote s 0 (slice 0 (length rows) rows) t i → ascending rowKey rows ≡ true → (take i t ≡ inMemory rows) × (i ≤ length rows)
 copied rows s t i w h =

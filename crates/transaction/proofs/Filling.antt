@@ -10,7 +10,7 @@ use borrow.Rule.Slice.PartMut.{putMid}
 use Rattle.lists.specs.Written.{written, Wrote}
 use Rattle.delete_vector.specs.Records.{recordsOf}
 use Rattle.delete_vector.specs.Memory.{inMemory}
-use Rattle.delete_vector.proofs.Merging.{memory-length, count-is}
+use Rattle.delete_vector.proofs.InMemory.{memory-length, count-is}
 use Rattle.transaction.specs.declared.vectors.Made.{Made}
 use Rattle.transaction.specs.Groups.{Handle, rowsOf, rowsetsOf, vectorOf, lengthsIn, countsIn, memoriesIn}
 use Rattle.transaction.specs.Says.{mostHandles}

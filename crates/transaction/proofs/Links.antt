@@ -19,7 +19,7 @@ use Rattle.lists.proofs.Places.{standing}
 use Rattle.ids.specs.declared.SecondaryRowHandler.{SecondaryRowHandler}
 use Rattle.columns.proofs.Rows.{rank-above, rank-upto}
 use Rattle.delete_vector.specs.Memory.{rowKey, isIn, inMemory}
-use Rattle.delete_vector.proofs.Merging.{memory-ascends, memory-same-set}
+use Rattle.delete_vector.proofs.InMemory.{memory-ascends, memory-same-set}
 use Rattle.transaction.specs.Groups.{Handle, handleOf, rowsOf}
 use Rattle.transaction.specs.Chains.{paired, firstIn, firstFrom, Headed, Chained, Linked, chainOf}
 

@@ -9,7 +9,7 @@ use Rattle.lists.proofs.Tests.{by-cases, both, join}
 use Rattle.delete_vector.specs.Records.{rowLimit}
 use Rattle.delete_vector.specs.Memory.{rowKey, isIn}
 use Rattle.delete_vector.specs.Laws.{areRows}
-use Rattle.delete_vector.proofs.Merging.{memory-ascending, memory-same-set}
+use Rattle.delete_vector.proofs.InMemory.{memory-ascending, memory-same-set}
 use Rattle.delete_vector.proofs.Together.{laws-hold}
 use Rattle.transaction.specs.Groups.{Handle, rowsOf, rowsetsOf}
 use Rattle.transaction.specs.Laws.{GroupLaws}

@@ -12,7 +12,7 @@ use Rattle.lists.proofs.Tests.{by-cases, clash}
 use Rattle.lists.proofs.Order.{less-same, same-refl}
 use Rattle.lists.proofs.Keyed.{All, all-map, After, Ascending}
 use Rattle.delete_vector.specs.Memory.{rowKey, isIn, inMemory}
-use Rattle.delete_vector.proofs.Merging.{memory-ascends, memory-same-set}
+use Rattle.delete_vector.proofs.InMemory.{memory-ascends, memory-same-set}
 use Rattle.transaction.specs.Groups.{Handle, rowsOf, rowsetsOf}
 use Rattle.transaction.specs.Chains.{runsOf}
 use Rattle.transaction.proofs.Links.{or-true}

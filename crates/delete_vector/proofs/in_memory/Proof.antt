@@ -9,7 +9,7 @@ use lib.Seq.{take-all}
 use Rattle.lists.specs.Written.{over}
 use Rattle.lists.proofs.Written.{wrote-over}
 use Rattle.delete_vector.specs.Memory.{inMemory}
-use Rattle.delete_vector.proofs.Merging.{memory-own}
+use Rattle.delete_vector.proofs.InMemory.{memory-own}
 use Rattle.delete_vector.proofs.Says.{memory-many, memory-short, memory-done}
 use Rattle.delete_vector.proofs.in_memory.Statement.{statement}
 use Rattle.delete_vector.proofs.in_memory.Tie as tie

@@ -4,7 +4,7 @@ use native.Mathlib.Omega.{arith}
 use denote.Ref.{now}
 use Rattle.lists.specs.Written.{over}
 use Rattle.lists.proofs.Written.{wrote-over}
-use Rattle.delete_vector.proofs.Merging.{count-is}
+use Rattle.delete_vector.proofs.InMemory.{count-is}
 use Rattle.delete_vector.proofs.Says.{memory-short, memory-done}
 use borrow.Author.Needs.{needs}
 use Rattle.delete_vector.proofs.sorted.Statement.{statement}

@@ -5,7 +5,7 @@ use native.Mathlib.Omega.{arith}
 use borrow.Author.Needs.{needs}
 use denote.Ref.{now}
 use lib.ListN.{length}
-use Rattle.delete_vector.proofs.Merging.{memory-ascending}
+use Rattle.delete_vector.proofs.InMemory.{memory-ascending}
 use Rattle.transaction.proofs.Links.{Linking, link-start, link-more, link-done, place-in}
 use Rattle.transaction.proofs.chains.link.Statement.{statement}
 use Rattle.transaction.proofs.chains.link.Tie as tie

@@ -5,7 +5,7 @@ use native.Mathlib.Omega.{arith}
 use denote.Ref.{now}
 use lib.ListN.{length, getD}
 use Rattle.delete_vector.specs.Memory.{inMemory}
-use Rattle.delete_vector.proofs.Merging.{memory-length}
+use Rattle.delete_vector.proofs.InMemory.{memory-length}
 use Rattle.transaction.specs.Chains.{paired, chainOf}
 use Rattle.transaction.proofs.Links.{paired-length, paired-rowsets, head-chain, head-within}
 use Rattle.transaction.proofs.Filling.{Filling, fill-start, fill-room, fill-more, fill-done}

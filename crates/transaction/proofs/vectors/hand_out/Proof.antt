@@ -6,7 +6,7 @@ use denote.Ref.{now}
 use lib.ListN.{length, getD-replicate}
 use lib.Seq.{length-take-le}
 use Rattle.delete_vector.specs.Sizes.{sizeTable}
-use Rattle.delete_vector.proofs.Merging.{memory-length}
+use Rattle.delete_vector.proofs.InMemory.{memory-length}
 use Rattle.transaction.proofs.Outputs.{all-fit, out-short, out-done}
 use Rattle.transaction.proofs.vectors.hand_out.Statement.{statement}
 use Rattle.transaction.proofs.vectors.hand_out.Tie as tie
