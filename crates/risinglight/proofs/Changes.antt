@@ -10,7 +10,7 @@ use Rattle.lists.proofs.Keyed.{has-put}
 use Rattle.manifest.specs.Operations.{Operation, createTable, dropTable, addRowset, deleteRowset, addVector, deleteVector, nextIds}
 use Rattle.manifest.specs.Edits.{Edit, leaves, adds, deletes, vectorIn, editsOf}
 use Rattle.plain_record.specs.Sets.{Sets, itself, apply, applyAll}
-use Rattle.risinglight.specs.Maps.{Outcome, ok, unwrapOr, contains, get}
+use Rattle.risinglight.specs.Maps.{ok, unwrapOr, contains, get}
 use Rattle.risinglight.specs.Snapshot.{Snapshot, add-rowset, add-dv, hasRowset, hasDv}
 use Rattle.risinglight.specs.VersionManager.{Changing, pooled, changing, change, changes}
 use Rattle.risinglight.proofs.Maps.{has-without, instead, shuffle}

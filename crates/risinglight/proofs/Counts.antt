@@ -1,16 +1,16 @@
 -- Reference counts beside the pins: the same numbers, and the same smallest epoch. Assumes nothing.
 use mathlib.Core.Path.{_≡_, refl, sym, ap, _∙_}
-use mathlib.Core.Bool.{Bool, true, false, cond, not, _&&_}
+use mathlib.Core.Bool.{Bool, true, false, not, _&&_}
 use mathlib.Core.List.{List, [], _∷_}
 use Prim.Native.Nat.{ℕ, zero, suc, _≤_, _<_}
 use native.Mathlib.Omega.{arith}
 use lib.Dec.{eqb, leb, ltb}
-use borrow.Author.Tests.{eqb-true, eq-eqb, ne-eqb, leb-true, leb-false, le-leb, lt-ltb, ltb-true, ltb-false}
+use borrow.Author.Tests.{eqb-true, eq-eqb, ne-eqb, leb-true, leb-false, le-leb, ltb-true, ltb-false}
 use Rattle.lists.specs.Keyed.{allOf, anyOf, isAt}
 use Rattle.lists.proofs.Tests.{by-cases, clash, both, neither, join}
 use Rattle.lists.proofs.Keyed.{All}
 use Rattle.pins.specs.Book.{PinEntry, placeOn, placeKey, byPlace, pinned}
-use Rattle.pins.specs.Guards.{Guards, guardsBy, blocked}
+use Rattle.pins.specs.Guards.{guardsBy, blocked}
 use Rattle.pins.specs.Counts.{pinsAt}
 use Rattle.risinglight.specs.Maps.{Option, none, some, unwrapOr, Binding, get, keys}
 use Rattle.risinglight.specs.VersionManager.{Inner, smallest, minimum, vacuum-epoch}

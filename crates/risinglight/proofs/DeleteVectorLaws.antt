@@ -13,7 +13,7 @@ use Rattle.delete_vector.specs.Records.{rowLimit, recordOf, recordsOf, isRecord
 use Rattle.delete_vector.specs.Memory.{isIn, inMemory}
 use Rattle.delete_vector.specs.Mask.{masked}
 use Rattle.delete_vector.specs.Laws.{areRows}
-use Rattle.delete_vector.proofs.Merging.{memory-all}
+use Rattle.delete_vector.proofs.InMemory.{memory-all}
 use Rattle.delete_vector.proofs.Together.{laws-hold}
 use Rattle.risinglight.specs.Maps.{Outcome, fails, ok, andThen}
 use Rattle.risinglight.specs.DeleteVector.{new, «open», apply-to}

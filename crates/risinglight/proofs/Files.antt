@@ -1,25 +1,24 @@
 -- Manifests of the Rust's: what a start makes of one, with a frame more, with a part of one, and written anew. Assumes nothing.
 use mathlib.Core.Path.{_≡_, refl, sym, ap, subst, _∙_}
-use mathlib.Core.Bool.{Bool, true, false, cond, not, _&&_, _||_}
+use mathlib.Core.Bool.{Bool, true, false, not, _&&_, _||_}
 use mathlib.Core.List.{List, [], _∷_, _++_, map, append-nil, append-assoc}
 use Prim.Native.Nat.{ℕ, zero, suc, _+_, _≤_, _<_}
 use native.Mathlib.Omega.{arith}
 use lib.ListN.{length, take, length-append, length-map}
 use lib.Seq.{take-append-le}
 use Rattle.lists.specs.Order.{same}
-use Rattle.lists.specs.Keyed.{keep, allOf, anyOf, isAt, has, put, placed, without, arranged}
-use Rattle.lists.proofs.Tests.{by-cases, clash}
-use Rattle.lists.proofs.Keyed.{All, all-map, all-any, all-append, all-mapped, kept-all, anyOf-placed, put-new, has-put}
+use Rattle.lists.specs.Keyed.{anyOf, isAt, has, placed, without, arranged}
+use Rattle.lists.proofs.Keyed.{anyOf-placed, put-new, has-put}
 use Rattle.lists.proofs.Views.{map-take}
 use Rattle.manifest.specs.Operations.{Operation, createTable, dropTable, addRowset, deleteRowset, addVector, deleteVector, nextIds}
-use Rattle.manifest.specs.Edits.{Edit, leaves, adds, deletes, Table, table, editsOf}
-use Rattle.plain_record.specs.Sets.{Sets, none, byId, itself, edit, apply, applyAll}
+use Rattle.manifest.specs.Edits.{leaves, Table, table, editsOf}
+use Rattle.plain_record.specs.Sets.{Sets, byId, itself, edit, apply, applyAll}
 use Rattle.plain_record.proofs.Vacuum.{keep-arranged}
 use Rattle.risinglight.specs.Maps.{Outcome, fails, ok, andThen}
-use Rattle.risinglight.specs.Manifest.{Value, Begin, End, entry, frame, Replaying, replaying, next, replayFrom, replay}
-use Rattle.risinglight.specs.Storage.{apply-table, apply-tables, Rowset, pairOf, openRowset, rowsets-to-open, Dv, tripleOf, openDv, dvs-to-open, isOfTable, table-changeset, changeset}
+use Rattle.risinglight.specs.Manifest.{Value, End, entry, frame, Replaying, replaying, next, replayFrom, replay}
+use Rattle.risinglight.specs.Storage.{apply-table, apply-tables, Rowset, pairOf, openRowset, rowsets-to-open, Dv, tripleOf, openDv, dvs-to-open}
 use Rattle.risinglight.proofs.Maps.{has-without, instead}
-use Rattle.risinglight.proofs.Fitting.{TableFinds, Finds, FindsAt, FindsAll, TablesFind}
+use Rattle.risinglight.proofs.Fitting.{TableFinds, TablesFind}
 
 -- The catalog.
 

@@ -2,20 +2,19 @@
 use mathlib.Core.Path.{_≡_, refl, sym, subst, _∙_}
 use mathlib.Core.Bool.{true, false}
 use mathlib.Core.List.{List, [], _∷_, map}
-use Prim.Native.Nat.{ℕ, _+_, _≤_, _<_}
+use Prim.Native.Nat.{ℕ, _+_, _≤_}
 use native.Mathlib.Omega.{arith}
-use lib.Dec.{eqb}
 use borrow.Author.Tests.{ltb-true, ne-eqb}
 use Rattle.lists.specs.Order.{same}
 use Rattle.lists.specs.Keyed.{keep, anyOf, has, isAt}
-use Rattle.lists.proofs.Keyed.{All, all-map, none-anyOf, anyOf-map}
+use Rattle.lists.proofs.Keyed.{all-map, none-anyOf, anyOf-map}
 use Rattle.ids.specs.declared.refusal.Verdict.the-variants.{Accepted}
 use Rattle.ids.specs.Verdicts.{judged}
 use Rattle.ids.specs.Results.{Result, refused, given, andThen}
 use Rattle.manifest.specs.Operations.{Operation}
 use Rattle.manifest.specs.Edits.{Edit, leaves, adds, deletes, Table, editsOf}
 use Rattle.snapshot.specs.Entries.{Entry, shownBy}
-use Rattle.snapshot.specs.Tables.{TableEntry, byTable}
+use Rattle.snapshot.specs.Tables.{TableEntry}
 use Rattle.version_state.specs.State.{State}
 use Rattle.version_state.proofs.Facts.{Ordered}
 use Rattle.operations.specs.Effect.{applied}

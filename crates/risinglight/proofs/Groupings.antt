@@ -7,15 +7,13 @@ use native.Mathlib.Omega.{arith}
 use lib.Dec.{eqb}
 use lib.ListN.{length, length-map}
 use borrow.Author.Tests.{eq-eqb, ne-eqb, eqb-true, eqb-false, ltb-false}
-use Rattle.lists.specs.Order.{less}
-use Rattle.lists.specs.Keyed.{isAt, placed, arranged, ascending}
+use Rattle.lists.specs.Keyed.{placed, arranged, ascending}
 use Rattle.lists.proofs.Tests.{by-cases, clash}
-use Rattle.lists.proofs.Order.{less-total, less-le}
-use Rattle.lists.proofs.Keyed.{All, all-map, all-any, anyOf-none, anyOf-map, keep-map, Ascending, Sorted, ascend-to, ascending-sorted, sorted-arranged, put-new, length-arranged}
+use Rattle.lists.proofs.Keyed.{All, all-map, all-any, anyOf-none, anyOf-map, keep-map, ascend-to, ascending-sorted, put-new, length-arranged}
 use Rattle.vacuum.proofs.Arranged.{arranged-map, all-arranged}
 use Rattle.delete_vector.specs.Records.{recordsOf}
 use Rattle.delete_vector.specs.Memory.{rowKey, inMemory}
-use Rattle.delete_vector.proofs.Merging.{memory-same-set, memory-of}
+use Rattle.delete_vector.proofs.InMemory.{memory-same-set}
 use Rattle.delete_vector.proofs.Together.{laws-hold}
 use Rattle.transaction.specs.declared.Handles.{Handles}
 use Rattle.transaction.specs.Groups.{Handle, handlesOf, rowsOf, rowsetsOf, Vector, vectorOf, vectorsOf}
@@ -34,7 +32,6 @@ use Rattle.risinglight.specs.Transaction.{pushed, splitOn, split, Delete
 use Rattle.risinglight.specs.DeleteVector as vector
 use Rattle.risinglight.specs.Groupings.{byKey, Walks, grouping-order, vectorIn, byRowset, following, GroupingLaws}
 use Rattle.risinglight.proofs.Maps.{get-insert, contains-with, contains-without}
-use Rattle.risinglight.proofs.Files.{any-arranged}
 use Rattle.risinglight.proofs.DeleteVectorRows.{new-memory}
 use Rattle.risinglight.proofs.Selections.{isIn-contains, arranged-sorted}
 

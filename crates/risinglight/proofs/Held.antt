@@ -13,7 +13,7 @@ use Rattle.lists.proofs.Tests.{by-cases, clash, both, join}
 use Rattle.lists.proofs.Keyed.{anyOf-map, Ascending}
 use Rattle.ids.specs.Results.{given}
 use Rattle.manifest.specs.Operations.{Operation}
-use Rattle.snapshot.specs.Entries.{Entry, byIds, goneBy, byDeletion}
+use Rattle.snapshot.specs.Entries.{byIds, goneBy, byDeletion}
 use Rattle.version_state.specs.State.{State}
 use Rattle.operations.specs.Steps.{stepsOf}
 use Rattle.vacuum.specs.LetGo.{vacuumList, vacuumed}
@@ -21,12 +21,12 @@ use Rattle.plain_record.specs.Sets.{itself}
 use Rattle.plain_record.specs.Plain.{Id, idsOf, Plain, Record, recorded, counts, counted}
 use Rattle.plain_record.specs.Plain as plain
 use Rattle.plain_record.specs.Claim.{belowNext}
-use Rattle.risinglight.specs.Manifest.{Value, frame, Replaying, replay}
+use Rattle.risinglight.specs.Manifest.{Value, frame, replay}
 use Rattle.risinglight.specs.VersionManager.{Inner, find-vacuum}
-use Rattle.risinglight.specs.Storage.{NextId, nextId, raised, storage}
+use Rattle.risinglight.specs.Storage.{NextId, nextId, storage}
 use Rattle.risinglight.specs.Run.{Engine, engine, landing, landed}
 use Rattle.risinglight.proofs.Changes.{addsAny, ofPairs, ofVectors}
-use Rattle.risinglight.proofs.Files.{Filed, any-arranged, replay-more, replay-part}
+use Rattle.risinglight.proofs.Files.{any-arranged, replay-more, replay-part}
 use Rattle.risinglight.proofs.Starts.{Started}
 use Rattle.risinglight.proofs.Pools.{ofTriples, pairs-after, vectors-after, any-ends, drawn-after, kept-apart, has-kept, has-released, has-arranged, ids-append, raised-below, written-ids}
 use Rattle.risinglight.proofs.Relation.{Rel, Committing}

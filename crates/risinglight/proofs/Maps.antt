@@ -9,7 +9,7 @@ use Rattle.lists.specs.Order.{same}
 use Rattle.lists.specs.Keyed.{keep, anyOf, has, without}
 use Rattle.lists.proofs.Tests.{by-cases, clash}
 use Rattle.lists.proofs.Order.{same-true}
-use Rattle.risinglight.specs.Maps.{Option, none, some, unwrapOr, contains, withNumber, withoutNumber, isEmpty, Binding, get, insert, remove}
+use Rattle.risinglight.specs.Maps.{none, some, unwrapOr, contains, withNumber, withoutNumber, Binding, get, insert, remove}
 use Rattle.risinglight.specs.Snapshot.{settled}
 
 -- p finds b of what q takes out, and where that is true, nothing else

@@ -5,13 +5,12 @@ use mathlib.Core.List.{List, [], _∷_, _++_, map}
 use Prim.Native.Nat.{ℕ, _+_, _≤_, _<_, max}
 use native.Mathlib.Omega.{arith}
 use lib.Dec.{eqb, ltb}
-use lib.ListN.{getD}
 use borrow.Author.Tests.{leb-false, ltb-true}
 use Rattle.lists.specs.Order.{same}
-use Rattle.lists.specs.Keyed.{keep, allOf, anyOf, isAt, has, put, without, changed, arranged}
+use Rattle.lists.specs.Keyed.{keep, allOf, isAt, has, without, arranged}
 use Rattle.lists.proofs.Tests.{by-cases, clash, both, join}
 use Rattle.lists.proofs.Order.{same-true}
-use Rattle.lists.proofs.Keyed.{All, all-map, all-mapped, all-any, allOf-all, all-allOf, Ascending, after-absent, has-put, anyOf-map}
+use Rattle.lists.proofs.Keyed.{All, Ascending, after-absent, has-put}
 use Rattle.ids.specs.declared.refusal.Verdict.the-variants.{Accepted}
 use Rattle.ids.specs.Verdicts.{judged}
 use Rattle.ids.specs.Results.{given}
@@ -24,13 +23,13 @@ use Rattle.operations.specs.Effect.{marked, applied}
 use Rattle.operations.specs.Judge.{opRules}
 use Rattle.operations.specs.Steps.{stepsOf}
 use Rattle.plain_record.specs.Sets.{itself}
-use Rattle.plain_record.specs.Plain.{Id, tableId, rowsetId, vectorId, idAdded, idsBy, idsOf}
+use Rattle.plain_record.specs.Plain.{Id, tableId, rowsetId, vectorId, idsBy, idsOf}
 use Rattle.plain_record.specs.Claim.{belowNext}
 use Rattle.plain_record.proofs.CommitSets.{steps-on}
-use Rattle.risinglight.specs.Storage.{NextId, nextId, raise, raised, Rowset, pairOf, openRowset, rowsets-to-open, Dv, tripleOf, openDv, dvs-to-open, isOfTable, table-changeset, changeset}
+use Rattle.risinglight.specs.Storage.{NextId, raise, raised, Rowset, pairOf, openRowset, rowsets-to-open, Dv, tripleOf, openDv, dvs-to-open, table-changeset, changeset}
 use Rattle.risinglight.specs.VersionManager.{released}
 use Rattle.risinglight.proofs.Maps.{has-without, shuffle}
-use Rattle.risinglight.proofs.Changes.{addsIt, dvKey, addsDv, addsAny, ofPairs, ofVectors}
+use Rattle.risinglight.proofs.Changes.{addsIt, addsAny, ofPairs, ofVectors}
 use Rattle.risinglight.proofs.Files.{any-arranged}
 
 abbrev pub ofTriples : Operation → List ℕ → Bool

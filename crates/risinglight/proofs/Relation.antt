@@ -2,7 +2,7 @@
 use mathlib.Core.Path.{_≡_, refl, sym, ap, subst, _∙_}
 use mathlib.Core.Bool.{Bool, true, false, cond, not, _&&_, _||_}
 use mathlib.Core.List.{List, [], _∷_, _++_, map}
-use Prim.Native.Nat.{ℕ, zero, suc, _+_, _-_, _≤_, _<_, min}
+use Prim.Native.Nat.{ℕ, zero, suc, _+_, _-_, _≤_, min}
 use native.Mathlib.Omega.{arith}
 use lib.Dec.{eqb, leb}
 use lib.ListN.{length, take, getD, length-append}
@@ -10,27 +10,27 @@ use lib.Seq.{take-all}
 use borrow.Author.Tests.{eq-eqb, ne-eqb, eqb-true, eqb-false, leb-true, leb-false}
 use Rattle.lists.specs.Order.{same}
 use Rattle.lists.specs.Keyed.{keep, has, arranged}
-use Rattle.lists.proofs.Tests.{by-cases, clash}
-use Rattle.lists.proofs.Keyed.{All, all-keep, all-map, keep-same, keep-map}
+use Rattle.lists.proofs.Tests.{by-cases}
+use Rattle.lists.proofs.Keyed.{all-keep, all-map, keep-same, keep-map}
 use Rattle.manifest.specs.Operations.{Operation}
 use Rattle.manifest.specs.Edits.{Table}
-use Rattle.pins.specs.Book.{PinEntry, placeOn, placeKey}
+use Rattle.pins.specs.Book.{PinEntry, placeOn}
 use Rattle.pins.specs.Guards.{guardsBy, blocked}
 use Rattle.pins.specs.Counts.{pinsAt, recounted}
 use Rattle.pins.proofs.Counting.{pins-recounted}
 use Rattle.plain_record.specs.Sets.{Sets, byId, itself, applyAll}
-use Rattle.plain_record.specs.Plain.{Waiting, byEpochAndPair, Plain, epochOf, setsAt, guardsIn, deletions, await, counted, withPins, listed, swept, kept, Record, recorded, counts}
+use Rattle.plain_record.specs.Plain.{byEpochAndPair, Plain, epochOf, setsAt, guardsIn, deletions, counted, withPins, listed, swept, kept, Record, recorded, counts}
 use Rattle.plain_record.specs.Plain as plain
 use Rattle.plain_record.specs.Claim.{waitingOf, pairsOf}
 use Rattle.plain_record.proofs.CommitShows.{getD-more, shows-now}
 use Rattle.plain_record.proofs.CommitWaits.{placedAll, await-keys}
 use Rattle.plain_record.proofs.Vacuum.{keep-arranged, map-map}
-use Rattle.risinglight.specs.Maps.{Outcome, ok, Option, none, some, unwrap, unwrapOr, Binding, get, insert, remove}
-use Rattle.risinglight.specs.Snapshot.{Snapshot, default}
+use Rattle.risinglight.specs.Maps.{ok, Option, none, some, unwrapOr, Binding, get, insert, remove}
+use Rattle.risinglight.specs.Snapshot.{Snapshot}
 use Rattle.risinglight.specs.Manifest.{Value, frame, replay}
-use Rattle.risinglight.specs.VersionManager.{Inner, Changing, changing, latest, committed, commit-changes, withCounts, Pinned, Dropped, dropped, vacuum-epoch, can-apply, extended, find-vacuum}
+use Rattle.risinglight.specs.VersionManager.{Inner, Changing, changing, latest, committed, commit-changes, withCounts, Pinned, Dropped, dropped, vacuum-epoch, can-apply, find-vacuum}
 use Rattle.risinglight.specs.VersionManager as version
-use Rattle.risinglight.specs.Storage.{Storage, storage, apply-tables, bootstrap}
+use Rattle.risinglight.specs.Storage.{Storage, storage, apply-tables}
 use Rattle.risinglight.specs.Run.{Engine, engine, landing, landed}
 use Rattle.risinglight.specs.Agreement.{deletionsIn}
 use Rattle.risinglight.proofs.Maps.{get-insert, get-remove}

@@ -15,7 +15,7 @@ use Rattle.ids.specs.Ids.{largest64}
 use Rattle.columns.specs.Rows.{rows}
 use Rattle.columns.proofs.Rows.{rows-all}
 use Rattle.delete_vector.specs.Memory.{rowKey, isIn, inMemory}
-use Rattle.delete_vector.proofs.Merging.{memory-of}
+use Rattle.delete_vector.proofs.InMemory.{memory-of}
 use Rattle.delete_vector.proofs.Together.{laws-hold}
 use Rattle.snapshot.specs.Entries.{Entry, shownBy, entryAt}
 use Rattle.vacuum.proofs.Arranged.{arranged-map}

@@ -1,13 +1,13 @@
 -- Snapshots: what they have after an operation, and that a deletion of what is there does not fail. Assumes nothing.
 use mathlib.Core.Path.{_≡_, refl, sym, ap, _∙_}
-use mathlib.Core.Bool.{Bool, true, false, cond, not, _&&_, _||_}
+use mathlib.Core.Bool.{true, cond, not, _&&_, _||_}
 use mathlib.Core.List.{List, [], _∷_}
 use Prim.Native.Nat.{ℕ}
 use lib.Dec.{eqb}
 use borrow.Author.Tests.{eqb-true}
 use Rattle.lists.specs.Order.{same}
 use Rattle.lists.proofs.Tests.{by-cases, clash}
-use Rattle.risinglight.specs.Maps.{Outcome, ok, Option, none, some, unwrapOr, contains, withNumber, withoutNumber, Binding, get, insert}
+use Rattle.risinglight.specs.Maps.{ok, Option, none, some, unwrapOr, contains, withNumber, withoutNumber, Binding, get, insert}
 use Rattle.risinglight.specs.Snapshot.{Snapshot, snapshot, settled, add-rowset, delete-rowset, add-dv, delete-dv, hasRowset, hasDv}
 use Rattle.risinglight.proofs.Maps.{contains-without, contains-with, get-insert, get-settled}
 

@@ -1,22 +1,22 @@
 -- A start: it does not fail on what was written, shows it, and writes it anew. Assumes nothing.
-use mathlib.Core.Path.{_≡_, refl, sym, ap, subst, _∙_}
-use mathlib.Core.Bool.{Bool, true, false, cond, not, _&&_, _||_}
+use mathlib.Core.Path.{_≡_, refl, sym, ap, _∙_}
+use mathlib.Core.Bool.{Bool, true, false, not, _&&_, _||_}
 use mathlib.Core.List.{List, [], _∷_, _++_, map}
 use Prim.Native.Nat.{ℕ}
 use Rattle.lists.specs.Order.{same}
-use Rattle.lists.specs.Keyed.{keep, allOf, isAt, has, arranged}
+use Rattle.lists.specs.Keyed.{allOf, isAt, has, arranged}
 use lib.Dec.{eqb}
 use Rattle.lists.proofs.Tests.{by-cases, clash, both, join}
 use Rattle.lists.proofs.Order.{same-refl}
 use Rattle.lists.proofs.Keyed.{All, all-map, all-any, all-append, all-mapped, all-allOf, kept-all}
 use Rattle.manifest.specs.Operations.{Operation, createTable, dropTable, addRowset, deleteRowset, addVector, deleteVector, nextIds}
 use Rattle.manifest.specs.Edits.{Edit, leaves, adds, deletes, Table, editsOf}
-use Rattle.plain_record.specs.Sets.{Sets, none, byId, itself, apply, applyAll}
+use Rattle.plain_record.specs.Sets.{Sets, none, byId, itself, apply}
 use Rattle.risinglight.specs.Maps.{Outcome, fails, ok, andThen}
 use Rattle.risinglight.specs.Manifest.{Value, frame, Replaying, replay}
 use Rattle.risinglight.specs.Snapshot.{default}
 use Rattle.risinglight.specs.VersionManager.{fresh, Changing, changing, committed}
-use Rattle.risinglight.specs.Storage.{apply-table, apply-tables, Rowset, pairOf, openRowset, rowsets-to-open, Dv, tripleOf, openDv, dvs-to-open, isOfTable, table-changeset, changeset, openable, nextId, raised, Storage, storage, bootstrap}
+use Rattle.risinglight.specs.Storage.{apply-table, apply-tables, Rowset, pairOf, openRowset, rowsets-to-open, Dv, tripleOf, openDv, dvs-to-open, isOfTable, table-changeset, changeset, nextId, raised, Storage, storage, bootstrap}
 use Rattle.risinglight.proofs.Fitting.{Finds, FindsAll}
 use Rattle.risinglight.proofs.Changes.{Shows, deletedBy, deletedAll, addsAny, ofPairs, ofVectors, changed}
 use Rattle.risinglight.proofs.Maps.{instead, shuffle, or-none}

@@ -1,8 +1,8 @@
 -- Demand 2: every accepted call of a run is one that the Rust does too. Assumes nothing.
 use mathlib.Core.Path.{_≡_, refl, sym, ap, subst, _∙_}
-use mathlib.Core.Bool.{Bool, true, false, cond, not, _&&_, _||_}
+use mathlib.Core.Bool.{Bool, true, false, cond, not, _&&_}
 use mathlib.Core.List.{List, [], _∷_, map}
-use Prim.Native.Nat.{ℕ, zero, suc, _+_, _-_, _≤_, _<_}
+use Prim.Native.Nat.{ℕ, zero, suc, _+_, _-_, _≤_}
 use native.Mathlib.Omega.{arith}
 use lib.Dec.{eqb, ltb, leb}
 use lib.ListN.{length, take}
@@ -15,7 +15,6 @@ use Rattle.lists.proofs.Keyed.{All, all-map, allOf-all, anyOf-map}
 use Rattle.ids.specs.declared.refusal.Refusal.{Refusal}
 use Rattle.ids.specs.declared.refusal.Verdict.{Verdict}
 use Rattle.ids.specs.declared.refusal.Verdict.the-variants.{Accepted, Refused}
-use Rattle.ids.specs.Verdicts.{judged}
 use Rattle.ids.specs.Answers.{Told, told}
 use Rattle.ids.specs.Results.{Result, refused, given}
 use Rattle.ids.proofs.Verdicts.{none-judged}
@@ -28,7 +27,7 @@ use Rattle.version_state.specs.Sound as sound
 use Rattle.version_state.proofs.Facts.{sound-of}
 use Rattle.pins.specs.Book.{PinEntry, pinsOf, placeOn, hasPlace, pinned, validPin}
 use Rattle.pins.specs.Guards.{Guards, guardsOf, mayShow}
-use Rattle.pins.specs.Counts.{pinsAt, recounted}
+use Rattle.pins.specs.Counts.{pinsAt}
 use Rattle.pins.proofs.Facts.{good-book}
 use Rattle.pins.proofs.Counting.{counted, pinned-after}
 use Rattle.commit.specs.Commit.{appendOf, commitOf}

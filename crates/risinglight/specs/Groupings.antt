@@ -6,7 +6,7 @@ use Prim.Native.Nat.{ℕ, zero, suc, _+_}
 use lib.ListN.{length}
 use Rattle.lists.specs.Keyed.{arranged, ascending}
 use Rattle.delete_vector.specs.Records.{recordsOf}
-use Rattle.delete_vector.specs.Memory.{rowKey, inMemory}
+use Rattle.delete_vector.specs.Memory.{rowKey}
 use Rattle.ids.specs.declared.refusal.Verdict.the-variants.{Accepted}
 use Rattle.transaction.specs.declared.Handles.{Handles}
 use Rattle.transaction.specs.Groups.{Handle, handlesOf, rowsOf, rowsetsOf, Vector, vectorsOf}

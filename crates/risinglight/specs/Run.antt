@@ -16,7 +16,7 @@ use Rattle.pinning.specs.Says.{flag}
 use Rattle.plain_record.specs.Sets.{itself}
 use Rattle.plain_record.specs.Calls.{Call, drawRowset, drawVector, group, lock, unlock, commit, create, drop, compact, pin, unpin, vacuum, reopen}
 use Rattle.plain_record.specs.Run.{Event, value}
-use Rattle.risinglight.specs.Maps.{Outcome, ok}
+use Rattle.risinglight.specs.Maps.{ok}
 use Rattle.risinglight.specs.Manifest.{Value, frame}
 use Rattle.risinglight.specs.VersionManager.{Inner, fresh, commit-changes, Pinned, Dropped, find-vacuum}
 use Rattle.risinglight.specs.VersionManager as version
