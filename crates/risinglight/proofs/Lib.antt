@@ -17,3 +17,4 @@ pub mod DeleteVectorRows
 pub mod DeleteVectorLaws
 pub mod Selections
 pub mod Groupings
+pub mod Differences

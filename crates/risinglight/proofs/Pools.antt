@@ -4,6 +4,7 @@ use mathlib.Core.Bool.{Bool, true, false, cond, not, _&&_, _||_}
 use mathlib.Core.List.{List, [], _∷_, _++_, map}
 use Prim.Native.Nat.{ℕ, _+_, _≤_, _<_, max}
 use native.Mathlib.Omega.{arith}
+use native.Mathlib.Nat.{mod-le}
 use lib.Dec.{eqb, ltb}
 use borrow.Author.Tests.{leb-false, ltb-true}
 use Rattle.lists.specs.Order.{same}
@@ -187,11 +188,11 @@ raised-below s (createTable t z n ∷ os) x h a b = raised-below s os x (both (l
 raised-below s (dropTable t ∷ os) x h a b = raised-below s os x h a b
 raised-below s (addRowset t r ∷ os) x h a b =
     let k = both (ltb r (s .nextRowset)) (allOf (belowNext s) (idsOf os)) h in
-    raised-below s os (raise (addRowset t r) x) (k .1) (omega (arith, ltb-true r (s .nextRowset) (k .0))) b
+    raised-below s os (raise (addRowset t r) x) (k .1) (omega (arith, ltb-true r (s .nextRowset) (k .0), mod-le (r + 1) 4294967296)) b
 raised-below s (deleteRowset t r ∷ os) x h a b = raised-below s os x h a b
 raised-below s (addVector t r v ∷ os) x h a b =
     let k = both (ltb v (s .nextVector)) (allOf (belowNext s) (idsOf os)) h in
-    raised-below s os (raise (addVector t r v) x) (k .1) a (omega (arith, ltb-true v (s .nextVector) (k .0)))
+    raised-below s os (raise (addVector t r v) x) (k .1) a (omega (arith, ltb-true v (s .nextVector) (k .0), mod-le (v + 1) 18446744073709551616))
 raised-below s (deleteVector t r v ∷ os) x h a b = raised-below s os x h a b
 raised-below s (nextIds t r v ∷ os) x h a b = raised-below s os x h a b
 

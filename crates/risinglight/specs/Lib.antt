@@ -13,3 +13,4 @@ pub mod Agreement
 pub mod Selections
 pub mod Groupings
 pub mod DeleteVectors
+pub mod Differences

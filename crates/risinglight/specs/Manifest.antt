@@ -2,6 +2,7 @@
 use mathlib.Core.Bool.{Bool, true, false, cond}
 use mathlib.Core.List.{List, [], _∷_, _++_, map}
 use Rattle.manifest.specs.Operations.{Operation}
+use Rattle.risinglight.specs.Maps.{Outcome, fails, ok}
 
 -- `ManifestOperation`. The create of a table has its id, as document 01 wants: the Rust counts creates. `N` is none of its operations
 pub data Value : Type 0 where
@@ -12,6 +13,10 @@ pub data Value : Type 0 where
 -- `append`
 abbrev pub frame : List Operation → List Value
 frame entries = Begin ∷ (map entry entries ++ (End ∷ []))
+
+-- a file's bytes are values; where part of one stands at the end, the parser gives an error
+abbrev pub read : List Value → Bool → Outcome (List Value)
+read values part = cond part fails (ok values)
 
 -- `replay`, as far as it has come
 pub record Replaying : Type 0 where

@@ -1,13 +1,14 @@
 -- `SecondaryStorage`: the catalog, and `bootstrap` of storage.rs. Assumes nothing.
 use mathlib.Core.Bool.{Bool, true, false, cond, _&&_}
 use mathlib.Core.List.{List, [], _∷_, _++_, map}
-use Prim.Native.Nat.{ℕ, _+_, max}
+use Prim.Native.Nat.{ℕ, _+_, _%_, max}
 use Rattle.lists.specs.Order.{same}
 use Rattle.lists.specs.Keyed.{keep, allOf, anyOf, has, without}
 use Rattle.manifest.specs.Operations.{Operation, createTable, dropTable, addRowset, deleteRowset, addVector, deleteVector, nextIds}
 use Rattle.manifest.specs.Edits.{Table, table}
 use Rattle.plain_record.specs.Sets.{byId}
 use Rattle.risinglight.specs.Maps.{Outcome, fails, ok, andThen}
+use Rattle.risinglight.specs.Numbers.{wrapping}
 use Rattle.risinglight.specs.Manifest.{Value, frame, replay}
 use Rattle.risinglight.specs.VersionManager.{Inner, fresh, commit-changes}
 
@@ -103,13 +104,16 @@ pub record NextId : Type 0 where
 abbrev pub nextId : ℕ → ℕ → NextId
 nextId r v = record { rowset = r; dv = v }
 
--- `fetch_max`: past every id that the manifest still adds
+-- a number of 32 bits; `fetch_max`: past every id that the manifest still adds
+abbrev pub wrapping32 : ℕ → ℕ
+wrapping32 n = n % 4294967296
+
 abbrev pub raise : Operation → NextId → NextId
 raise (createTable t h n) x = x
 raise (dropTable t) x = x
-raise (addRowset t r) x = nextId (max (x .rowset) (r + 1)) (x .dv)
+raise (addRowset t r) x = nextId (max (x .rowset) (wrapping32 (r + 1))) (x .dv)
 raise (deleteRowset t r) x = x
-raise (addVector t r v) x = nextId (x .rowset) (max (x .dv) (v + 1))
+raise (addVector t r v) x = nextId (x .rowset) (max (x .dv) (wrapping (v + 1)))
 raise (deleteVector t r v) x = x
 raise (nextIds t r v) x = x
 

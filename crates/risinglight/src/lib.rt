@@ -5,7 +5,9 @@ ghost use Rattle.risinglight.specs.Agreement.{Agreement};
 ghost use Rattle.risinglight.specs.Selections.{SelectionLaws};
 ghost use Rattle.risinglight.specs.Groupings.{GroupingLaws};
 ghost use Rattle.risinglight.specs.DeleteVectors.{DeleteVectorLaws};
+ghost use Rattle.risinglight.specs.Differences.{Differences};
 
+// Every accepted call of a list is one that the Rust does too, with the same answer.
 pub fn agrees()
     ensures { λ _. ⌜ Agreement port ⌝ }
 {}
@@ -20,4 +22,9 @@ pub fn groupings_agree()
 
 pub fn delete_vectors_agree()
     ensures { λ _. ⌜ DeleteVectorLaws ⌝ }
+{}
+
+// Where they differ, the smallest cases.
+pub fn differences_hold()
+    ensures { λ _. ⌜ Differences ⌝ }
 {}
