@@ -6,10 +6,10 @@ use Rattle.answers.proofs.say.bits.Statement.{statement}
 use Rattle.answers.proofs.say.bits.Tie as tie
 
 abbrev Inv-loop : tie.InvT-loop
-Inv-loop s i₀ t3 i = i ≤ length s
+Inv-loop s output₀ i₀ t3 output i = i ≤ length s
 
 abbrev μ-loop : tie.MeasureT-loop
-μ-loop s i₀ t3 i = length s - i
+μ-loop s output₀ i₀ t3 output i = length s - i
 
 dash-requires : tie.Need-dash-requires Inv-loop μ-loop
 dash-requires c κs = search needs

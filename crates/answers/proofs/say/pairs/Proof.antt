@@ -5,10 +5,10 @@ use Rattle.answers.proofs.say.pairs.Statement.{statement}
 use Rattle.answers.proofs.say.pairs.Tie as tie
 
 abbrev Inv-loop : tie.InvT-loop
-Inv-loop tables rowsets count i₀ t5 i = i ≤ count
+Inv-loop tables rowsets count output₀ i₀ t5 output i = i ≤ count
 
 abbrev μ-loop : tie.MeasureT-loop
-μ-loop tables rowsets count i₀ t5 i = count - i
+μ-loop tables rowsets count output₀ i₀ t5 output i = count - i
 
 loop-holds : tie.Need-loop-holds Inv-loop μ-loop
 loop-holds c = search needs

@@ -5,10 +5,10 @@ use Rattle.answers.proofs.say.rows.Statement.{statement}
 use Rattle.answers.proofs.say.rows.Tie as tie
 
 abbrev Inv-loop : tie.InvT-loop
-Inv-loop rows count i₀ t4 i = i ≤ count
+Inv-loop rows count output₀ i₀ t4 output i = i ≤ count
 
 abbrev μ-loop : tie.MeasureT-loop
-μ-loop rows count i₀ t4 i = count - i
+μ-loop rows count output₀ i₀ t4 output i = count - i
 
 loop-holds : tie.Need-loop-holds Inv-loop μ-loop
 loop-holds c = search needs

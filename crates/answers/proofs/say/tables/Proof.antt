@@ -5,10 +5,10 @@ use Rattle.answers.proofs.say.tables.Statement.{statement}
 use Rattle.answers.proofs.say.tables.Tie as tie
 
 abbrev Inv-loop : tie.InvT-loop
-Inv-loop ids shapes lengths names count i₀ t7 t8 i = i ≤ count
+Inv-loop ids shapes lengths names count output₀ i₀ t7 t8 output i = i ≤ count
 
 abbrev μ-loop : tie.MeasureT-loop
-μ-loop ids shapes lengths names count i₀ t7 t8 i = count - i
+μ-loop ids shapes lengths names count output₀ i₀ t7 t8 output i = count - i
 
 loop-holds : tie.Need-loop-holds Inv-loop μ-loop
 loop-holds c = search needs

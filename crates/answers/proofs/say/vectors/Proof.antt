@@ -5,10 +5,10 @@ use Rattle.answers.proofs.say.vectors.Statement.{statement}
 use Rattle.answers.proofs.say.vectors.Tie as tie
 
 abbrev Inv-loop : tie.InvT-loop
-Inv-loop tables rowsets vectors count i₀ t6 t7 i = i ≤ count
+Inv-loop tables rowsets vectors count output₀ i₀ t6 t7 output i = i ≤ count
 
 abbrev μ-loop : tie.MeasureT-loop
-μ-loop tables rowsets vectors count i₀ t6 t7 i = count - i
+μ-loop tables rowsets vectors count output₀ i₀ t6 t7 output i = count - i
 
 loop-holds : tie.Need-loop-holds Inv-loop μ-loop
 loop-holds c = search needs
