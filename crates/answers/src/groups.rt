@@ -13,7 +13,7 @@ fn file(files: &[u8], at: usize, length: u64, output: &mut Output) -> usize {
 
 fn plus(i: usize, output: &mut Output) {
     if 0 < i {
-        say::say(b"+", output);
+        say::put(b'+', output);
     }
 }
 
@@ -33,9 +33,8 @@ fn memory(rows: &[u32], at: usize, count: u64, output: &mut Output) -> usize {
 // A vector's id and its rowset.
 fn named(id: u64, rowset: u64, output: &mut Output) {
     say::comma(id, output);
-    say::say(b":", output);
-    say::number(rowset, output);
-    say::say(b":", output);
+    say::colon(rowset, output);
+    say::put(b':', output);
 }
 
 fn vectors(
@@ -58,11 +57,11 @@ fn vectors(
             output,
         );
         at = file(files, at, say::at32(lengths, i), output);
-        say::say(b":", output);
+        say::put(b':', output);
         k = memory(rows, k, say::at32(counts, i), output);
         i += 1;
     }
-    say::say(b"\n", output);
+    say::put(b'\n', output);
 }
 
 pub fn grouped(
@@ -76,8 +75,7 @@ pub fn grouped(
 ) {
     match answer {
         GroupAnswer::Vectors(n, first) => {
-            say::say(b"grouped", output);
-            say::comma(n as u64, output);
+            say::first(b"grouped", n as u64, output);
             vectors(n, first.0, rowsets, lengths, counts, files, rows, output);
         }
         GroupAnswer::Refused(why) => say::refusal(why, output),

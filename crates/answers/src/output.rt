@@ -58,7 +58,7 @@ pub fn flush(output: &mut Output) {
     }
 }
 
-fn put(b: u8, output: &mut Output) {
+pub fn put(b: u8, output: &mut Output) {
     if ROOM <= count(output) {
         flush(output);
     }

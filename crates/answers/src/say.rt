@@ -2,6 +2,7 @@
 use crate::output;
 use crate::output::Output;
 pub use crate::output::number;
+pub use crate::output::put;
 pub use crate::output::say;
 use ids::refusal::Refusal;
 use ids::refusal::Verdict;
@@ -13,22 +14,36 @@ use version_manager::RowsetAnswer;
 use version_manager::VectorAnswer;
 
 pub fn comma(n: u64, output: &mut Output) {
-    say(b",", output);
+    put(b',', output);
     number(n, output);
 }
 
-// An answer that is a word and one number.
-pub fn one(word: &[u8], n: u64, output: &mut Output) {
+pub fn colon(n: u64, output: &mut Output) {
+    put(b':', output);
+    number(n, output);
+}
+
+// The last number of an answer.
+pub fn last(n: u64, output: &mut Output) {
+    comma(n, output);
+    put(b'\n', output);
+}
+
+// A word and one number, with which an answer begins.
+pub fn first(word: &[u8], n: u64, output: &mut Output) {
     say(word, output);
     comma(n, output);
-    say(b"\n", output);
+}
+
+// An answer that is these two.
+pub fn one(word: &[u8], n: u64, output: &mut Output) {
+    say(word, output);
+    last(n, output);
 }
 
 fn refused(number: u64, place: u64, output: &mut Output) {
-    say(b"refused", output);
-    comma(number, output);
-    comma(place, output);
-    say(b"\n", output);
+    first(b"refused", number, output);
+    last(place, output);
 }
 
 pub fn refusal(why: Refusal, output: &mut Output) {
@@ -38,6 +53,15 @@ pub fn refusal(why: Refusal, output: &mut Output) {
 // A line that is no call.
 pub fn no_call(output: &mut Output) {
     refused(2, 0, output);
+}
+
+// Whether a line has no more words; else it is answered as no call.
+pub fn alone(s: &[u8], output: &mut Output) -> bool {
+    if s.len() == 0 {
+        return true;
+    }
+    no_call(output);
+    false
 }
 
 pub fn rowset(answer: RowsetAnswer, output: &mut Output) {
@@ -71,10 +95,8 @@ fn flag(due: bool) -> u64 {
 pub fn unpinned(answer: UnpinAnswer, output: &mut Output) {
     match answer {
         UnpinAnswer::Unpinned(due, ready) => {
-            say(b"unpinned", output);
-            comma(flag(due), output);
-            comma(ready as u64, output);
-            say(b"\n", output);
+            first(b"unpinned", flag(due), output);
+            last(ready as u64, output);
         }
         UnpinAnswer::Refused(why) => refusal(why, output),
     }
@@ -83,8 +105,7 @@ pub fn unpinned(answer: UnpinAnswer, output: &mut Output) {
 // An epoch, and how many bytes are appended.
 fn append(epoch: u32, n: usize, output: &mut Output) -> usize {
     comma(epoch as u64, output);
-    comma(n as u64, output);
-    say(b"\n", output);
+    last(n as u64, output);
     n
 }
 
@@ -108,8 +129,7 @@ pub fn committed(word: &[u8], answer: CommitAnswer, output: &mut Output) -> usiz
 pub fn created(answer: CreateAnswer, output: &mut Output) -> usize {
     match answer {
         CreateAnswer::Table(table, epoch, n) => {
-            say(b"created", output);
-            comma(table.0 as u64, output);
+            first(b"created", table.0 as u64, output);
             append(epoch, n, output)
         }
         CreateAnswer::Refused(why) => no_append(why, output),
@@ -143,8 +163,7 @@ fn at64(out: &[u64], i: usize) -> u64 {
 
 fn pair(tables: &[u32], rowsets: &[u32], i: usize, output: &mut Output) {
     comma(at32(tables, i), output);
-    say(b":", output);
-    number(at32(rowsets, i), output);
+    colon(at32(rowsets, i), output);
 }
 
 pub fn pairs(tables: &[u32], rowsets: &[u32], count: usize, output: &mut Output) {
@@ -153,7 +172,7 @@ pub fn pairs(tables: &[u32], rowsets: &[u32], count: usize, output: &mut Output)
         pair(tables, rowsets, i, output);
         i += 1;
     }
-    say(b"\n", output);
+    put(b'\n', output);
 }
 
 pub fn vectors(
@@ -166,11 +185,10 @@ pub fn vectors(
     let mut i = 0;
     while i < count {
         pair(tables, rowsets, i, output);
-        say(b":", output);
-        number(at64(vectors, i), output);
+        colon(at64(vectors, i), output);
         i += 1;
     }
-    say(b"\n", output);
+    put(b'\n', output);
 }
 
 // The first bytes of the 32 that a name is lent.
@@ -200,11 +218,11 @@ pub fn tables(
     let mut i = 0;
     while i < count {
         pair(ids, shapes, i, output);
-        say(b":", output);
+        put(b':', output);
         name(names, i, at32(lengths, i), output);
         i += 1;
     }
-    say(b"\n", output);
+    put(b'\n', output);
 }
 
 pub fn rows(rows: &[u32], count: usize, output: &mut Output) {
@@ -213,7 +231,7 @@ pub fn rows(rows: &[u32], count: usize, output: &mut Output) {
         comma(at32(rows, i), output);
         i += 1;
     }
-    say(b"\n", output);
+    put(b'\n', output);
 }
 
 fn byte(b: u8) -> u64 {
@@ -222,7 +240,7 @@ fn byte(b: u8) -> u64 {
 
 fn dash(s: &[u8], output: &mut Output) {
     if s.len() == 0 {
-        say(b"-", output);
+        put(b'-', output);
     }
 }
 
@@ -237,7 +255,7 @@ pub fn digits(s: &[u8], output: &mut Output) {
 
 pub fn hex(s: &[u8], output: &mut Output) {
     digits(s, output);
-    say(b"\n", output);
+    put(b'\n', output);
 }
 
 // A bit that is not cleared was 1.
@@ -248,7 +266,7 @@ pub fn bits(s: &[u8], output: &mut Output) {
         number(byte(s[i]), output);
         i += 1;
     }
-    say(b"\n", output);
+    put(b'\n', output);
 }
 
 fn lines(s: &[u8], output: &mut Output) {
@@ -268,5 +286,5 @@ fn lines(s: &[u8], output: &mut Output) {
 pub fn bytes(s: &[u8], output: &mut Output) {
     dash(s, output);
     lines(s, output);
-    say(b"\n", output);
+    put(b'\n', output);
 }

@@ -14,8 +14,7 @@ const MOST_SIZES: usize = MOST_HELD + 1;
 fn selected(answer: SelectAnswer, out: &[u32], output: &mut Output) {
     match answer {
         SelectAnswer::Chosen(n) => {
-            say::say(b"selected", output);
-            say::comma(n as u64, output);
+            say::first(b"selected", n as u64, output);
             say::rows(out, n, output);
         }
         SelectAnswer::Refused(why) => say::refusal(why, output),

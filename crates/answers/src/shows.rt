@@ -13,25 +13,13 @@ use show::ShowAnswer;
 use version_manager::VersionManager;
 use version_state::NextIds;
 
-// A refusal, or the word and how many are shown, which are still to be said.
-fn shown(word: &[u8], answer: ShowAnswer, output: &mut Output) -> bool {
+fn pairs_said(answer: ShowAnswer, tables: &[u32], rowsets: &[u32], output: &mut Output) {
     match answer {
         ShowAnswer::Shown(n) => {
-            say::say(word, output);
-            say::comma(n as u64, output);
-            true
+            say::first(b"pairs", n as u64, output);
+            say::pairs(tables, rowsets, n, output);
         }
-        ShowAnswer::Refused(why) => {
-            say::refusal(why, output);
-            false
-        }
-    }
-}
-
-fn count(answer: ShowAnswer) -> usize {
-    match answer {
-        ShowAnswer::Shown(n) => n,
-        ShowAnswer::Refused(_) => 0,
+        ShowAnswer::Refused(why) => say::refusal(why, output),
     }
 }
 
@@ -44,9 +32,7 @@ fn pairs_into(
     output: &mut Output,
 ) {
     let answer = manager.show_pairs(book, epoch, tables, rowsets);
-    if shown(b"pairs", answer, output) {
-        say::pairs(tables, rowsets, count(answer), output);
-    }
+    pairs_said(answer, tables, rowsets, output);
 }
 
 fn pairs(manager: VersionManager, book: PinBook, epoch: u32, room: usize, output: &mut Output) {
@@ -63,6 +49,22 @@ fn pairs(manager: VersionManager, book: PinBook, epoch: u32, room: usize, output
     );
 }
 
+fn vectors_said(
+    answer: ShowAnswer,
+    tables: &[u32],
+    rowsets: &[u32],
+    vectors: &[u64],
+    output: &mut Output,
+) {
+    match answer {
+        ShowAnswer::Shown(n) => {
+            say::first(b"vectors", n as u64, output);
+            say::vectors(tables, rowsets, vectors, n, output);
+        }
+        ShowAnswer::Refused(why) => say::refusal(why, output),
+    }
+}
+
 fn vectors_into(
     manager: VersionManager,
     book: PinBook,
@@ -73,9 +75,7 @@ fn vectors_into(
     output: &mut Output,
 ) {
     let answer = manager.show_vectors(book, epoch, tables, rowsets, vectors);
-    if shown(b"vectors", answer, output) {
-        say::vectors(tables, rowsets, vectors, count(answer), output);
-    }
+    vectors_said(answer, tables, rowsets, vectors, output);
 }
 
 fn vectors(manager: VersionManager, book: PinBook, epoch: u32, room: usize, output: &mut Output) {
@@ -94,6 +94,23 @@ fn vectors(manager: VersionManager, book: PinBook, epoch: u32, room: usize, outp
     );
 }
 
+fn tables_said(
+    answer: ShowAnswer,
+    ids: &[u32],
+    shapes: &[u32],
+    lengths: &[u32],
+    names: &[u8],
+    output: &mut Output,
+) {
+    match answer {
+        ShowAnswer::Shown(n) => {
+            say::first(b"tables", n as u64, output);
+            say::tables(ids, shapes, lengths, names, n, output);
+        }
+        ShowAnswer::Refused(why) => say::refusal(why, output),
+    }
+}
+
 fn tables_into(
     manager: VersionManager,
     book: PinBook,
@@ -105,9 +122,7 @@ fn tables_into(
     output: &mut Output,
 ) {
     let answer = manager.show_tables(book, epoch, ids, shapes, lengths, names);
-    if shown(b"tables", answer, output) {
-        say::tables(ids, shapes, lengths, names, count(answer), output);
-    }
+    tables_said(answer, ids, shapes, lengths, names, output);
 }
 
 // An entry of the names has room for the longest one.
@@ -130,53 +145,54 @@ fn tables(manager: VersionManager, book: PinBook, epoch: u32, room: usize, outpu
     );
 }
 
-fn show_at(
-    manager: VersionManager,
-    book: PinBook,
-    what: &[u8],
-    epoch: u32,
-    room: usize,
-    output: &mut Output,
-) {
+// What a line shows, at which epoch.
+enum Showing {
+    Tables(u32),
+    Pairs(u32),
+    Vectors(u32),
+    Nothing,
+}
+
+fn read_at(what: &[u8], epoch: u32) -> Showing {
     if script::same(what, b" tables") {
-        tables(manager, book, epoch, room, output);
-        return;
+        return Showing::Tables(epoch);
     }
     if script::same(what, b" pairs") {
-        pairs(manager, book, epoch, room, output);
-        return;
+        return Showing::Pairs(epoch);
     }
     if script::same(what, b" vectors") {
-        vectors(manager, book, epoch, room, output);
-        return;
+        return Showing::Vectors(epoch);
     }
-    say::no_call(output);
+    Showing::Nothing
+}
+
+fn read(s: &[u8]) -> Showing {
+    let end = script::first_end(s);
+    match script::one(&s[end..], 4294967295) {
+        Found::Of(n) => read_at(&s[..end], script::narrow(n)),
+        Found::Nothing => Showing::Nothing,
+    }
 }
 
 fn show(manager: VersionManager, book: PinBook, s: &[u8], room: usize, output: &mut Output) {
-    if s.len() == 0 {
-        say::no_call(output);
-        return;
-    }
-    let end = script::word_end(s, 1);
-    match script::one(&s[end..], 4294967295) {
-        Found::Of(n) => show_at(manager, book, &s[..end], script::narrow(n), room, output),
-        Found::Nothing => say::no_call(output),
+    match read(s) {
+        Showing::Tables(epoch) => tables(manager, book, epoch, room, output),
+        Showing::Pairs(epoch) => pairs(manager, book, epoch, room, output),
+        Showing::Vectors(epoch) => vectors(manager, book, epoch, room, output),
+        Showing::Nothing => say::no_call(output),
     }
 }
 
 fn state_line(epoch: u32, next: NextIds, manifest: usize, output: &mut Output) {
-    say::say(b"state", output);
-    say::comma(epoch as u64, output);
+    say::first(b"state", epoch as u64, output);
     say::comma(next.table.0 as u64, output);
     say::comma(next.rowset.0 as u64, output);
     say::comma(next.vector.0, output);
-    say::one(b"", manifest as u64, output);
+    say::last(manifest as u64, output);
 }
 
 fn state(manager: VersionManager, s: &[u8], output: &mut Output) {
-    if s.len() != 0 {
-        say::no_call(output);
+    if !say::alone(s, output) {
         return;
     }
     let next = manager.inner.next;

@@ -41,8 +41,7 @@ pub fn encode(s: &[u8], room: usize, output: &mut Output) {
 fn decode_into(file: &[u8], rows: &mut [u32], output: &mut Output) {
     match delete_vector::read_all(file, rows) {
         Loaded::Rows(n) => {
-            say::say(b"decoded", output);
-            say::comma(n as u64, output);
+            say::first(b"decoded", n as u64, output);
             say::rows(rows, n, output);
         }
         Loaded::Refused(why) => say::refusal(why, output),

@@ -7,8 +7,7 @@ use script::words::Booked;
 use version_manager::VersionManager;
 
 fn pin(manager: VersionManager, book: PinBook, s: &[u8], output: &mut Output) -> PinBook {
-    if s.len() != 0 {
-        say::no_call(output);
+    if !say::alone(s, output) {
         return book;
     }
     let step = pinning::pinned(manager, book);

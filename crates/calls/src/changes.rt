@@ -13,8 +13,7 @@ use version_manager::VacuumAnswer;
 use version_manager::VersionManager;
 
 pub fn fresh(world: World, s: &[u8], output: &mut Output) -> World {
-    if s.len() != 0 {
-        say::no_call(output);
+    if !say::alone(s, output) {
         return world;
     }
     say::say(b"fresh\n", output);
@@ -35,22 +34,37 @@ fn draw_vector(manager: VersionManager, output: &mut Output) -> VersionManager {
     drawn.manager
 }
 
-fn draw(manager: VersionManager, s: &[u8], output: &mut Output) -> VersionManager {
+enum Drawing {
+    Rowset,
+    Vector,
+    Nothing,
+}
+
+fn read_draw(s: &[u8]) -> Drawing {
     if script::same(s, b" rowset") {
-        return draw_rowset(manager, output);
+        return Drawing::Rowset;
     }
     if script::same(s, b" vector") {
-        return draw_vector(manager, output);
+        return Drawing::Vector;
     }
-    say::no_call(output);
-    manager
+    Drawing::Nothing
+}
+
+fn draw(manager: VersionManager, s: &[u8], output: &mut Output) -> VersionManager {
+    match read_draw(s) {
+        Drawing::Rowset => draw_rowset(manager, output),
+        Drawing::Vector => draw_vector(manager, output),
+        Drawing::Nothing => {
+            say::no_call(output);
+            manager
+        }
+    }
 }
 
 fn vacuumed(answer: VacuumAnswer, tables: &[u32], rowsets: &[u32], output: &mut Output) {
     match answer {
         VacuumAnswer::Listed(n) => {
-            say::say(b"vacuumed", output);
-            say::comma(n as u64, output);
+            say::first(b"vacuumed", n as u64, output);
             say::pairs(tables, rowsets, n, output);
         }
         VacuumAnswer::Refused(why) => say::refusal(why, output),
@@ -77,8 +91,7 @@ fn vacuum(
     room: usize,
     output: &mut Output,
 ) -> VersionManager {
-    if s.len() != 0 {
-        say::no_call(output);
+    if !say::alone(s, output) {
         return manager;
     }
     let mut tables = [0u32; MOST_HELD];

@@ -60,14 +60,12 @@ fn write(host: Host, s: &[u8], file: &mut [u8], scratch: &mut [u8], output: &mut
 }
 
 fn file_line(len: usize, s: &[u8], file: &[u8], output: &mut Output) {
-    if s.len() != 0 {
-        say::no_call(output);
+    if !say::alone(s, output) {
         return;
     }
     let n = script::least(len, file.len());
-    say::say(b"file", output);
-    say::comma(n as u64, output);
-    say::say(b",", output);
+    say::first(b"file", n as u64, output);
+    say::put(b',', output);
     say::bytes(&file[..n], output);
 }
 

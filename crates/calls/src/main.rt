@@ -26,7 +26,7 @@ mod host;
 mod reopen;
 mod world;
 
-// The buffers, by arrays: that a slice is handed back with its length is to be proved, in each function that holds a world too.
+// The buffers by their arrays: of a slice each function that is lent it has to prove that its length stays.
 type Line = [u8; 1048577];
 
 type File = [u8; 1114112];

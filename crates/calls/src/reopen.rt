@@ -62,8 +62,7 @@ pub fn reopen(
     old: &mut [u8],
     output: &mut Output,
 ) -> World {
-    if s.len() != 0 {
-        say::no_call(output);
+    if !say::alone(s, output) {
         return world;
     }
     let mut out = [0u8; LONGEST_REWRITTEN];

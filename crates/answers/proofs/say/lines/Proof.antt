@@ -6,10 +6,10 @@ use Rattle.answers.proofs.say.lines.Statement.{statement}
 use Rattle.answers.proofs.say.lines.Tie as tie
 
 abbrev Inv-loop : tie.InvT-loop
-Inv-loop s output₀ at₀ t4 output at = at ≤ length s
+Inv-loop s output₀ at₀ t5 output at = at ≤ length s
 
 abbrev μ-loop : tie.MeasureT-loop
-μ-loop s output₀ at₀ t4 output at = length s - at
+μ-loop s output₀ at₀ t5 output at = length s - at
 
 loop-holds : tie.Need-loop-holds Inv-loop μ-loop
 loop-holds c = search needs
