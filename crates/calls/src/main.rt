@@ -14,7 +14,10 @@ use script::words::Word;
 use status::Input;
 use status::Status;
 use world::ENOUGH;
+use world::File;
 use world::Host;
+use world::Line;
+use world::Old;
 use world::World;
 
 mod appends;
@@ -25,13 +28,6 @@ mod group;
 mod host;
 mod reopen;
 mod world;
-
-// The buffers by their arrays: of a slice each function that is lent it has to prove that its length stays.
-type Line = [u8; 1048577];
-
-type File = [u8; 1114112];
-
-type Old = [u8; 65536];
 
 fn managed(world: World, word: Managed, s: &[u8], room: usize, output: &mut Output) -> World {
     let manager = world.manager;
