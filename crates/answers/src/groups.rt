@@ -1,32 +1,40 @@
 // What is printed of a grouping.
+use crate::output::Output;
 use crate::say;
 use version_manager::GroupAnswer;
 
 // A vector's file, which begins at a place of all the files; where the next one begins.
-fn file(files: &[u8], at: usize, length: u64) -> usize {
+fn file(files: &[u8], at: usize, length: u64, output: &mut Output) -> usize {
     let from = script::least(at, files.len());
     let to = from + script::least(script::long(length), files.len() - from);
-    say::digits(&files[from..to]);
+    say::digits(&files[from..to], output);
     to
 }
 
-fn plus(i: usize) {
+fn plus(i: usize, output: &mut Output) {
     if 0 < i {
-        say::say(b"+");
+        say::put(b'+', output);
     }
 }
 
 // A vector's rows in memory, in the same way.
-fn memory(rows: &[u32], at: usize, count: u64) -> usize {
+fn memory(rows: &[u32], at: usize, count: u64, output: &mut Output) -> usize {
     let from = script::least(at, rows.len());
     let n = script::least(script::long(count), rows.len() - from);
     let mut i: usize = 0;
     while i < n {
-        plus(i);
-        say::number(say::at32(rows, from + i));
+        plus(i, output);
+        say::number(say::at32(rows, from + i), output);
         i += 1;
     }
     from + n
+}
+
+// A vector's id and its rowset.
+fn named(id: u64, rowset: u64, output: &mut Output) {
+    say::comma(id, output);
+    say::colon(rowset, output);
+    say::put(b':', output);
 }
 
 fn vectors(
@@ -37,21 +45,23 @@ fn vectors(
     counts: &[u32],
     files: &[u8],
     rows: &[u32],
+    output: &mut Output,
 ) {
     let mut at: usize = 0;
     let mut k: usize = 0;
     let mut i: usize = 0;
     while i < count {
-        say::comma(std::num::wrapping_add_u64(first, i as u64));
-        say::say(b":");
-        say::number(say::at32(rowsets, i));
-        say::say(b":");
-        at = file(files, at, say::at32(lengths, i));
-        say::say(b":");
-        k = memory(rows, k, say::at32(counts, i));
+        named(
+            std::num::wrapping_add_u64(first, i as u64),
+            say::at32(rowsets, i),
+            output,
+        );
+        at = file(files, at, say::at32(lengths, i), output);
+        say::put(b':', output);
+        k = memory(rows, k, say::at32(counts, i), output);
         i += 1;
     }
-    say::say(b"\n");
+    say::put(b'\n', output);
 }
 
 pub fn grouped(
@@ -61,13 +71,13 @@ pub fn grouped(
     counts: &[u32],
     files: &[u8],
     rows: &[u32],
+    output: &mut Output,
 ) {
     match answer {
         GroupAnswer::Vectors(n, first) => {
-            say::say(b"grouped");
-            say::comma(n as u64);
-            vectors(n, first.0, rowsets, lengths, counts, files, rows);
+            say::first(b"grouped", n as u64, output);
+            vectors(n, first.0, rowsets, lengths, counts, files, rows, output);
         }
-        GroupAnswer::Refused(why) => say::refusal(why),
+        GroupAnswer::Refused(why) => say::refusal(why, output),
     }
 }

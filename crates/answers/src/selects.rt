@@ -1,4 +1,5 @@
 // Selection: which of a table's rowsets a compaction is to take.
+use crate::output::Output;
 use crate::say;
 use compactor::SelectAnswer;
 use ids::TableNo;
@@ -10,14 +11,13 @@ use version_manager::VersionManager;
 // One more size than a table may have rowsets, so that too many are seen.
 const MOST_SIZES: usize = MOST_HELD + 1;
 
-fn selected(answer: SelectAnswer, out: &[u32]) {
+fn selected(answer: SelectAnswer, out: &[u32], output: &mut Output) {
     match answer {
         SelectAnswer::Chosen(n) => {
-            say::say(b"selected");
-            say::comma(n as u64);
-            say::rows(out, n);
+            say::first(b"selected", n as u64, output);
+            say::rows(out, n, output);
         }
-        SelectAnswer::Refused(why) => say::refusal(why),
+        SelectAnswer::Refused(why) => say::refusal(why, output),
     }
 }
 
@@ -50,20 +50,26 @@ fn read(s: &[u8], sizes: &mut [u64]) -> Selection {
     }
 }
 
-fn select_lent(manager: VersionManager, s: &[u8], sizes: &mut [u64], out: &mut [u32]) {
+fn select_lent(
+    manager: VersionManager,
+    s: &[u8],
+    sizes: &mut [u64],
+    out: &mut [u32],
+    output: &mut Output,
+) {
     match read(s, sizes) {
         Selection::Of(table, target, n) => {
             let n = script::least(n, sizes.len());
             let answer = manager.select(table, target, &sizes[..n], out);
-            selected(answer, out);
+            selected(answer, out, output);
         }
-        Selection::Nothing => say::no_call(),
+        Selection::Nothing => say::no_call(output),
     }
 }
 
-pub fn select(manager: VersionManager, s: &[u8], room: usize) {
+pub fn select(manager: VersionManager, s: &[u8], room: usize, output: &mut Output) {
     let mut sizes = [0u64; MOST_SIZES];
     let mut out = [0u32; MOST_HELD];
     let n = script::least(room, MOST_HELD);
-    select_lent(manager, s, &mut sizes, &mut out[..n]);
+    select_lent(manager, s, &mut sizes, &mut out[..n], output);
 }

@@ -1,4 +1,5 @@
 // Shows, and what the manager holds: calls that change nothing.
+use crate::output::Output;
 use crate::say;
 use crate::selects;
 use ids::limits::LONGEST_NAME;
@@ -12,25 +13,13 @@ use show::ShowAnswer;
 use version_manager::VersionManager;
 use version_state::NextIds;
 
-// A refusal, or the word and how many are shown, which are still to be said.
-fn shown(word: &[u8], answer: ShowAnswer) -> bool {
+fn pairs_said(answer: ShowAnswer, tables: &[u32], rowsets: &[u32], output: &mut Output) {
     match answer {
         ShowAnswer::Shown(n) => {
-            say::say(word);
-            say::comma(n as u64);
-            true
+            say::first(b"pairs", n as u64, output);
+            say::pairs(tables, rowsets, n, output);
         }
-        ShowAnswer::Refused(why) => {
-            say::refusal(why);
-            false
-        }
-    }
-}
-
-fn count(answer: ShowAnswer) -> usize {
-    match answer {
-        ShowAnswer::Shown(n) => n,
-        ShowAnswer::Refused(_) => 0,
+        ShowAnswer::Refused(why) => say::refusal(why, output),
     }
 }
 
@@ -40,18 +29,40 @@ fn pairs_into(
     epoch: u32,
     tables: &mut [u32],
     rowsets: &mut [u32],
+    output: &mut Output,
 ) {
     let answer = manager.show_pairs(book, epoch, tables, rowsets);
-    if shown(b"pairs", answer) {
-        say::pairs(tables, rowsets, count(answer));
-    }
+    pairs_said(answer, tables, rowsets, output);
 }
 
-fn pairs(manager: VersionManager, book: PinBook, epoch: u32, room: usize) {
+fn pairs(manager: VersionManager, book: PinBook, epoch: u32, room: usize, output: &mut Output) {
     let mut tables = [0u32; MOST_HELD];
     let mut rowsets = [0u32; MOST_HELD];
     let n = script::least(room, MOST_HELD);
-    pairs_into(manager, book, epoch, &mut tables[..n], &mut rowsets[..n]);
+    pairs_into(
+        manager,
+        book,
+        epoch,
+        &mut tables[..n],
+        &mut rowsets[..n],
+        output,
+    );
+}
+
+fn vectors_said(
+    answer: ShowAnswer,
+    tables: &[u32],
+    rowsets: &[u32],
+    vectors: &[u64],
+    output: &mut Output,
+) {
+    match answer {
+        ShowAnswer::Shown(n) => {
+            say::first(b"vectors", n as u64, output);
+            say::vectors(tables, rowsets, vectors, n, output);
+        }
+        ShowAnswer::Refused(why) => say::refusal(why, output),
+    }
 }
 
 fn vectors_into(
@@ -61,14 +72,13 @@ fn vectors_into(
     tables: &mut [u32],
     rowsets: &mut [u32],
     vectors: &mut [u64],
+    output: &mut Output,
 ) {
     let answer = manager.show_vectors(book, epoch, tables, rowsets, vectors);
-    if shown(b"vectors", answer) {
-        say::vectors(tables, rowsets, vectors, count(answer));
-    }
+    vectors_said(answer, tables, rowsets, vectors, output);
 }
 
-fn vectors(manager: VersionManager, book: PinBook, epoch: u32, room: usize) {
+fn vectors(manager: VersionManager, book: PinBook, epoch: u32, room: usize, output: &mut Output) {
     let mut tables = [0u32; MOST_HELD];
     let mut rowsets = [0u32; MOST_HELD];
     let mut vectors = [0u64; MOST_HELD];
@@ -80,7 +90,25 @@ fn vectors(manager: VersionManager, book: PinBook, epoch: u32, room: usize) {
         &mut tables[..n],
         &mut rowsets[..n],
         &mut vectors[..n],
+        output,
     );
+}
+
+fn tables_said(
+    answer: ShowAnswer,
+    ids: &[u32],
+    shapes: &[u32],
+    lengths: &[u32],
+    names: &[u8],
+    output: &mut Output,
+) {
+    match answer {
+        ShowAnswer::Shown(n) => {
+            say::first(b"tables", n as u64, output);
+            say::tables(ids, shapes, lengths, names, n, output);
+        }
+        ShowAnswer::Refused(why) => say::refusal(why, output),
+    }
 }
 
 fn tables_into(
@@ -91,15 +119,14 @@ fn tables_into(
     shapes: &mut [u32],
     lengths: &mut [u32],
     names: &mut [u8],
+    output: &mut Output,
 ) {
     let answer = manager.show_tables(book, epoch, ids, shapes, lengths, names);
-    if shown(b"tables", answer) {
-        say::tables(ids, shapes, lengths, names, count(answer));
-    }
+    tables_said(answer, ids, shapes, lengths, names, output);
 }
 
 // An entry of the names has room for the longest one.
-fn tables(manager: VersionManager, book: PinBook, epoch: u32, room: usize) {
+fn tables(manager: VersionManager, book: PinBook, epoch: u32, room: usize, output: &mut Output) {
     let mut ids = [0u32; MOST_TABLES];
     let mut shapes = [0u32; MOST_TABLES];
     let mut lengths = [0u32; MOST_TABLES];
@@ -114,59 +141,75 @@ fn tables(manager: VersionManager, book: PinBook, epoch: u32, room: usize) {
         &mut shapes[..n],
         &mut lengths[..n],
         &mut names[..bytes],
+        output,
     );
 }
 
-fn show_at(manager: VersionManager, book: PinBook, what: &[u8], epoch: u32, room: usize) {
+// What a line shows, at which epoch.
+enum Showing {
+    Tables(u32),
+    Pairs(u32),
+    Vectors(u32),
+    Nothing,
+}
+
+fn read_at(what: &[u8], epoch: u32) -> Showing {
     if script::same(what, b" tables") {
-        tables(manager, book, epoch, room);
-        return;
+        return Showing::Tables(epoch);
     }
     if script::same(what, b" pairs") {
-        pairs(manager, book, epoch, room);
-        return;
+        return Showing::Pairs(epoch);
     }
     if script::same(what, b" vectors") {
-        vectors(manager, book, epoch, room);
-        return;
+        return Showing::Vectors(epoch);
     }
-    say::no_call();
+    Showing::Nothing
 }
 
-fn show(manager: VersionManager, book: PinBook, s: &[u8], room: usize) {
-    if s.len() == 0 {
-        say::no_call();
-        return;
-    }
-    let end = script::word_end(s, 1);
+fn read(s: &[u8]) -> Showing {
+    let end = script::first_end(s);
     match script::one(&s[end..], 4294967295) {
-        Found::Of(n) => show_at(manager, book, &s[..end], script::narrow(n), room),
-        Found::Nothing => say::no_call(),
+        Found::Of(n) => read_at(&s[..end], script::narrow(n)),
+        Found::Nothing => Showing::Nothing,
     }
 }
 
-fn state_line(epoch: u32, next: NextIds, manifest: usize) {
-    say::say(b"state");
-    say::comma(epoch as u64);
-    say::comma(next.table.0 as u64);
-    say::comma(next.rowset.0 as u64);
-    say::comma(next.vector.0);
-    say::one(b"", manifest as u64);
+fn show(manager: VersionManager, book: PinBook, s: &[u8], room: usize, output: &mut Output) {
+    match read(s) {
+        Showing::Tables(epoch) => tables(manager, book, epoch, room, output),
+        Showing::Pairs(epoch) => pairs(manager, book, epoch, room, output),
+        Showing::Vectors(epoch) => vectors(manager, book, epoch, room, output),
+        Showing::Nothing => say::no_call(output),
+    }
 }
 
-fn state(manager: VersionManager, s: &[u8]) {
-    if s.len() != 0 {
-        say::no_call();
+fn state_line(epoch: u32, next: NextIds, manifest: usize, output: &mut Output) {
+    say::first(b"state", epoch as u64, output);
+    say::comma(next.table.0 as u64, output);
+    say::comma(next.rowset.0 as u64, output);
+    say::comma(next.vector.0, output);
+    say::last(manifest as u64, output);
+}
+
+fn state(manager: VersionManager, s: &[u8], output: &mut Output) {
+    if !say::alone(s, output) {
         return;
     }
     let next = manager.inner.next;
-    state_line(manager.inner.epoch, next, manager.inner.manifest);
+    state_line(manager.inner.epoch, next, manager.inner.manifest, output);
 }
 
-pub fn told(manager: VersionManager, book: PinBook, word: Told, s: &[u8], room: usize) {
+pub fn told(
+    manager: VersionManager,
+    book: PinBook,
+    word: Told,
+    s: &[u8],
+    room: usize,
+    output: &mut Output,
+) {
     match word {
-        Told::Show => show(manager, book, s, room),
-        Told::Select => selects::select(manager, s, room),
-        Told::State => state(manager, s),
+        Told::Show => show(manager, book, s, room, output),
+        Told::Select => selects::select(manager, s, room, output),
+        Told::State => state(manager, s, output),
     }
 }

@@ -1,5 +1,6 @@
 // The grouping call.
 use answers::groups;
+use answers::output::Output;
 use answers::say;
 use script::handles;
 use transaction::Handles;
@@ -17,17 +18,23 @@ fn group_into(
     counts: &mut [u32],
     files: &mut [u8],
     rows: &mut [u32],
+    output: &mut Output,
 ) -> VersionManager {
     let done = manager.group(handles, rowsets, lengths, counts, files, rows);
     let answer = done.answer;
-    groups::grouped(answer, rowsets, lengths, counts, files, rows);
+    groups::grouped(answer, rowsets, lengths, counts, files, rows, output);
     done.manager
 }
 
-pub fn group(manager: VersionManager, s: &[u8], room: usize) -> VersionManager {
+pub fn group(
+    manager: VersionManager,
+    s: &[u8],
+    room: usize,
+    output: &mut Output,
+) -> VersionManager {
     let read = handles::handles(s);
     if !read.whole {
-        say::no_call();
+        say::no_call(output);
         return manager;
     }
     let handles = read.handles;
@@ -46,5 +53,6 @@ pub fn group(manager: VersionManager, s: &[u8], room: usize) -> VersionManager {
         &mut counts[..n],
         &mut files[..bytes],
         &mut rows[..n],
+        output,
     )
 }

@@ -5,6 +5,14 @@ use version_manager::VersionManager;
 // Room that is more than any output is lent.
 pub const ENOUGH: usize = 18446744073709551615;
 
+// The buffers by their arrays: of a slice each function that is lent it has to prove that its length stays. A line, the file, and the file
+// that the last accepted reopen read.
+pub type Line = [u8; 1048577];
+
+pub type File = [u8; 1114112];
+
+pub type Old = [u8; 65536];
+
 // What is known of the file, whose bytes lie in a buffer that the program lends.
 pub struct Host {
     pub len: usize,

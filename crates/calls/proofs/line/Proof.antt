@@ -1,5 +1,4 @@
 -- `calls::line` meets its contract. Assumes nothing.
-use Prim.Native.Nat.{_-_}
 use lib.Seq.{length-take-le}
 use borrow.Author.Needs.{needs}
 use Rattle.calls.proofs.line.Statement.{statement}
@@ -35,15 +34,6 @@ part-call-end c = search needs
 call-requires : tie.Need-call-requires
 call-requires c κs = search needs
 
-same-length : tie.Need-same-length
-same-length c = search needs
-
-same-length-2 : tie.Need-same-length-2
-same-length-2 c = search needs
-
-same-length-3 : tie.Need-same-length-3
-same-length-3 c = search needs
-
 returns-3 : tie.Need-returns-3
 returns-3 c = search needs
 
@@ -61,7 +51,4 @@ line-spec =
     part-call-start
     part-call-end
     call-requires
-    same-length
-    same-length-2
-    same-length-3
     returns-3)

@@ -1,16 +1,15 @@
 -- `calls::lines` meets its contract. Assumes nothing.
 use Prim.Native.Nat.{_≤_, _-_}
-use mathlib.Core.Path.{_≡_}
 use lib.ListN.{length}
 use borrow.Author.Needs.{needs}
 use Rattle.calls.proofs.lines.Statement.{statement}
 use Rattle.calls.proofs.lines.Tie as tie
 
 abbrev Inv-loop : tie.InvT-loop
-Inv-loop s to file₀ old₀ scratch₀ world₀ to' at₀ file old scratch world at = (at ≤ to') × (to' ≤ length s) × (length file ≡ length file₀) × (length old ≡ length old₀) × (length scratch ≡ length scratch₀)
+Inv-loop s to file₀ old₀ scratch₀ output₀ world₀ to' at₀ file old scratch output world at = (at ≤ to') × (to' ≤ length s)
 
 abbrev μ-loop : tie.MeasureT-loop
-μ-loop s to file₀ old₀ scratch₀ world₀ to' at₀ file old scratch world at = to' - at
+μ-loop s to file₀ old₀ scratch₀ output₀ world₀ to' at₀ file old scratch output world at = to' - at
 
 least-requires : tie.Need-least-requires Inv-loop μ-loop
 least-requires c κs = search needs
@@ -33,15 +32,6 @@ part-line-end c = search needs
 line-requires : tie.Need-line-requires Inv-loop μ-loop
 line-requires c κs = search needs
 
-same-length : tie.Need-same-length Inv-loop μ-loop
-same-length c = search needs
-
-same-length-2 : tie.Need-same-length-2 Inv-loop μ-loop
-same-length-2 c = search needs
-
-same-length-3 : tie.Need-same-length-3 Inv-loop μ-loop
-same-length-3 c = search needs
-
 returns : tie.Need-returns Inv-loop μ-loop
 returns c = search needs
 
@@ -53,15 +43,6 @@ loop-less c = search needs
 
 loop-again : tie.Need-loop-again Inv-loop μ-loop
 loop-again c = search needs
-
-same-length-4 : tie.Need-same-length-4 Inv-loop μ-loop
-same-length-4 c = search needs
-
-same-length-5 : tie.Need-same-length-5 Inv-loop μ-loop
-same-length-5 c = search needs
-
-same-length-6 : tie.Need-same-length-6 Inv-loop μ-loop
-same-length-6 c = search needs
 
 returns-2 : tie.Need-returns-2 Inv-loop μ-loop
 returns-2 c = search needs
@@ -79,14 +60,8 @@ lines-spec =
     part-line-start
     part-line-end
     line-requires
-    same-length
-    same-length-2
-    same-length-3
     returns
     add-at
     loop-less
     loop-again
-    same-length-4
-    same-length-5
-    same-length-6
     returns-2)

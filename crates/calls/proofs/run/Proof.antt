@@ -1,16 +1,13 @@
 -- `calls::run` meets its contract. Each turn leaves fewer turns. Assumes nothing.
-use mathlib.Core.Path.{_≡_}
-use lib.ListN.{length}
 use borrow.Author.Needs.{needs}
 use Rattle.calls.proofs.run.Statement.{statement}
 use Rattle.calls.proofs.run.Tie as tie
 
 abbrev Inv-loop : tie.InvT-loop
-Inv-loop input₀ file₀ old₀ scratch₀ world₀ have₀ turns₀ input file old scratch world have turns =
-    (length input ≡ length input₀) × (length file ≡ length file₀) × (length old ≡ length old₀) × (length scratch ≡ length scratch₀)
+Inv-loop input₀ file₀ old₀ scratch₀ output₀ world₀ have₀ turns₀ input file old scratch output world have turns = Unit
 
 abbrev μ-loop : tie.MeasureT-loop
-μ-loop input₀ file₀ old₀ scratch₀ world₀ have₀ turns₀ input file old scratch world have turns = turns
+μ-loop input₀ file₀ old₀ scratch₀ output₀ world₀ have₀ turns₀ input file old scratch output world have turns = turns
 
 fresh-requires : tie.Need-fresh-requires Inv-loop μ-loop
 fresh-requires c κs = search needs
@@ -21,23 +18,11 @@ loop-holds c = search needs
 sub-turns : tie.Need-sub-turns Inv-loop μ-loop
 sub-turns c = search needs
 
-filled-requires : tie.Need-filled-requires Inv-loop μ-loop
-filled-requires c κs = search needs
+read-requires : tie.Need-read-requires Inv-loop μ-loop
+read-requires c κs = search needs
 
 turn-requires : tie.Need-turn-requires Inv-loop μ-loop
 turn-requires c κs = search needs
-
-same-length : tie.Need-same-length Inv-loop μ-loop
-same-length c = search needs
-
-same-length-2 : tie.Need-same-length-2 Inv-loop μ-loop
-same-length-2 c = search needs
-
-same-length-3 : tie.Need-same-length-3 Inv-loop μ-loop
-same-length-3 c = search needs
-
-same-length-4 : tie.Need-same-length-4 Inv-loop μ-loop
-same-length-4 c = search needs
 
 returns : tie.Need-returns Inv-loop μ-loop
 returns c = search needs
@@ -47,18 +32,6 @@ loop-less c = search needs
 
 loop-again : tie.Need-loop-again Inv-loop μ-loop
 loop-again c = search needs
-
-same-length-5 : tie.Need-same-length-5 Inv-loop μ-loop
-same-length-5 c = search needs
-
-same-length-6 : tie.Need-same-length-6 Inv-loop μ-loop
-same-length-6 c = search needs
-
-same-length-7 : tie.Need-same-length-7 Inv-loop μ-loop
-same-length-7 c = search needs
-
-same-length-8 : tie.Need-same-length-8 Inv-loop μ-loop
-same-length-8 c = search needs
 
 returns-2 : tie.Need-returns-2 Inv-loop μ-loop
 returns-2 c = search needs
@@ -72,17 +45,9 @@ run-spec =
     fresh-requires
     loop-holds
     sub-turns
-    filled-requires
+    read-requires
     turn-requires
-    same-length
-    same-length-2
-    same-length-3
-    same-length-4
     returns
     loop-less
     loop-again
-    same-length-5
-    same-length-6
-    same-length-7
-    same-length-8
     returns-2)

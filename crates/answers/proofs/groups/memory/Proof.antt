@@ -6,10 +6,10 @@ use Rattle.answers.proofs.groups.memory.Statement.{statement}
 use Rattle.answers.proofs.groups.memory.Tie as tie
 
 abbrev Inv-loop : tie.InvT-loop
-Inv-loop rows at count from n i₀ i = (i ≤ n) × (from + n ≤ length rows)
+Inv-loop rows at count output₀ from n i₀ output i = (i ≤ n) × (from + n ≤ length rows)
 
 abbrev μ-loop : tie.MeasureT-loop
-μ-loop rows at count from n i₀ i = n - i
+μ-loop rows at count output₀ from n i₀ output i = n - i
 
 least-requires : tie.Need-least-requires Inv-loop μ-loop
 least-requires c κs = search needs

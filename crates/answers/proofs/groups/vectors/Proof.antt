@@ -5,10 +5,10 @@ use Rattle.answers.proofs.groups.vectors.Statement.{statement}
 use Rattle.answers.proofs.groups.vectors.Tie as tie
 
 abbrev Inv-loop : tie.InvT-loop
-Inv-loop count first rowsets lengths counts files rows at₀ k₀ i₀ t11 t12 t13 t14 at k i = i ≤ count
+Inv-loop count first rowsets lengths counts files rows output₀ at₀ k₀ i₀ output at k i = i ≤ count
 
 abbrev μ-loop : tie.MeasureT-loop
-μ-loop count first rowsets lengths counts files rows at₀ k₀ i₀ t11 t12 t13 t14 at k i = count - i
+μ-loop count first rowsets lengths counts files rows output₀ at₀ k₀ i₀ output at k i = count - i
 
 loop-holds : tie.Need-loop-holds Inv-loop μ-loop
 loop-holds c = search needs
@@ -16,26 +16,11 @@ loop-holds c = search needs
 wrapping-add-u64-requires : tie.Need-wrapping-add-u64-requires Inv-loop μ-loop
 wrapping-add-u64-requires c κs = search needs
 
-comma-requires : tie.Need-comma-requires Inv-loop μ-loop
-comma-requires c κs = search needs
-
-slice-aggregate-say : tie.Need-slice-aggregate-say Inv-loop μ-loop
-slice-aggregate-say c = search needs
-
-say-requires : tie.Need-say-requires Inv-loop μ-loop
-say-requires c κs = search needs
-
 at32-requires : tie.Need-at32-requires Inv-loop μ-loop
 at32-requires c κs = search needs
 
-number-requires : tie.Need-number-requires Inv-loop μ-loop
-number-requires c κs = search needs
-
-slice-aggregate-say-2 : tie.Need-slice-aggregate-say-2 Inv-loop μ-loop
-slice-aggregate-say-2 c = search needs
-
-say-requires-2 : tie.Need-say-requires-2 Inv-loop μ-loop
-say-requires-2 c κs = search needs
+named-requires : tie.Need-named-requires Inv-loop μ-loop
+named-requires c κs = search needs
 
 at32-requires-2 : tie.Need-at32-requires-2 Inv-loop μ-loop
 at32-requires-2 c κs = search needs
@@ -43,11 +28,8 @@ at32-requires-2 c κs = search needs
 file-requires : tie.Need-file-requires Inv-loop μ-loop
 file-requires c κs = search needs
 
-slice-aggregate-say-3 : tie.Need-slice-aggregate-say-3 Inv-loop μ-loop
-slice-aggregate-say-3 c = search needs
-
-say-requires-3 : tie.Need-say-requires-3 Inv-loop μ-loop
-say-requires-3 c κs = search needs
+put-requires : tie.Need-put-requires Inv-loop μ-loop
+put-requires c κs = search needs
 
 at32-requires-3 : tie.Need-at32-requires-3 Inv-loop μ-loop
 at32-requires-3 c κs = search needs
@@ -64,11 +46,8 @@ loop-less c = search needs
 loop-again : tie.Need-loop-again Inv-loop μ-loop
 loop-again c = search needs
 
-slice-aggregate-say-4 : tie.Need-slice-aggregate-say-4 Inv-loop μ-loop
-slice-aggregate-say-4 c = search needs
-
-say-requires-4 : tie.Need-say-requires-4 Inv-loop μ-loop
-say-requires-4 c κs = search needs
+put-requires-2 : tie.Need-put-requires-2 Inv-loop μ-loop
+put-requires-2 c κs = search needs
 
 returns : tie.Need-returns Inv-loop μ-loop
 returns c = search needs
@@ -81,22 +60,15 @@ vectors-spec =
     μ-loop
     loop-holds
     wrapping-add-u64-requires
-    comma-requires
-    slice-aggregate-say
-    say-requires
     at32-requires
-    number-requires
-    slice-aggregate-say-2
-    say-requires-2
+    named-requires
     at32-requires-2
     file-requires
-    slice-aggregate-say-3
-    say-requires-3
+    put-requires
     at32-requires-3
     memory-requires
     add-i
     loop-less
     loop-again
-    slice-aggregate-say-4
-    say-requires-4
+    put-requires-2
     returns)

@@ -6,10 +6,10 @@ use Rattle.answers.proofs.say.bits.Statement.{statement}
 use Rattle.answers.proofs.say.bits.Tie as tie
 
 abbrev Inv-loop : tie.InvT-loop
-Inv-loop s i₀ t3 i = i ≤ length s
+Inv-loop s output₀ i₀ output i = i ≤ length s
 
 abbrev μ-loop : tie.MeasureT-loop
-μ-loop s i₀ t3 i = length s - i
+μ-loop s output₀ i₀ output i = length s - i
 
 dash-requires : tie.Need-dash-requires Inv-loop μ-loop
 dash-requires c κs = search needs
@@ -35,11 +35,8 @@ loop-less c = search needs
 loop-again : tie.Need-loop-again Inv-loop μ-loop
 loop-again c = search needs
 
-slice-aggregate-say : tie.Need-slice-aggregate-say Inv-loop μ-loop
-slice-aggregate-say c = search needs
-
-say-requires : tie.Need-say-requires Inv-loop μ-loop
-say-requires c κs = search needs
+put-requires : tie.Need-put-requires Inv-loop μ-loop
+put-requires c κs = search needs
 
 returns : tie.Need-returns Inv-loop μ-loop
 returns c = search needs
@@ -58,6 +55,5 @@ bits-spec =
     add-i
     loop-less
     loop-again
-    slice-aggregate-say
-    say-requires
+    put-requires
     returns)

@@ -6,10 +6,10 @@ use Rattle.answers.proofs.say.digits.Statement.{statement}
 use Rattle.answers.proofs.say.digits.Tie as tie
 
 abbrev Inv-loop : tie.InvT-loop
-Inv-loop s i₀ i = i ≤ length s
+Inv-loop s output₀ i₀ output i = i ≤ length s
 
 abbrev μ-loop : tie.MeasureT-loop
-μ-loop s i₀ i = length s - i
+μ-loop s output₀ i₀ output i = length s - i
 
 dash-requires : tie.Need-dash-requires Inv-loop μ-loop
 dash-requires c κs = search needs
@@ -23,8 +23,8 @@ shared-slice-read-byte c = search needs
 byte-requires : tie.Need-byte-requires Inv-loop μ-loop
 byte-requires c κs = search needs
 
-print-hex-requires : tie.Need-print-hex-requires Inv-loop μ-loop
-print-hex-requires c κs = search needs
+hex-byte-requires : tie.Need-hex-byte-requires Inv-loop μ-loop
+hex-byte-requires c κs = search needs
 
 add-i : tie.Need-add-i Inv-loop μ-loop
 add-i c = search needs
@@ -48,7 +48,7 @@ digits-spec =
     loop-holds
     shared-slice-read-byte
     byte-requires
-    print-hex-requires
+    hex-byte-requires
     add-i
     loop-less
     loop-again

@@ -1,16 +1,15 @@
 -- `answers::say::lines` meets its contract. Assumes nothing.
 use Prim.Native.Nat.{_≤_, _-_}
 use lib.ListN.{length}
-use lib.Seq.{length-take-le}
 use borrow.Author.Needs.{needs}
 use Rattle.answers.proofs.say.lines.Statement.{statement}
 use Rattle.answers.proofs.say.lines.Tie as tie
 
 abbrev Inv-loop : tie.InvT-loop
-Inv-loop s at₀ t4 at = at ≤ length s
+Inv-loop s output₀ at₀ t5 output at = at ≤ length s
 
 abbrev μ-loop : tie.MeasureT-loop
-μ-loop s at₀ t4 at = length s - at
+μ-loop s output₀ at₀ t5 output at = length s - at
 
 loop-holds : tie.Need-loop-holds Inv-loop μ-loop
 loop-holds c = search needs
@@ -34,7 +33,7 @@ returns : tie.Need-returns Inv-loop μ-loop
 returns c = search needs
 
 slice-aggregate-say : tie.Need-slice-aggregate-say Inv-loop μ-loop
-slice-aggregate-say c = search (needs, length-take-le)
+slice-aggregate-say c = search needs
 
 say-requires-2 : tie.Need-say-requires-2 Inv-loop μ-loop
 say-requires-2 c κs = search needs

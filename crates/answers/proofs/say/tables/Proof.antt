@@ -5,10 +5,10 @@ use Rattle.answers.proofs.say.tables.Statement.{statement}
 use Rattle.answers.proofs.say.tables.Tie as tie
 
 abbrev Inv-loop : tie.InvT-loop
-Inv-loop ids shapes lengths names count i₀ t7 t8 i = i ≤ count
+Inv-loop ids shapes lengths names count output₀ i₀ output i = i ≤ count
 
 abbrev μ-loop : tie.MeasureT-loop
-μ-loop ids shapes lengths names count i₀ t7 t8 i = count - i
+μ-loop ids shapes lengths names count output₀ i₀ output i = count - i
 
 loop-holds : tie.Need-loop-holds Inv-loop μ-loop
 loop-holds c = search needs
@@ -16,11 +16,8 @@ loop-holds c = search needs
 pair-requires : tie.Need-pair-requires Inv-loop μ-loop
 pair-requires c κs = search needs
 
-slice-aggregate-say : tie.Need-slice-aggregate-say Inv-loop μ-loop
-slice-aggregate-say c = search needs
-
-say-requires : tie.Need-say-requires Inv-loop μ-loop
-say-requires c κs = search needs
+put-requires : tie.Need-put-requires Inv-loop μ-loop
+put-requires c κs = search needs
 
 at32-requires : tie.Need-at32-requires Inv-loop μ-loop
 at32-requires c κs = search needs
@@ -37,11 +34,8 @@ loop-less c = search needs
 loop-again : tie.Need-loop-again Inv-loop μ-loop
 loop-again c = search needs
 
-slice-aggregate-say-2 : tie.Need-slice-aggregate-say-2 Inv-loop μ-loop
-slice-aggregate-say-2 c = search needs
-
-say-requires-2 : tie.Need-say-requires-2 Inv-loop μ-loop
-say-requires-2 c κs = search needs
+put-requires-2 : tie.Need-put-requires-2 Inv-loop μ-loop
+put-requires-2 c κs = search needs
 
 returns : tie.Need-returns Inv-loop μ-loop
 returns c = search needs
@@ -54,13 +48,11 @@ tables-spec =
     μ-loop
     loop-holds
     pair-requires
-    slice-aggregate-say
-    say-requires
+    put-requires
     at32-requires
     name-requires
     add-i
     loop-less
     loop-again
-    slice-aggregate-say-2
-    say-requires-2
+    put-requires-2
     returns)

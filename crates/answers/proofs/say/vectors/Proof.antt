@@ -5,10 +5,10 @@ use Rattle.answers.proofs.say.vectors.Statement.{statement}
 use Rattle.answers.proofs.say.vectors.Tie as tie
 
 abbrev Inv-loop : tie.InvT-loop
-Inv-loop tables rowsets vectors count i₀ t6 t7 i = i ≤ count
+Inv-loop tables rowsets vectors count output₀ i₀ output i = i ≤ count
 
 abbrev μ-loop : tie.MeasureT-loop
-μ-loop tables rowsets vectors count i₀ t6 t7 i = count - i
+μ-loop tables rowsets vectors count output₀ i₀ output i = count - i
 
 loop-holds : tie.Need-loop-holds Inv-loop μ-loop
 loop-holds c = search needs
@@ -16,17 +16,11 @@ loop-holds c = search needs
 pair-requires : tie.Need-pair-requires Inv-loop μ-loop
 pair-requires c κs = search needs
 
-slice-aggregate-say : tie.Need-slice-aggregate-say Inv-loop μ-loop
-slice-aggregate-say c = search needs
-
-say-requires : tie.Need-say-requires Inv-loop μ-loop
-say-requires c κs = search needs
-
 at64-requires : tie.Need-at64-requires Inv-loop μ-loop
 at64-requires c κs = search needs
 
-number-requires : tie.Need-number-requires Inv-loop μ-loop
-number-requires c κs = search needs
+colon-requires : tie.Need-colon-requires Inv-loop μ-loop
+colon-requires c κs = search needs
 
 add-i : tie.Need-add-i Inv-loop μ-loop
 add-i c = search needs
@@ -37,11 +31,8 @@ loop-less c = search needs
 loop-again : tie.Need-loop-again Inv-loop μ-loop
 loop-again c = search needs
 
-slice-aggregate-say-2 : tie.Need-slice-aggregate-say-2 Inv-loop μ-loop
-slice-aggregate-say-2 c = search needs
-
-say-requires-2 : tie.Need-say-requires-2 Inv-loop μ-loop
-say-requires-2 c κs = search needs
+put-requires : tie.Need-put-requires Inv-loop μ-loop
+put-requires c κs = search needs
 
 returns : tie.Need-returns Inv-loop μ-loop
 returns c = search needs
@@ -54,13 +45,10 @@ vectors-spec =
     μ-loop
     loop-holds
     pair-requires
-    slice-aggregate-say
-    say-requires
     at64-requires
-    number-requires
+    colon-requires
     add-i
     loop-less
     loop-again
-    slice-aggregate-say-2
-    say-requires-2
+    put-requires
     returns)

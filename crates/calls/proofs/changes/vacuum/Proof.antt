@@ -5,8 +5,8 @@ use borrow.Author.Needs.{needs}
 use Rattle.calls.proofs.changes.vacuum.Statement.{statement}
 use Rattle.calls.proofs.changes.vacuum.Tie as tie
 
-no-call-requires : tie.Need-no-call-requires
-no-call-requires c κs = search needs
+alone-requires : tie.Need-alone-requires
+alone-requires c κs = search needs
 
 returns : tie.Need-returns
 returns c = search needs
@@ -36,7 +36,7 @@ pub vacuum-spec : {M : Type 1} → statement M
 vacuum-spec =
     tie.close
     (tie.spec
-    no-call-requires
+    alone-requires
     returns
     least-requires
     array-borrow-prefix-tables

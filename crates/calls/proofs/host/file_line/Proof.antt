@@ -5,8 +5,8 @@ use borrow.Author.Needs.{needs}
 use Rattle.calls.proofs.host.file_line.Statement.{statement}
 use Rattle.calls.proofs.host.file_line.Tie as tie
 
-no-call-requires : tie.Need-no-call-requires
-no-call-requires c κs = search needs
+alone-requires : tie.Need-alone-requires
+alone-requires c κs = search needs
 
 returns : tie.Need-returns
 returns c = search needs
@@ -14,20 +14,14 @@ returns c = search needs
 least-requires : tie.Need-least-requires
 least-requires c κs = search needs
 
-slice-aggregate-say : tie.Need-slice-aggregate-say
-slice-aggregate-say c = search needs
+slice-aggregate-first : tie.Need-slice-aggregate-first
+slice-aggregate-first c = search needs
 
-say-requires : tie.Need-say-requires
-say-requires c κs = search needs
+first-requires : tie.Need-first-requires
+first-requires c κs = search needs
 
-comma-requires : tie.Need-comma-requires
-comma-requires c κs = search needs
-
-slice-aggregate-say-2 : tie.Need-slice-aggregate-say-2
-slice-aggregate-say-2 c = search needs
-
-say-requires-2 : tie.Need-say-requires-2
-say-requires-2 c κs = search needs
+put-requires : tie.Need-put-requires
+put-requires c κs = search needs
 
 slice-aggregate-bytes : tie.Need-slice-aggregate-bytes
 slice-aggregate-bytes c = search (needs, length-take-le)
@@ -42,14 +36,12 @@ pub file-line-spec : {M : Type 1} → statement M
 file-line-spec =
     tie.close
     (tie.spec
-    no-call-requires
+    alone-requires
     returns
     least-requires
-    slice-aggregate-say
-    say-requires
-    comma-requires
-    slice-aggregate-say-2
-    say-requires-2
+    slice-aggregate-first
+    first-requires
+    put-requires
     slice-aggregate-bytes
     bytes-requires
     returns-2)
