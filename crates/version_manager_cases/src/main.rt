@@ -1,75 +1,72 @@
-// Cases of the version manager's calls, read from the input. A line that begins with `#` says what follows and is printed.
-// Every other line has words. `+` adds an operation to the batch, in the manifest's letters; a name is a byte and how often
-// it stands. `=` sets something of the manager, the pin book, the batch or the numbers that are lent. `!` calls a method and prints the answer, with
-// what the manager and the lent outputs then hold.
-use bench::Bench;
+// Cases of the version manager's calls that no list of calls as text reaches, read from the input. A line has a word and then numbers, with a
+// blank before each. `!` and a letter is a call: it prints the answer, the manager that is handed back and all that was lent, and leaves
+// the numbers that managers and books are made of. Any other word sets numbers, an empty line keeps them as those that each title
+// starts from, and a title, which begins with `#`, is printed.
 use libc::STDIN_FILENO;
-ghost use Prim.Native.Nat.{_≤_};
+use made::ALL;
 
-mod batches;
-mod bench;
+mod appends;
 mod calls;
-mod compactions;
-mod fields;
-mod locks;
-mod pinnings;
+mod made;
 mod say;
-mod sets;
 mod shows;
-mod tables;
 
-// One word: its sign, its letter, and after each comma a number.
-fn word(bench: Bench, s: &[u8]) -> Bench {
+// What the next call is made of, and what each title starts from.
+struct Numbers {
+    now: [u64; ALL],
+    first: [u64; ALL],
+}
+
+fn set(numbers: [u64; ALL], s: &[u8], letter: u8, digit: u8) -> [u64; ALL] {
+    let mut n = numbers;
+    let at = made::place(letter, digit);
+    let end = script::first_end(s);
+    script::sizes(&s[end..], &mut n[at..]);
+    n
+}
+
+fn call(numbers: &[u64], s: &[u8], letter: u8) {
+    let mut f = [0u64; 6];
+    let end = script::first_end(s);
+    script::sizes(&s[end..], &mut f);
+    say::say(s);
+    calls::call(numbers, letter, f);
+}
+
+fn line(numbers: Numbers, s: &[u8]) -> Numbers {
+    let now = numbers.now;
+    let first = numbers.first;
     if s.len() < 2 {
-        return bench;
+        return Numbers { now, first: now };
     }
-    let sign = s[0];
-    let letter = s[1];
-    let f = fields::fields(s);
-    match sign {
-        b'+' => batches::add(bench, letter, f),
-        b'=' => sets::set(bench, letter, f),
-        b'!' => calls::call(bench, letter, f),
-        _ => bench,
-    }
-}
-
-fn words(bench: Bench, s: &[u8]) -> Bench {
-    let mut bench = bench;
-    let mut from: usize = 0;
-    let mut i: usize = 0;
-    while i < s.len() {
-        if s[i] == b' ' {
-            bench = word(bench, &s[from..i]);
-            from = i + 1;
+    let letter = s[0];
+    match letter {
+        b'#' => {
+            say::say(s);
+            say::say(b"\n");
+            Numbers { now: first, first }
         }
-        i += 1;
+        b'!' => {
+            call(&now, s, s[1]);
+            numbers
+        }
+        _ => Numbers {
+            now: set(now, s, letter, s[1]),
+            first,
+        },
     }
-    word(bench, &s[from..i])
-}
-
-fn line(bench: Bench, s: &[u8]) -> Bench {
-    if s.len() == 0 {
-        return bench;
-    }
-    if s[0] == b'#' {
-        say::line(s);
-        return bench;
-    }
-    words(bench, s)
 }
 
 fn run(s: &[u8]) {
-    let classes = text::classes();
-    let mut bench = Bench::fresh();
-    let mut from: usize = 0;
-    let mut i: usize = 0;
-    while i < s.len() {
-        if text::is_newline(&classes, s[i]) {
-            bench = line(bench, &s[from..i]);
-            from = i + 1;
-        }
-        i += 1;
+    let mut numbers = Numbers {
+        now: [0; ALL],
+        first: [0; ALL],
+    };
+    let mut at: usize = 0;
+    while at < s.len() {
+        let end = script::line_end(s, at, s.len());
+        numbers = line(numbers, &s[at..end]);
+        at = end + 1;
     }
 }
 

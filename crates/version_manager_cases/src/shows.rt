@@ -1,164 +1,98 @@
-// Shows: they hand no manager back.
-use crate::bench::Bench;
-use crate::fields::id;
-use crate::fields::part;
+// Vacuum, shows and selection, into slices of so many places each.
+use crate::made;
 use crate::say;
+use compactor::SelectAnswer;
+use ids::TableNo;
 use show::ShowAnswer;
+use version_manager::VacuumAnswer;
 
-fn shown(word: &[u8], answer: ShowAnswer) -> usize {
-    say::say(word);
+fn vacuum(numbers: &[u64], tables: &mut [u32], rowsets: &mut [u32]) {
+    let manager = made::manager(numbers);
+    let done = manager.vacuum(made::book(numbers), tables, rowsets);
+    let answer = done.answer;
     match answer {
-        ShowAnswer::Shown(n) => say::counted(b" shown ", n),
+        VacuumAnswer::Listed(n) => say::number(b" listed ", n as u64),
+        VacuumAnswer::Refused(why) => say::refusal(why),
+    }
+    say::state(done.manager);
+}
+
+fn select(numbers: &[u64], table: u32, sizes: &[u64], out: &mut [u32]) {
+    let manager = made::manager(numbers);
+    let answer = manager.select(TableNo(table), 2, sizes, out);
+    match answer {
+        SelectAnswer::Chosen(n) => say::number(b" chosen ", n as u64),
+        SelectAnswer::Refused(why) => say::refusal(why),
+    }
+}
+
+fn shown(answer: ShowAnswer) {
+    match answer {
+        ShowAnswer::Shown(n) => say::number(b" shown ", n as u64),
         ShowAnswer::Refused(why) => say::refusal(why),
     }
 }
 
-fn pairs_into(bench: Bench, epoch: u32, tables: &mut [u32], rowsets: &mut [u32]) {
-    let manager = bench.manager;
-    let answer = manager.show_pairs(bench.book, epoch, tables, rowsets);
-    let n = shown(b"show pairs:", answer);
-    say::pairs(tables, rowsets, n);
-}
-
-pub fn pairs(bench: Bench, f: [u64; 6]) {
-    let mut tables = [77u32; 256];
-    let mut rowsets = [88u32; 256];
-    let epoch = id(f[0]);
-    let a = part(f[1], 256);
-    let b = part(f[2], 256);
-    pairs_into(bench, epoch, &mut tables[..a], &mut rowsets[..b]);
-}
-
-fn vector_at(tables: &[u32], rowsets: &[u32], vectors: &[u64], i: usize) {
-    say::say(b" ");
-    say::number_at(tables, i);
-    say::say(b",");
-    say::number_at(rowsets, i);
-    say::say(b",");
-    say::long_at(vectors, i);
-}
-
-// The first vectors, and after a bar the one past them.
-fn vectors_of(tables: &[u32], rowsets: &[u32], vectors: &[u64], count: usize) {
-    say::say(b" out");
-    let mut i = 0;
-    while i < count {
-        vector_at(tables, rowsets, vectors, i);
-        i += 1;
-    }
-    say::say(b" |");
-    vector_at(tables, rowsets, vectors, count);
-    say::say(b"\n");
-}
-
-fn vectors_into(
-    bench: Bench,
-    epoch: u32,
-    tables: &mut [u32],
-    rowsets: &mut [u32],
+// `u` vacuum, `p`, `v` and `t` the pairs, vectors and tables of an epoch, `s` a selection of a table, with target 2 and sizes of 1.
+fn answered(
+    numbers: &[u64],
+    letter: u8,
+    first: u32,
+    a: &mut [u32],
+    b: &mut [u32],
+    c: &mut [u32],
     vectors: &mut [u64],
-) {
-    let manager = bench.manager;
-    let answer = manager.show_vectors(bench.book, epoch, tables, rowsets, vectors);
-    let n = shown(b"show vectors:", answer);
-    vectors_of(tables, rowsets, vectors, n);
-}
-
-pub fn vectors(bench: Bench, f: [u64; 6]) {
-    let mut tables = [77u32; 256];
-    let mut rowsets = [88u32; 256];
-    let mut vectors = [99u64; 256];
-    let epoch = id(f[0]);
-    let a = part(f[1], 256);
-    let b = part(f[2], 256);
-    let c = part(f[3], 256);
-    vectors_into(
-        bench,
-        epoch,
-        &mut tables[..a],
-        &mut rowsets[..b],
-        &mut vectors[..c],
-    );
-}
-
-// A byte of the names: `0` where it fills a name up.
-fn name_byte(names: &[u8], i: usize) {
-    if i < names.len() {
-        if names[i] == 0 {
-            say::say(b"0");
-            return;
-        }
-    }
-    say::byte_at(names, i);
-}
-
-// The 32 bytes of a name; there are at most 16 names.
-fn name_at(names: &[u8], i: usize) {
-    if 16 < i {
-        return;
-    }
-    let from = 32 * i;
-    let mut j: usize = 0;
-    while j < 32 {
-        name_byte(names, from + j);
-        j += 1;
-    }
-}
-
-fn table_at(ids: &[u32], shapes: &[u32], lengths: &[u32], names: &[u8], i: usize) {
-    say::say(b" ");
-    say::number_at(ids, i);
-    say::say(b",");
-    say::number_at(shapes, i);
-    say::say(b",");
-    say::number_at(lengths, i);
-    say::say(b",");
-    name_at(names, i);
-}
-
-// The first tables, and after a bar the one past them.
-fn tables_of(ids: &[u32], shapes: &[u32], lengths: &[u32], names: &[u8], count: usize) {
-    say::say(b" out");
-    let mut i = 0;
-    while i < count {
-        table_at(ids, shapes, lengths, names, i);
-        i += 1;
-    }
-    say::say(b" |");
-    table_at(ids, shapes, lengths, names, count);
-    say::say(b"\n");
-}
-
-fn tables_into(
-    bench: Bench,
-    epoch: u32,
-    ids: &mut [u32],
-    shapes: &mut [u32],
-    lengths: &mut [u32],
     names: &mut [u8],
 ) {
-    let manager = bench.manager;
-    let answer = manager.show_tables(bench.book, epoch, ids, shapes, lengths, names);
-    let n = shown(b"show tables:", answer);
-    tables_of(ids, shapes, lengths, names, n);
+    let manager = made::manager(numbers);
+    let book = made::book(numbers);
+    match letter {
+        b'u' => vacuum(numbers, a, b),
+        b'p' => shown(manager.show_pairs(book, first, a, b)),
+        b'v' => shown(manager.show_vectors(book, first, a, b, vectors)),
+        b't' => shown(manager.show_tables(book, first, a, b, c, names)),
+        _ => select(numbers, first, vectors, a),
+    }
 }
 
-pub fn tables(bench: Bench, f: [u64; 6]) {
-    let mut ids = [66u32; 16];
-    let mut shapes = [77u32; 16];
-    let mut lengths = [88u32; 16];
-    let mut names = [b'.'; 512];
-    let epoch = id(f[0]);
-    let a = part(f[1], 16);
-    let b = part(f[2], 16);
-    let c = part(f[3], 16);
-    let d = part(f[4], 512);
-    tables_into(
-        bench,
-        epoch,
-        &mut ids[..a],
-        &mut shapes[..b],
-        &mut lengths[..c],
-        &mut names[..d],
+fn into(
+    numbers: &[u64],
+    letter: u8,
+    first: u32,
+    a: &mut [u32],
+    b: &mut [u32],
+    c: &mut [u32],
+    vectors: &mut [u64],
+    names: &mut [u8],
+) {
+    answered(numbers, letter, first, a, b, c, vectors, names);
+    say::numbers32(a);
+    say::numbers32(b);
+    say::numbers32(c);
+    say::numbers64(vectors);
+    say::bytes(names);
+}
+
+// Epoch or table, and the lengths of what is lent: three of 32 bits, then 64 bits, then bytes.
+pub fn call(numbers: &[u64], letter: u8, f: [u64; 6]) {
+    let mut a = [66u32; 8];
+    let mut b = [77u32; 8];
+    let mut c = [88u32; 8];
+    let mut vectors = [1u64; 8];
+    let mut names = [b'.'; 80];
+    let i = script::least(script::long(f[1]), 8);
+    let j = script::least(script::long(f[2]), 8);
+    let k = script::least(script::long(f[3]), 8);
+    let l = script::least(script::long(f[4]), 8);
+    let n = script::least(script::long(f[5]), 80);
+    into(
+        numbers,
+        letter,
+        script::narrow(f[0]),
+        &mut a[..i],
+        &mut b[..j],
+        &mut c[..k],
+        &mut vectors[..l],
+        &mut names[..n],
     );
 }
