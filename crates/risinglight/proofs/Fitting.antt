@@ -59,9 +59,10 @@ new-id n l b =
 
 tables-find : (d : Edit Table) (s : State) → Below (s .nextTable) (s .tables) → TableFits d s → TableFinds d (map plainTable (s .tables))
 tables-find leaves s b f = tt
-tables-find (adds t) s b f =
-    (subst (λ (n : ℕ). has byId (n ∷ []) (map plainTable (s .tables)) ≡ false) (sym (f .0)) (new-id (s .nextTable) (s .tables) b),
-    anyOf-map plainTable (λ (x : Table). same (x .name) (t .name)) (s .tables) ∙ f .1)
+tables-find (adds t) s b f = (
+  subst (λ (n : ℕ). has byId (n ∷ []) (map plainTable (s .tables)) ≡ false) (sym (f .0)) (new-id (s .nextTable) (s .tables) b),
+  anyOf-map plainTable (λ (x : Table). same (x .name) (t .name)) (s .tables) ∙ f .1,
+)
 tables-find (deletes k) s b f = anyOf-map plainTable (isAt byId k) (s .tables) ∙ f
 
 entries-find : (e : ℕ) (d : Edit (List ℕ)) (l : List Entry) → EntryFits e d l → Finds d (map (λ (x : Entry). x .ids) (keep (shownBy e) l))

@@ -10,6 +10,10 @@ pub mod Starts
 pub mod Pools
 pub mod Relation
 pub mod Held
+pub mod Accepted
+pub mod Step
+pub mod Matches
+pub mod Refused
 pub mod Theorem
 pub mod DeleteVectorLoops
 pub mod DeleteVectorBytes

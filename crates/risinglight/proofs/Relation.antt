@@ -348,16 +348,16 @@ module _ (g : Engine) (r : Record) (k : Rel g r) where
       let s = a .result in
       let v = committed version.fresh (a .changing) in
       let b : Beside (storage (s .catalog) v (s .next) (s .manifest)) (kept (r .torn)) =
-          record {
-            epoch = refl;
-            now = a .shows;
-            status = one (a .changing) (a .shows);
-            counts = λ d. refl;
-            waiting = ap (λ l. arranged itself (map (λ y. 1 ∷ y) l ++ [])) (a .deletions);
-            upTo = (omega arith, tt);
-            catalog = a .catalog;
-            file = a .filed;
-          } in
+      record {
+        epoch = refl;
+        now = a .shows;
+        status = one (a .changing) (a .shows);
+        counts = λ d. refl;
+        waiting = ap (λ l. arranged itself (map (λ y. 1 ∷ y) l ++ [])) (a .deletions);
+        upTo = (omega arith, tt);
+        catalog = a .catalog;
+        file = a .filed;
+      } in
       let c : Beside s (kept (r .torn)) = subst (λ (y : Inner). Beside (storage (s .catalog) y (s .next) (s .manifest)) (kept (r .torn))) (sym (a .version)) b in
       record {
         started = a;

@@ -266,13 +266,13 @@ module _ (f : List Value) (x : Sets) (b : Boots (replay f) x) (w : Whole x) wher
   starts =
       let c = changed written (changing default [] [] []) none (record { pairs = λ t r. refl; vectors = λ t r v. refl }) (finds-all written none (deletionless rows dvs ops)) in
       let boots : Boots written x =
-          record {
-            catalog = b .catalog;
-            runs = tables-of rows dvs ops ∙ b .runs;
-            tables = b .tables;
-            rowsets = λ k. b .rowsets k ∙ sym (rowsets-of rows dvs ops k);
-            dvs = λ k. b .dvs k ∙ sym (dvs-of rows dvs ops k);
-          } in
+      record {
+        catalog = b .catalog;
+        runs = tables-of rows dvs ops ∙ b .runs;
+        tables = b .tables;
+        rowsets = λ k. b .rowsets k ∙ sym (rowsets-of rows dvs ops k);
+        dvs = λ k. b .dvs k ∙ sym (dvs-of rows dvs ops k);
+      } in
       record {
         result = storage (b .catalog) (committed fresh (c .left)) (raised ops (nextId 0 0)) (frame written);
         runs = rw (b .runs, rows-have, dvs-have, c .runs);

@@ -1,30 +1,30 @@
 -- Where the Rust and the port differ, each by name, with the smallest case of it. docs/DIFFERENCES.md has the entries. Assumes nothing.
 use mathlib.Core.Path.{_≡_}
-use mathlib.Core.Bool.{Bool, true, false, not, _&&_, _||_}
+use mathlib.Core.Bool.{Bool, true, false, not, _||_}
 use mathlib.Core.List.{List, [], _∷_, _++_, map}
 use Prim.Native.Nat.{ℕ, zero, suc, _+_, _<_}
 use lib.Dec.{eqb, ltb}
 use lib.ListN.{length}
 use Rattle.lists.specs.Keyed.{anyOf, has, sorted}
-use Rattle.ids.specs.Limits.{mostTables, mostOperations, longestManifest}
+use Rattle.ids.specs.Limits.{mostOperations, longestManifest}
 use Rattle.ids.specs.Results.{Result, refused, given, andThen}
 use Rattle.ids.specs.declared.refusal.Refusal.the-variants.{ManifestTooLong, Malformed, TableConflict, OverLimit, RowsetWithoutTable, TooManyOperations, TableNotLive, PairNotShown, VectorNotShown, IdNotDrawn, StillHeld, LeftBehind}
 use Rattle.manifest.specs.Operations.{Operation, createTable, dropTable, addRowset, deleteRowset, addVector, deleteVector, nextIds, Line, begin, end, operation}
 use Rattle.manifest.specs.Lines.{lineText}
 use Rattle.manifest.specs.Split.{joined}
-use Rattle.manifest.specs.Edits.{Table, table}
+use Rattle.manifest.specs.Edits.{table}
 use Rattle.snapshot.specs.Entries.{Entry, byIds}
-use Rattle.version_state.specs.State.{State, start, withNext}
+use Rattle.version_state.specs.State.{State, start}
 use Rattle.commit.specs.Commit.{commitOf}
 use Rattle.vacuum.specs.LetGo.{vacuumList, vacuumed}
-use Rattle.replay.specs.Replay.{Frame, opened, Carried, carried, lineRead, replayOf}
+use Rattle.replay.specs.Replay.{opened, carried, lineRead, replayOf}
 use Rattle.rewrite.specs.Rewritten.{rewrittenOf}
 use Rattle.plain_record.specs.Sets.{byId, itself}
-use Rattle.risinglight.specs.Maps.{Outcome, fails, ok, andThen as then, isEmpty, binding, Option, some, get}
-use Rattle.risinglight.specs.Snapshot.{Snapshot, snapshot, hasRowset, hasDv}
+use Rattle.risinglight.specs.Maps.{Outcome, fails, ok, andThen as then, isEmpty, binding}
+use Rattle.risinglight.specs.Snapshot.{snapshot, hasDv}
 use Rattle.risinglight.specs.Manifest.{Value, Begin, End, entry, frame, Replaying, replaying, next, replay, read}
 use Rattle.risinglight.specs.VersionManager.{Inner, inner, fresh, latest, commit-changes, pin, find-vacuum}
-use Rattle.risinglight.specs.Storage.{Rowset, pairOf, rowsets-to-open, Dv, tripleOf, dvs-to-open, NextId, nextId, Storage, bootstrap}
+use Rattle.risinglight.specs.Storage.{pairOf, rowsets-to-open, Dv, dvs-to-open, Storage, bootstrap}
 
 -- Manifests that others wrote: the port reads the same values as lines.
 abbrev pub lineIn : Value → Line
