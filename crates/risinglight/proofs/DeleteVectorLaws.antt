@@ -6,13 +6,17 @@ use Prim.Native.Nat.{ℕ, _+_, _<_}
 use native.Mathlib.Omega.{arith}
 use lib.Dec.{ltb}
 use lib.ListN.{length}
-use borrow.Author.Tests.{ltb-true}
+use borrow.Author.Tests.{ltb-true, lt-ltb}
 use Rattle.lists.proofs.Keyed.{All, all-map, allOf-all, all-allOf}
+use Rattle.ids.specs.declared.refusal.Refusal.the-variants.{WrongCount}
+use Rattle.ids.specs.declared.refusal.Verdict.the-variants.{Refused}
+use Rattle.ids.specs.Verdicts.{judged}
 use Rattle.delete_vector.specs.Encoding.{varintBy, varint, uintField, delimited}
 use Rattle.delete_vector.specs.Records.{rowLimit, recordOf, recordsOf, isRecord, sizeIn, Records, Rows, Bad, recordsBy, recordsAt, recordsIn, isBad}
 use Rattle.delete_vector.specs.Memory.{isIn, inMemory}
 use Rattle.delete_vector.specs.Mask.{masked}
 use Rattle.delete_vector.specs.Laws.{areRows}
+use Rattle.delete_vector.specs.Says.{mostRecords, readRules}
 use Rattle.delete_vector.proofs.InMemory.{memory-all}
 use Rattle.delete_vector.proofs.Together.{laws-hold}
 use Rattle.risinglight.specs.Maps.{Outcome, fails, ok, andThen}
@@ -82,6 +86,10 @@ examples = record {
   field-zero = record { fails-too = refl; refuses = refl };
 }
 
+over : (rows out : List ℕ) → areRows rows ≡ true → mostRecords < length rows
+    → (judged (readRules (recordsOf rows) out) ≡ Refused WrongCount) × («open» (recordsOf rows) ≡ ok (inMemory rows))
+over rows out h n = (rw (laws-hold .readsBack rows h, lt-ltb mostRecords (length rows) n), opened rows h)
+
 pub delete-vectors : DeleteVectorLaws
 delete-vectors = record {
   loops = loops;
@@ -89,6 +97,7 @@ delete-vectors = record {
   opens = opens;
   refuses = λ file f. refused file f (recordsIn file) refl;
   examples = examples;
+  over = over;
   never-written = never-written;
   differs = λ file deletes o n. differs file deletes o n (recordsIn file) refl;
   memory = new-memory;

@@ -2,14 +2,18 @@
 use mathlib.Core.Path.{_≡_}
 use mathlib.Core.Bool.{Bool, true, cond, not}
 use mathlib.Core.List.{List, [], _∷_, map}
-use Prim.Native.Nat.{ℕ}
+use Prim.Native.Nat.{ℕ, _<_}
 use lib.Dec.{ltb, eqb}
 use lib.ListN.{length}
 use Rattle.lists.specs.Keyed.{ascending}
+use Rattle.ids.specs.declared.refusal.Refusal.the-variants.{WrongCount}
+use Rattle.ids.specs.declared.refusal.Verdict.the-variants.{Refused}
+use Rattle.ids.specs.Verdicts.{judged}
 use Rattle.delete_vector.specs.Records.{recordsOf, Rows, Bad, recordsIn, isBad}
 use Rattle.delete_vector.specs.Memory.{rowKey, isIn, inMemory}
 use Rattle.delete_vector.specs.Mask.{masked}
 use Rattle.delete_vector.specs.Laws.{areRows}
+use Rattle.delete_vector.specs.Says.{mostRecords, readRules}
 use Rattle.risinglight.specs.Maps.{fails, ok, andThen}
 use Rattle.risinglight.specs.DeleteVector.{wireOf, tagOf, decode-key, skip-group, skip-field, merge-next, merged, merge-loop, decode-length-delimited, decode-all, write-all, new, «open», apply-to}
 
@@ -72,13 +76,15 @@ pub record Loops : Type 0 where
 pub record DeleteVectorLaws : Type 0 where
   pub loops : Loops
   pub writes : (rows : List ℕ) → areRows rows ≡ true → write-all rows ≡ recordsOf rows
-  -- What the port's reader accepts the Rust opens, with the same rows in memory. That the port's call takes 4,096 records at most is a rule
-  -- of its own, beside the reader
+  -- what the port's reader accepts the Rust opens, with the same rows in memory
   pub opens : (file rows : List ℕ) → recordsIn file ≡ Rows rows → «open» file ≡ ok (inMemory rows)
   -- what the Rust does not open the port's reader refuses
   pub refuses : (file : List ℕ) → «open» file ≡ fails → isBad (recordsIn file) ≡ true
-  -- the converses fail
+  -- the converses fail: for bytes that the writer does not make
   pub examples : Examples
+  -- and for more than 4,096 records, which the port refuses whatever is lent
+  pub over : (rows out : List ℕ) → areRows rows ≡ true → mostRecords < length rows
+      → (judged (readRules (recordsOf rows) out) ≡ Refused WrongCount) × («open» (recordsOf rows) ≡ ok (inMemory rows))
   -- where the readers differ, the bytes are none that the writer makes
   pub never-written : (file rows : List ℕ) → ReaderDiffers file → areRows rows ≡ true → file ≡ recordsOf rows → ⊥
   -- and of those that it does not make, they differ on all that the Rust opens
