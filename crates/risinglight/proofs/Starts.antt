@@ -77,20 +77,14 @@ of-table (nextIds t r v) e = clash e refl
 all-of-table : (ops : List Operation) → All OfTable (table-changeset ops)
 all-of-table ops = all-map (table-changeset ops) of-table (kept-all isOfTable ops)
 
+then-alike : {A B : Type 0} (x : Outcome A) (f g : A → Outcome B) → ((y : A) → f y ≡ g y) → andThen x f ≡ andThen x g
+then-alike fails f g h = refl
+then-alike (ok y) f g h = h y
+
 changeset-tables : (ops : List Operation) (l : List Table) → apply-tables (table-changeset ops) l ≡ apply-tables ops l
 changeset-tables [] l = refl
-changeset-tables (createTable t h n ∷ ops) l = then-same (apply-table (createTable t h n) l) (changeset-tables ops)
-  where
-    then-same : (x : Outcome (List Table)) → ((m : List Table) → apply-tables (table-changeset ops) m ≡ apply-tables ops m)
-        → andThen x (apply-tables (table-changeset ops)) ≡ andThen x (apply-tables ops)
-    then-same fails ih = refl
-    then-same (ok m) ih = ih m
-changeset-tables (dropTable t ∷ ops) l = then-same (apply-table (dropTable t) l) (changeset-tables ops)
-  where
-    then-same : (x : Outcome (List Table)) → ((m : List Table) → apply-tables (table-changeset ops) m ≡ apply-tables ops m)
-        → andThen x (apply-tables (table-changeset ops)) ≡ andThen x (apply-tables ops)
-    then-same fails ih = refl
-    then-same (ok m) ih = ih m
+changeset-tables (createTable t h n ∷ ops) l = then-alike (apply-table (createTable t h n) l) (apply-tables (table-changeset ops)) (apply-tables ops) (changeset-tables ops)
+changeset-tables (dropTable t ∷ ops) l = then-alike (apply-table (dropTable t) l) (apply-tables (table-changeset ops)) (apply-tables ops) (changeset-tables ops)
 changeset-tables (addRowset t r ∷ ops) l = changeset-tables ops l
 changeset-tables (deleteRowset t r ∷ ops) l = changeset-tables ops l
 changeset-tables (addVector t r v ∷ ops) l = changeset-tables ops l
