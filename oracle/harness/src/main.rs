@@ -1,4 +1,4 @@
-//! Compares the port with the original on lists of calls (README.md).
+//! Compares the port with the original on lists of calls, and the definitions of the original with it (README.md).
 //!
 //!     harness compare N SEED    N random lists
 //!     harness list FILE         one list
@@ -11,10 +11,13 @@ use std::collections::BTreeMap;
 use std::env;
 use std::process::exit;
 
+use conformance::{Conformance, Looked, conformance, literal_list, own_list, with_looks};
 use list::{Entry, answered};
 use port::Port;
 
 mod beside;
+mod conformance;
+mod definitions;
 mod fixed;
 mod generate;
 mod judge;
@@ -41,6 +44,7 @@ struct Totals {
     words: BTreeMap<String, usize>,
     known: BTreeMap<String, usize>,
     unknown: usize,
+    definitions: Conformance,
 }
 
 impl Totals {
@@ -55,7 +59,7 @@ impl Totals {
         }
         for (program_name, ordered) in [("ORDERED", true), ("PLAIN", false)] {
             let given = original::given(entries, ordered);
-            let answers = original::answers(&program(program_name), &given.lines, &[]);
+            let answers = self.hold_definitions(name, program_name, &given.lines);
             let judged = judge::judge(entries, &given.places, &answers, ordered);
             self.compared += judged.compared;
             self.unknown += judged.unknown.len();
@@ -66,11 +70,31 @@ impl Totals {
                 print_difference(name, program_name, entries, &judged.unknown);
             }
         }
+        self.hold_definitions(name, "PLAIN", &literal_list(entries));
+        self.hold_definitions(name, "PLAIN", &own_list(entries));
+    }
+
+    /// The definitions beside the original on a list; the original's answers to its calls.
+    fn hold_definitions(&mut self, name: &str, program_name: &str, lines: &[String]) -> Vec<String> {
+        let looked = with_looks(lines);
+        let answers = original::answers(&program(program_name), &looked.lines, &["--each"]);
+        let found = conformance(&looked, &answers);
+        self.definitions.add(&found);
+        if !found.differing.is_empty() {
+            print_definitions(name, program_name, &looked, &answers, &found);
+        }
+        let calls = looked.lines.iter().zip(answers).filter(|(line, _)| answered(line));
+        calls.map(|(_, answer)| answer).collect()
+    }
+
+    fn differs(&self) -> bool {
+        self.unknown > 0 || !self.definitions.differing.is_empty()
     }
 
     fn print(&self) {
         println!("accepted: {}", counted(&self.words));
         println!("refused, by number: {}", counted(&self.refused));
+        self.definitions.print();
         println!(
             "{} lists, {} calls, {} refused, {} answers compared; explained: {}; unexplained: {}",
             self.lists,
@@ -96,6 +120,19 @@ fn print_difference(name: &str, program: &str, entries: &[Entry], unknown: &[(us
         match unknown.iter().find(|(at, _)| *at == place) {
             Some((_, original)) => println!("> {} -> {answer} | original: {original}", entry.line),
             None => println!("  {} -> {answer}", entry.line),
+        }
+    }
+}
+
+/// A list with the original's answers; those that the definitions do not give are marked.
+fn print_definitions(name: &str, program: &str, looked: &Looked, answers: &[String], found: &Conformance) {
+    println!("--- list {name}, {program}: in the lines marked with > the definitions say something else");
+    for (place, line) in looked.lines.iter().enumerate() {
+        let answer = answers.get(place).map_or("", String::as_str);
+        match found.differing.iter().find(|(at, _)| *at == place) {
+            Some((_, expected)) => println!("> {line} -> {answer} | definitions: {expected}"),
+            None if looked.added[place] => {}
+            None => println!("  {line} -> {answer}"),
         }
     }
 }
@@ -152,9 +189,9 @@ fn main() {
             return;
         }
         ["fixed", file] => return fixed::print(&list_of(&text_of(file))),
-        ["beside", file, name] => return beside::print(file, name),
+        ["beside", file, name] => exit(if beside::print(file, name) { 0 } else { 1 }),
         _ => usage(),
     }
     totals.print();
-    exit(if totals.unknown == 0 { 0 } else { 1 });
+    exit(if totals.differs() { 1 } else { 0 });
 }

@@ -35,8 +35,9 @@ fn rows_by_id(group: &Entry) -> Vec<String> {
     items(answer).iter().map(line).collect()
 }
 
-pub fn given(entries: &[Entry], ordered: bool) -> Given {
-    let mut given = Given { lines: vec![], places: vec![] };
+/// The places of the lines that the driver gets.
+pub fn taken(entries: &[Entry]) -> Vec<usize> {
+    let mut places = vec![];
     // Whether the file is other than what the last call left.
     let mut touched = false;
     for (place, entry) in entries.iter().enumerate() {
@@ -55,13 +56,22 @@ pub fn given(entries: &[Entry], ordered: bool) -> Given {
             _ => touched,
         };
         if taken {
-            given.lines.push(entry.line.clone());
-            if entry.answer.is_some() {
-                given.places.push(place);
-            }
-            if entry.word() == "group" && !ordered {
-                given.lines.extend(rows_by_id(entry));
-            }
+            places.push(place);
+        }
+    }
+    places
+}
+
+pub fn given(entries: &[Entry], ordered: bool) -> Given {
+    let mut given = Given { lines: vec![], places: vec![] };
+    for place in taken(entries) {
+        let entry = &entries[place];
+        given.lines.push(entry.line.clone());
+        if entry.answer.is_some() {
+            given.places.push(place);
+        }
+        if entry.word() == "group" && !ordered {
+            given.lines.extend(rows_by_id(entry));
         }
     }
     given

@@ -45,6 +45,12 @@ impl VersionManager {
         all
     }
 
+    /// What is in the pools: (table, rowset) of rowsets, (table, vector) of vectors.
+    pub fn pools(&self) -> (BTreeSet<(u32, u32)>, BTreeSet<(u32, u64)>) {
+        let inner = self.inner.lock();
+        (inner.rowsets.keys().copied().collect(), inner.dvs.keys().copied().collect())
+    }
+
     /// How many notices stand in the vacuum's channel; they are taken out.
     pub fn notices(&self) -> usize {
         let mut rx = self.rx.lock();

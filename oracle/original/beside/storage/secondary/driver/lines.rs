@@ -99,3 +99,13 @@ pub fn json_of(lines: &[String]) -> Vec<u8> {
 pub fn values_of(json: &[u8]) -> Vec<ManifestOperation> {
     Deserializer::from_slice(json).into_iter().map(Result::unwrap).collect()
 }
+
+/// How many bytes at a file's beginning are whole values.
+pub fn whole_length_of(json: &[u8]) -> usize {
+    let mut stream = Deserializer::from_slice(json).into_iter::<ManifestOperation>();
+    let mut length = 0;
+    while let Some(Ok(_)) = stream.next() {
+        length = stream.byte_offset();
+    }
+    length
+}

@@ -194,6 +194,27 @@ impl Driver {
         }
     }
 
+    /// All that the definitions of the original speak of, section by section.
+    fn held(&self) -> String {
+        let store = &self.store;
+        let version = &store.engine.version;
+        let (rowsets, dvs) = version.pools();
+        let (now, next, opened) = (store.now(), store.next_ids(), store.opened_with);
+        let sections = [
+            format!("epoch,{}", version.epoch()),
+            listed("tables", store.tables()),
+            listed("pairs", now.pairs().iter().map(|(t, r)| format!("{t}:{r}"))),
+            listed("vectors", now.vectors().iter().map(|(t, r, v)| format!("{t}:{r}:{v}"))),
+            listed("pins", version.pins().iter().map(|(e, n)| format!("{e}:{n}"))),
+            listed("waiting", version.waiting().iter().map(|(e, t, r)| format!("{e}:{t}:{r}"))),
+            listed("rowsets", rowsets.iter().map(|(t, r)| format!("{t}:{r}"))),
+            listed("dvs", dvs.iter().map(|(t, v)| format!("{t}:{v}"))),
+            format!("next,{},{},{}", next.table, next.rowset, next.vector),
+            format!("opened,{},{}", opened.rowset, opened.vector),
+        ];
+        sections.join(" ")
+    }
+
     async fn beside(&mut self, words: &Words<'_>) -> StorageResult<String> {
         Ok(match words.0[0] {
             "select" => {
@@ -254,6 +275,10 @@ impl Driver {
                 store.settle = false;
                 String::new()
             }
+            "own" => {
+                store.own_reading = true;
+                String::new()
+            }
             "transaction" => {
                 let table = store.table(&store.engine, words.number(2));
                 scratch::deleted(&table, &words.handles(3)).await?;
@@ -270,6 +295,11 @@ impl Driver {
             "pins" => listed("pins", version.pins().iter().map(|(e, n)| format!("{e}:{n}"))),
             "waiting" => listed("waiting", version.waiting().iter().map(|(e, t, r)| format!("{e}:{t}:{r}"))),
             "folders" => listed("folders", store.folders().iter().map(|(t, r)| format!("{t}:{r}"))),
+            "held" => self.held(),
+            "unpin" => {
+                store.unpin_all();
+                String::new()
+            }
             "open" => {
                 store.reopen().await?;
                 format!("epoch,{}", store.engine.version.epoch())

@@ -7,7 +7,7 @@ use std::sync::atomic::Ordering::SeqCst;
 use futures::FutureExt;
 use tokio::sync::OwnedMutexGuard;
 
-use super::lines::{Next, line_of, value_of, values_of};
+use super::lines::{Next, line_of, value_of, values_of, whole_length_of};
 use super::settled::{File, file_of_cut, file_of_text};
 use super::{SCHEMA, scratch, shape, table_ref};
 use crate::storage::secondary::*;
@@ -39,12 +39,16 @@ pub struct Store {
     read: Option<Read>,
     /// What the file's `N` line says.
     next: Next,
+    /// What the last opening made of the next ids, before they were raised.
+    pub opened_with: Next,
     /// How long the file was when it was made: what comes after it was appended.
     made: usize,
     /// The file as it stands, where the port and the original read it differently.
     literal: Option<File>,
     /// Whether known differences are settled.
     pub settle: bool,
+    /// Whether files and next ids are not, but for half a value at a file's end.
+    pub own_reading: bool,
     /// Known differences that the last call met.
     pub notes: Vec<String>,
 }
@@ -92,7 +96,7 @@ impl Store {
     pub async fn anew(&mut self) -> StorageResult<()> {
         self.pins.clear();
         let fresh = Self::fresh(self.dir.clone()).await?;
-        *self = Self { settle: self.settle, ..fresh };
+        *self = Self { settle: self.settle, own_reading: self.own_reading, ..fresh };
         Ok(())
     }
 
@@ -106,9 +110,11 @@ impl Store {
             append: None,
             read: None,
             next: Next::default(),
+            opened_with: Next::default(),
             made: 0,
             literal: None,
             settle: true,
+            own_reading: false,
             notes: vec![],
         }
     }
@@ -121,9 +127,11 @@ impl Store {
         std::fs::read(self.file()).unwrap()
     }
 
-    /// The file's values as the port's text.
+    /// The file's values as the port's text; a `?` stands for what is no whole value.
     pub fn lines(&self) -> String {
-        text_of(&self.bytes())
+        let bytes = self.bytes();
+        let whole = whole_length_of(&bytes);
+        text_of(&bytes[..whole]) + if whole < bytes.len() { "?" } else { "" }
     }
 
     /// The frames that were appended since the file was made.
@@ -353,6 +361,11 @@ impl Store {
         drop(first);
     }
 
+    /// Drops every version, in the manager that they were pinned in.
+    pub fn unpin_all(&mut self) {
+        self.pins.clear();
+    }
+
     pub fn lock(&mut self, table: u32) -> &'static str {
         match self.engine.txn_mgr.try_lock_for_compaction(table) {
             Some(guard) => {
@@ -380,9 +393,14 @@ impl Store {
     }
 
     fn set_file(&mut self, file: File) {
-        let bytes = if self.settle { &file.settled } else { &file.literal };
+        let bytes = match (self.settle, self.own_reading) {
+            (false, _) => &file.literal[..],
+            (true, false) => &file.settled[..],
+            (true, true) => &file.literal[..whole_length_of(&file.literal)],
+        };
         std::fs::write(self.file(), bytes).unwrap();
-        self.literal = (self.settle && !file.reasons.is_empty()).then_some(file);
+        let settled = self.settle && !self.own_reading;
+        self.literal = (settled && !file.reasons.is_empty()).then_some(file);
     }
 
     pub fn cut(&mut self, landed: usize) {
@@ -433,6 +451,7 @@ impl Store {
         self.engine = Arc::new(SecondaryStorage::open(options(&self.dir)).await?);
         self.compare_literal().await;
         self.compare_folders();
+        self.opened_with = self.next_ids();
         self.carry_next_ids();
         self.next = self.next_ids();
         self.made = self.bytes().len();
@@ -442,7 +461,8 @@ impl Store {
     }
 
     fn carry_next_ids(&mut self) {
-        if self.settle && self.next_ids().raised(self.next) != self.next_ids() {
+        let settled = self.settle && !self.own_reading;
+        if settled && self.next_ids().raised(self.next) != self.next_ids() {
             self.note("next-ids");
             self.next_table().fetch_max(self.next.table, SeqCst);
             self.engine.next_id.0.fetch_max(self.next.rowset, SeqCst);
