@@ -11,12 +11,12 @@ use Rattle.lists.specs.Keyed.{anyOf, isAt, has, placed, without, arranged}
 use Rattle.lists.proofs.Keyed.{anyOf-placed, put-new, has-put}
 use Rattle.lists.proofs.Views.{map-take}
 use Rattle.manifest.specs.Operations.{Operation, createTable, dropTable, addRowset, deleteRowset, addVector, deleteVector, nextIds}
-use Rattle.manifest.specs.Edits.{leaves, Table, table, editsOf}
+use Rattle.manifest.specs.Edits.{Edit, leaves, adds, deletes, Table, table, editsOf}
 use Rattle.plain_record.specs.Sets.{Sets, byId, itself, edit, apply, applyAll}
 use Rattle.plain_record.proofs.Vacuum.{keep-arranged}
 use Rattle.risinglight.specs.Maps.{Outcome, fails, ok, andThen}
 use Rattle.risinglight.specs.Manifest.{Value, End, entry, frame, Replaying, replaying, next, replayFrom, replay}
-use Rattle.risinglight.specs.Storage.{apply-table, apply-tables, Rowset, pairOf, openRowset, rowsets-to-open, Dv, tripleOf, openDv, dvs-to-open}
+use Rattle.risinglight.specs.Storage.{apply-table, apply-tables, through, Rowset, rowset, pairOf, openRowset, rowsets-to-open, Dv, dv, tripleOf, openDv, dvs-to-open}
 use Rattle.risinglight.proofs.Maps.{has-without, instead}
 use Rattle.risinglight.proofs.Fitting.{TableFinds, TablesFind}
 
@@ -75,47 +75,54 @@ tables-append (o ∷ os) ps l = go (apply-table o l) (λ m. tables-append os ps 
 
 -- Rowsets and vectors: what is there, by its ids.
 
-pub rowsets-append : (os ps : List Operation) (l : List Rowset) → rowsets-to-open (os ++ ps) l ≡ rowsets-to-open ps (rowsets-to-open os l)
-rowsets-append [] ps l = refl
-rowsets-append (o ∷ os) ps l = rowsets-append os ps (openRowset o l)
-
-pub dvs-append : (os ps : List Operation) (l : List Dv) → dvs-to-open (os ++ ps) l ≡ dvs-to-open ps (dvs-to-open os l)
-dvs-append [] ps l = refl
-dvs-append (o ∷ os) ps l = dvs-append os ps (openDv o l)
+pub through-append : {A : Type 0} (f : Operation → A → A) (os ps : List Operation) (x : A) → through f (os ++ ps) x ≡ through f ps (through f os x)
+through-append f [] ps x = refl
+through-append f (o ∷ os) ps x = through-append f os ps (f o x)
 
 -- the same ids on both sides
 abbrev pub Alike : {A : Type 0} → (A → List ℕ) → List (List ℕ) → List A → Type 0
 Alike key x l = (k : List ℕ) → has itself k x ≡ has key k l
 
-rowset-alike : (o : Operation) (x : List (List ℕ)) (l : List Rowset) → Alike pairOf x l → Alike pairOf (edit itself (editsOf o .pairs) x) (openRowset o l)
-rowset-alike (createTable t h n) x l e = e
-rowset-alike (dropTable t) x l e = e
-rowset-alike (addRowset t r) x l e =
-    λ k. has-put itself k (t ∷ r ∷ []) x ∙ ap (λ b. same (t ∷ r ∷ []) k || b) (e k) ∙ sym (instead pairOf k (record { table = t; rowset = r }) l)
-rowset-alike (deleteRowset t r) x l e =
-    λ k. has-without itself k (t ∷ r ∷ []) x ∙ ap (λ b. not (same (t ∷ r ∷ []) k) && b) (e k) ∙ sym (has-without pairOf k (t ∷ r ∷ []) l)
-rowset-alike (addVector t r v) x l e = e
-rowset-alike (deleteVector t r v) x l e = e
-rowset-alike (nextIds t r v) x l e = e
+-- what an edit makes of a list of what is to be opened
+abbrev Opens : {A : Type 0} → (A → List ℕ) → Edit (List ℕ) → List A → List A → Type 0
+Opens key leaves l m = m ≡ l
+Opens {A = A} key (adds k) l m = (x : A) × (key x ≡ k) × (m ≡ x ∷ without key (key x) l)
+Opens key (deletes k) l m = m ≡ without key k l
 
-dv-alike : (o : Operation) (x : List (List ℕ)) (l : List Dv) → Alike tripleOf x l → Alike tripleOf (edit itself (editsOf o .vectors) x) (openDv o l)
-dv-alike (createTable t h n) x l e = e
-dv-alike (dropTable t) x l e = e
-dv-alike (addRowset t r) x l e = e
-dv-alike (deleteRowset t r) x l e = e
-dv-alike (addVector t r v) x l e =
-    λ k. has-put itself k (t ∷ r ∷ v ∷ []) x ∙ ap (λ b. same (t ∷ r ∷ v ∷ []) k || b) (e k) ∙ sym (instead tripleOf k (record { table = t; rowset = r; dv = v }) l)
-dv-alike (deleteVector t r v) x l e =
-    λ k. has-without itself k (t ∷ r ∷ v ∷ []) x ∙ ap (λ b. not (same (t ∷ r ∷ v ∷ []) k) && b) (e k) ∙ sym (has-without tripleOf k (t ∷ r ∷ v ∷ []) l)
-dv-alike (nextIds t r v) x l e = e
+edit-alike : {A : Type 0} (key : A → List ℕ) (d : Edit (List ℕ)) (x : List (List ℕ)) (l m : List A) → Opens key d l m → Alike key x l → Alike key (edit itself d x) m
+edit-alike key leaves x l m o e = λ k. e k ∙ sym (ap (has key k) o)
+edit-alike key (adds j) x l m o e =
+    λ k. has-put itself k j x
+    ∙ ap (λ b. same j k || b) (e k)
+    ∙ sym (ap (has key k) (o .2) ∙ instead key k (o .0) l ∙ ap (λ i. same i k || has key k l) (o .1))
+edit-alike key (deletes j) x l m o e =
+    λ k. has-without itself k j x ∙ ap (λ b. not (same j k) && b) (e k) ∙ sym (ap (has key k) o ∙ has-without key k j l)
+
+rowset-opens : (o : Operation) (l : List Rowset) → Opens pairOf (editsOf o .pairs) l (openRowset o l)
+rowset-opens (createTable t h n) l = refl
+rowset-opens (dropTable t) l = refl
+rowset-opens (addRowset t r) l = (rowset t r, refl, refl)
+rowset-opens (deleteRowset t r) l = refl
+rowset-opens (addVector t r v) l = refl
+rowset-opens (deleteVector t r v) l = refl
+rowset-opens (nextIds t r v) l = refl
+
+dv-opens : (o : Operation) (l : List Dv) → Opens tripleOf (editsOf o .vectors) l (openDv o l)
+dv-opens (createTable t h n) l = refl
+dv-opens (dropTable t) l = refl
+dv-opens (addRowset t r) l = refl
+dv-opens (deleteRowset t r) l = refl
+dv-opens (addVector t r v) l = (dv t r v, refl, refl)
+dv-opens (deleteVector t r v) l = refl
+dv-opens (nextIds t r v) l = refl
 
 pub rowsets-alike : (os : List Operation) (x : Sets) (l : List Rowset) → Alike pairOf (x .pairs) l → Alike pairOf (applyAll os x .pairs) (rowsets-to-open os l)
 rowsets-alike [] x l e = e
-rowsets-alike (o ∷ os) x l e = rowsets-alike os (apply o x) (openRowset o l) (rowset-alike o (x .pairs) l e)
+rowsets-alike (o ∷ os) x l e = rowsets-alike os (apply o x) (openRowset o l) (edit-alike pairOf (editsOf o .pairs) (x .pairs) l (openRowset o l) (rowset-opens o l) e)
 
 pub dvs-alike : (os : List Operation) (x : Sets) (l : List Dv) → Alike tripleOf (x .vectors) l → Alike tripleOf (applyAll os x .vectors) (dvs-to-open os l)
 dvs-alike [] x l e = e
-dvs-alike (o ∷ os) x l e = dvs-alike os (apply o x) (openDv o l) (dv-alike o (x .vectors) l e)
+dvs-alike (o ∷ os) x l e = dvs-alike os (apply o x) (openDv o l) (edit-alike tripleOf (editsOf o .vectors) (x .vectors) l (openDv o l) (dv-opens o l) e)
 
 -- What a start makes of operations.
 pub record Boots (ops : List Operation) (x : Sets) : Type 0 where
@@ -132,8 +139,8 @@ boots-more ops os x f b =
       catalog = c .left;
       runs = tables-append ops os [] ∙ ap (λ o. andThen o (apply-tables os)) (b .runs) ∙ c .runs;
       tables = c .same;
-      rowsets = subst (Alike pairOf (applyAll os x .pairs)) (sym (rowsets-append ops os [])) (rowsets-alike os x (rowsets-to-open ops []) (b .rowsets));
-      dvs = subst (Alike tripleOf (applyAll os x .vectors)) (sym (dvs-append ops os [])) (dvs-alike os x (dvs-to-open ops []) (b .dvs));
+      rowsets = subst (Alike pairOf (applyAll os x .pairs)) (sym (through-append openRowset ops os [])) (rowsets-alike os x (rowsets-to-open ops []) (b .rowsets));
+      dvs = subst (Alike tripleOf (applyAll os x .vectors)) (sym (through-append openDv ops os [])) (dvs-alike os x (dvs-to-open ops []) (b .dvs));
     }
 
 -- Replay.

@@ -4,7 +4,7 @@ use mathlib.Core.Bool.{Bool, true, false, not, _&&_, _||_}
 use mathlib.Core.List.{List, [], _∷_, _++_, map}
 use Prim.Native.Nat.{ℕ}
 use Rattle.lists.specs.Order.{same}
-use Rattle.lists.specs.Keyed.{allOf, isAt, has, arranged}
+use Rattle.lists.specs.Keyed.{allOf, isAt, has, without, arranged}
 use lib.Dec.{eqb}
 use Rattle.lists.proofs.Tests.{by-cases, clash, both, join}
 use Rattle.lists.proofs.Order.{same-refl}
@@ -16,11 +16,11 @@ use Rattle.risinglight.specs.Maps.{Outcome, fails, ok, andThen}
 use Rattle.risinglight.specs.Manifest.{Value, frame, Replaying, replay}
 use Rattle.risinglight.specs.Snapshot.{default}
 use Rattle.risinglight.specs.VersionManager.{fresh, Changing, changing, committed}
-use Rattle.risinglight.specs.Storage.{apply-table, apply-tables, Rowset, pairOf, openRowset, rowsets-to-open, Dv, tripleOf, openDv, dvs-to-open, isOfTable, table-changeset, changeset, nextId, raised, Storage, storage, bootstrap}
+use Rattle.risinglight.specs.Storage.{apply-table, apply-tables, Rowset, pairOf, openRowset, rowsets-to-open, Dv, tripleOf, openDv, dvs-to-open, through, isOfTable, table-changeset, changeset, nextId, raised, Storage, storage, bootstrap}
 use Rattle.risinglight.proofs.Fitting.{Finds, FindsAll}
 use Rattle.risinglight.proofs.Changes.{Shows, deletedBy, deletedAll, addsAny, ofPairs, ofVectors, changed}
 use Rattle.risinglight.proofs.Maps.{instead, shuffle, or-none}
-use Rattle.risinglight.proofs.Files.{any-arranged, tables-append, rowsets-append, dvs-append, frame-replayed, Boots, Filed, rowsets-alike, dvs-alike}
+use Rattle.risinglight.proofs.Files.{any-arranged, tables-append, through-append, frame-replayed, Boots, Filed, rowsets-alike, dvs-alike}
 
 -- the operations that open rowsets, and those that open vectors
 abbrev opens : Rowset → Operation
@@ -96,27 +96,19 @@ tables-stay : (os : List Operation) (l : List Table) → All (λ o. apply-table 
 tables-stay [] l h = refl
 tables-stay (o ∷ os) l h = ap (λ x. andThen x (apply-tables os)) (h .0) ∙ tables-stay os l (h .1)
 
-rowsets-stay : (os : List Operation) (l : List Rowset) → All (λ o. (m : List Rowset) → openRowset o m ≡ m) os → rowsets-to-open os l ≡ l
-rowsets-stay [] l h = refl
-rowsets-stay (o ∷ os) l h = ap (rowsets-to-open os) (h .0 l) ∙ rowsets-stay os l (h .1)
+through-stays : {A : Type 0} (f : Operation → A → A) (os : List Operation) (x : A) → All (λ o. (y : A) → f o y ≡ y) os → through f os x ≡ x
+through-stays f [] x h = refl
+through-stays f (o ∷ os) x h = ap (through f os) (h .0 x) ∙ through-stays f os x (h .1)
 
-dvs-stay : (os : List Operation) (l : List Dv) → All (λ o. (m : List Dv) → openDv o m ≡ m) os → dvs-to-open os l ≡ l
-dvs-stay [] l h = refl
-dvs-stay (o ∷ os) l h = ap (dvs-to-open os) (h .0 l) ∙ dvs-stay os l (h .1)
-
-rowsets-opened : (k : List ℕ) (rs l : List Rowset) → has pairOf k (rowsets-to-open (map opens rs) l) ≡ has pairOf k rs || has pairOf k l
-rowsets-opened k [] l = refl
-rowsets-opened k (x ∷ rs) l =
-    rowsets-opened k rs (openRowset (opens x) l)
-    ∙ ap (λ b. has pairOf k rs || b) (instead pairOf k x l)
-    ∙ shuffle (same (pairOf x) k) (has pairOf k rs) (has pairOf k l)
-
-dvs-opened : (k : List ℕ) (vs l : List Dv) → has tripleOf k (dvs-to-open (map opensDv vs) l) ≡ has tripleOf k vs || has tripleOf k l
-dvs-opened k [] l = refl
-dvs-opened k (x ∷ vs) l =
-    dvs-opened k vs (openDv (opensDv x) l)
-    ∙ ap (λ b. has tripleOf k vs || b) (instead tripleOf k x l)
-    ∙ shuffle (same (tripleOf x) k) (has tripleOf k vs) (has tripleOf k l)
+-- operations that open each of a list
+through-opened : {A : Type 0} (key : A → List ℕ) (f : Operation → List A → List A) (to : A → Operation) → ((x : A) (l : List A) → f (to x) l ≡ x ∷ without key (key x) l)
+    → (k : List ℕ) (xs l : List A) → has key k (through f (map to xs) l) ≡ has key k xs || has key k l
+through-opened key f to h k [] l = refl
+through-opened key f to h k (x ∷ xs) l =
+    through-opened key f to h k xs (f (to x) l)
+    ∙ ap (λ (m : List _). has key k xs || has key k m) (h x l)
+    ∙ ap (λ b. has key k xs || b) (instead key k x l)
+    ∙ shuffle (same (key x) k) (has key k xs) (has key k l)
 
 -- What goes into the pools.
 adds-append : (f : Operation → List ℕ → Bool) (os ps : List Operation) (k : List ℕ) → addsAny f (os ++ ps) k ≡ addsAny f os k || addsAny f ps k
@@ -173,21 +165,21 @@ module _ (rs : List Rowset) (vs : List Dv) (ops : List Operation) where
   rowsets-of : (k : List ℕ) → has pairOf k (rowsets-to-open cs []) ≡ has pairOf k rs
   rowsets-of k =
       ap (has pairOf k)
-      (rowsets-append (map opens rs) (map opensDv vs ++ ts) []
-      ∙ rowsets-append (map opensDv vs) ts (rowsets-to-open (map opens rs) [])
-      ∙ ap (rowsets-to-open ts) (rowsets-stay (map opensDv vs) (rowsets-to-open (map opens rs) []) (all-mapped (λ o. (m : List Rowset) → openRowset o m ≡ m) opensDv vs (all-any vs (λ x m. refl))))
-      ∙ rowsets-stay ts (rowsets-to-open (map opens rs) []) (all-map ts (λ o h. h .rowsets) (all-of-table ops)))
-      ∙ rowsets-opened k rs []
+      (through-append openRowset (map opens rs) (map opensDv vs ++ ts) []
+      ∙ through-append openRowset (map opensDv vs) ts (rowsets-to-open (map opens rs) [])
+      ∙ ap (rowsets-to-open ts) (through-stays openRowset (map opensDv vs) (rowsets-to-open (map opens rs) []) (all-mapped (λ o. (m : List Rowset) → openRowset o m ≡ m) opensDv vs (all-any vs (λ x m. refl))))
+      ∙ through-stays openRowset ts (rowsets-to-open (map opens rs) []) (all-map ts (λ o h. h .rowsets) (all-of-table ops)))
+      ∙ through-opened pairOf openRowset opens (λ x l. refl) k rs []
       ∙ or-none (has pairOf k rs)
 
   dvs-of : (k : List ℕ) → has tripleOf k (dvs-to-open cs []) ≡ has tripleOf k vs
   dvs-of k =
       ap (has tripleOf k)
-      (dvs-append (map opens rs) (map opensDv vs ++ ts) []
-      ∙ ap (dvs-to-open (map opensDv vs ++ ts)) (dvs-stay (map opens rs) [] (all-mapped (λ o. (m : List Dv) → openDv o m ≡ m) opens rs (all-any rs (λ x m. refl))))
-      ∙ dvs-append (map opensDv vs) ts []
-      ∙ dvs-stay ts (dvs-to-open (map opensDv vs) []) (all-map ts (λ o h. h .dvs) (all-of-table ops)))
-      ∙ dvs-opened k vs []
+      (through-append openDv (map opens rs) (map opensDv vs ++ ts) []
+      ∙ ap (dvs-to-open (map opensDv vs ++ ts)) (through-stays openDv (map opens rs) [] (all-mapped (λ o. (m : List Dv) → openDv o m ≡ m) opens rs (all-any rs (λ x m. refl))))
+      ∙ through-append openDv (map opensDv vs) ts []
+      ∙ through-stays openDv ts (dvs-to-open (map opensDv vs) []) (all-map ts (λ o h. h .dvs) (all-of-table ops)))
+      ∙ through-opened tripleOf openDv opensDv (λ x l. refl) k vs []
       ∙ or-none (has tripleOf k vs)
 
   pools-rowsets : (k : List ℕ) → addsAny ofPairs cs k ≡ has pairOf k rs

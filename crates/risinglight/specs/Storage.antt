@@ -27,6 +27,9 @@ apply-tables [] l = ok l
 apply-tables (o ∷ os) l = andThen (apply-table o l) (apply-tables os)
 
 -- The loop of `bootstrap` over what `replay` gave, for each thing that it fills.
+abbrev pub through : {A : Type 0} → (Operation → A → A) → List Operation → A → A
+through f [] x = x
+through f (o ∷ os) x = through f os (f o x)
 
 pub record Rowset : Type 0 where
   pub table : ℕ
@@ -48,8 +51,7 @@ openRowset (deleteVector t r v) l = l
 openRowset (nextIds t r v) l = l
 
 abbrev pub rowsets-to-open : List Operation → List Rowset → List Rowset
-rowsets-to-open [] l = l
-rowsets-to-open (o ∷ os) l = rowsets-to-open os (openRowset o l)
+rowsets-to-open os l = through openRowset os l
 
 pub record Dv : Type 0 where
   pub table : ℕ
@@ -72,8 +74,7 @@ openDv (deleteVector t r v) l = without tripleOf (t ∷ r ∷ v ∷ []) l
 openDv (nextIds t r v) l = l
 
 abbrev pub dvs-to-open : List Operation → List Dv → List Dv
-dvs-to-open [] l = l
-dvs-to-open (o ∷ os) l = dvs-to-open os (openDv o l)
+dvs-to-open os l = through openDv os l
 
 -- every create and drop there ever was
 abbrev pub isOfTable : Operation → Bool
@@ -118,8 +119,7 @@ raise (deleteVector t r v) x = x
 raise (nextIds t r v) x = x
 
 abbrev pub raised : List Operation → NextId → NextId
-raised [] x = x
-raised (o ∷ os) x = raised os (raise o x)
+raised os x = through raise os x
 
 -- the catalog, the version manager, the next ids and the manifest
 pub record Storage : Type 0 where
