@@ -21,7 +21,7 @@ fn print_list(list: &str) -> Conformance {
     let lines: Vec<String> = ["#! literal"].into_iter().chain(list.lines()).map(String::from).collect();
     let looked = with_looks(&lines);
     let answers = original::answers(&program("PLAIN"), &looked.lines, &["--each"]);
-    let found = conformance(&looked, &answers);
+    let found = conformance(&looked, &answers, false);
     println!("{:<44} {:<34} original", "call", "port");
     let mut entries = list_of(list).into_iter();
     for (place, answer) in answers.iter().enumerate().skip(1) {

@@ -3,6 +3,7 @@
 //!     harness compare N SEED    N random lists
 //!     harness list FILE         one list
 //!     harness make SEED NUMBER  a random list, printed
+//!     harness records N SEED    N random vector files, and those made by hand
 //!     harness fixed FILE        the original's answers to a list, printed as the port prints them
 //!     harness beside FILE NAME  the lists under headings that begin with NAME, each with both answers
 //!
@@ -28,6 +29,7 @@ mod operations;
 mod original;
 mod port;
 mod random;
+mod records;
 
 const CALLS_A_LIST: usize = 300;
 
@@ -78,7 +80,7 @@ impl Totals {
     fn hold_definitions(&mut self, name: &str, program_name: &str, lines: &[String]) -> Vec<String> {
         let looked = with_looks(lines);
         let answers = original::answers(&program(program_name), &looked.lines, &["--each"]);
-        let found = conformance(&looked, &answers);
+        let found = conformance(&looked, &answers, program_name == "ORDERED");
         self.definitions.add(&found);
         if !found.differing.is_empty() {
             print_definitions(name, program_name, &looked, &answers, &found);
@@ -163,7 +165,9 @@ fn random_list(seed: u64, number: u64) -> Vec<Entry> {
 }
 
 fn usage() -> ! {
-    eprintln!("usage: harness compare N SEED | list FILE | make SEED NUMBER | fixed FILE | beside FILE NAME");
+    eprintln!(
+        "usage: harness compare|records N SEED | list FILE | make SEED NUMBER | fixed FILE | beside FILE NAME"
+    );
     exit(2)
 }
 
@@ -188,6 +192,7 @@ fn main() {
             }
             return;
         }
+        ["records", count, seed] => exit(if records::print(number(count), number(seed)) { 0 } else { 1 }),
         ["fixed", file] => return fixed::print(&list_of(&text_of(file))),
         ["beside", file, name] => exit(if beside::print(file, name) { 0 } else { 1 }),
         _ => usage(),

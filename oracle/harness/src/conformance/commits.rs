@@ -9,8 +9,8 @@ use crate::definitions::manifest::{Value, frame};
 use crate::definitions::maps::{Outcome, *};
 use crate::definitions::run::{self, Engine};
 use crate::definitions::snapshot::{default, has_rowset};
-use crate::definitions::storage::apply_table;
-use crate::definitions::version_manager::{changes, changing, commit_changes, latest, pooled};
+use crate::definitions::storage::{apply_table, wrapping32};
+use crate::definitions::version_manager::{change, changing, commit_changes, latest};
 
 impl Follower {
     pub fn epoch(&self) -> u64 {
@@ -48,7 +48,7 @@ impl Follower {
 
     /// `commit_changes` by itself, which leaves the catalog alone.
     fn commits_alone(&mut self, os: &[Operation]) -> Outcome<u64> {
-        let Engine { running, torn } = &mut self.engine;
+        let Engine { running, torn, .. } = &mut self.engine;
         let Ok(version) = commit_changes(os, running.version.clone()) else {
             self.left_by_a_failure(os);
             return Fails;
@@ -63,9 +63,12 @@ impl Follower {
     /// From the source: nothing is written, but what the operations before the failing one add is in the pools.
     fn left_by_a_failure(&mut self, os: &[Operation]) {
         let version = &mut self.engine.running.version;
-        let runs = |n: &usize| changes(&os[..*n], changing(latest(version), vec![])) != Fails;
-        let count = (0..os.len()).rev().find(runs).unwrap_or(0);
-        version.pools = os[..count].iter().fold(version.pools.clone(), |p, o| pooled(o, p));
+        let mut reached = changing(latest(version), version.rowsets.clone(), version.dvs.clone(), vec![]);
+        for o in os {
+            let Ok(next) = change(o, reached.clone()) else { break };
+            reached = next;
+        }
+        (version.rowsets, version.dvs) = (reached.rowsets, reached.dvs);
         self.append = Append::Unknown;
         self.read = None;
     }
@@ -143,13 +146,13 @@ impl Follower {
         let now = self.now();
         let live = self.engine.running.catalog.iter().any(|t| t.id == table);
         let selected: Vec<u64> = taken.iter().copied().filter(|r| has_rowset(table, *r, &now)).collect();
-        let mut next = new.map_or(0, |rowset| rowset as u32);
+        let mut next = new.unwrap_or(0);
         if live && selected.len() > 1 {
             self.commits_alone(&run::compact_operations(table, new, &selected, &default()));
-            next = next.wrapping_add(new.is_some() as u32);
+            next = wrapping32(next + u64::from(new.is_some()));
         }
-        let next_id = &mut self.engine.running.next_id;
-        next_id.rowset = next_id.rowset.max(next);
+        let ids = &mut self.engine.running.next;
+        ids.rowset = ids.rowset.max(next);
         self.append = Append::Unknown;
         self.read = None;
     }

@@ -1,5 +1,6 @@
 //! The mirror beside the driver, line by line. The definitions say what a call does and where it fails; what a failed
 //! call leaves done, and what orders for the driver do, is followed here.
+use super::beside;
 use super::read::File;
 use super::verdict::Verdict::{self, *};
 use super::verdict::{failed, said};
@@ -7,7 +8,7 @@ use super::versions::Version;
 use crate::definitions::manifest::{Operation, Value};
 use crate::definitions::maps::Ok;
 use crate::definitions::run::{self, Engine};
-use crate::definitions::storage::NextId;
+use crate::definitions::storage::{NextId, next_id};
 
 /// What was appended last, for `cut`.
 #[derive(Default)]
@@ -25,6 +26,10 @@ pub struct Follower {
     /// Whether `#! literal` was given, or `#! own`.
     pub literal: bool,
     pub own_reading: bool,
+    /// Whether the original's maps walk ascending.
+    pub ordered: bool,
+    /// Whether the next mask is that of a shown rowset.
+    pub scan: bool,
     /// The versions that the driver holds.
     pub versions: Vec<Version>,
     pub opening: usize,
@@ -53,6 +58,8 @@ impl Default for Follower {
             engine: run::started(),
             literal: false,
             own_reading: false,
+            ordered: false,
+            scan: false,
             versions: vec![],
             opening: 0,
             append: Append::Nothing,
@@ -61,7 +68,7 @@ impl Default for Follower {
             half: false,
             found: None,
             next_table: 0,
-            opened_with: NextId::default(),
+            opened_with: next_id(0, 0),
             raised: false,
             lost: false,
             disk_is_short: false,
@@ -83,6 +90,9 @@ impl Follower {
             "reopen" => self.reopen("reopened", answer),
             "fresh" => self.fresh(answer),
             _ if word.starts_with('#') => Unanswered,
+            "encode" => beside::encode(&words, answer),
+            "decode" => beside::decode(&words, answer),
+            "mask" => self.mask(&words, answer),
             _ if self.lost => NotSpokenOf,
             "commit" => self.commit(&words, answer),
             "create" => self.create(&words, answer),
@@ -92,7 +102,9 @@ impl Follower {
             "unpin" => self.unpin(&words, answer),
             "vacuum" => self.vacuum(answer),
             "draw" if words.len() > 1 => self.draw(words.get(1) == Some(&"rowset"), answer),
-            "group" => self.group(&words),
+            "lock" | "unlock" => self.rests(answer),
+            "select" => self.select(&words, answer),
+            "group" => self.group(&words, answer),
             "show" => self.show(&words, answer),
             "state" => self.state(answer),
             _ => NotSpokenOf,
@@ -103,7 +115,9 @@ impl Follower {
         match words.get(1).copied().unwrap_or("") {
             "literal" => self.literal = true,
             "own" => self.own_reading = true,
+            "scan" => self.scan = true,
             "lines" => return self.lines(answer),
+            "vector" => return beside::vector(words, answer),
             "held" | "pins" | "waiting" if self.lost => return NotSpokenOf,
             "held" => return self.held(answer),
             "pins" => return self.pins(answer),
@@ -128,8 +142,9 @@ impl Follower {
     fn fresh(&mut self, answer: &str) -> Verdict {
         let outlives = self.versions.iter().any(|version| version.opening != self.opening);
         let lost = self.disk_is_short || outlives && failed(answer);
-        let Self { literal, own_reading, disk_is_short, opening, .. } = *self;
-        *self = Self { literal, own_reading, disk_is_short, lost, opening: opening + 1, ..Self::default() };
+        let Self { literal, own_reading, ordered, disk_is_short, opening, .. } = *self;
+        let opening = opening + 1;
+        *self = Self { literal, own_reading, ordered, disk_is_short, lost, opening, ..Self::default() };
         if lost {
             return NotSpokenOf;
         }

@@ -18,7 +18,7 @@ impl Follower {
     pub fn held(&mut self, answer: &str) -> Verdict {
         self.take_raised(&numbers(section(answer, "next")));
         let of = |name: &str| section(answer, name);
-        let (pools, next) = (&self.engine.running.version.pools, self.engine.running.next_id);
+        let (version, next) = (&self.engine.running.version, self.engine.running.next);
         let opened = format!("opened,{},{}", self.opened_with.rowset, self.opened_with.dv);
         all([
             said(Ok(format!("epoch,{}", self.epoch())), of("epoch")),
@@ -27,8 +27,8 @@ impl Follower {
             shown_vectors(&self.now(), of("vectors")),
             self.pins(of("pins")),
             self.waiting(of("waiting")),
-            listed("rowsets", pools.rowsets.iter().map(|pair| item(pair)), of("rowsets")),
-            listed("dvs", pools.dvs.iter().map(|pair| item(pair)), of("dvs")),
+            listed("rowsets", version.rowsets.iter().map(|pair| item(pair)), of("rowsets")),
+            listed("dvs", version.dvs.iter().map(|pair| item(pair)), of("dvs")),
             said(Ok(format!("next,{},{},{}", self.next_table, next.rowset, next.dv)), of("next")),
             said(Ok(opened), of("opened")),
         ])
@@ -38,8 +38,8 @@ impl Follower {
     /// original has no place for them.
     fn take_raised(&mut self, next: &[u64]) {
         let (true, [table, rowset, vector]) = (self.raised, next) else { return };
-        let own = &mut self.engine.running.next_id;
-        own.rowset = own.rowset.max(*rowset as u32);
+        let own = &mut self.engine.running.next;
+        own.rowset = own.rowset.max(*rowset);
         own.dv = own.dv.max(*vector);
         self.next_table = self.next_table.max(*table as u32);
         self.raised = false;

@@ -1,5 +1,5 @@
 //! The lists for the driver.
-use super::read::{is_readable, operations_of};
+use super::read::{bits_of, bytes_of, handle_of, is_readable, narrow_numbers, operations_of};
 use crate::list::Entry;
 use crate::original;
 
@@ -23,7 +23,8 @@ fn changes(line: &str) -> bool {
     CHANGING.contains(&line.split(' ').next().unwrap()) || line == "#! open"
 }
 
-/// The file is looked at before each opening, all that is held after each change.
+/// The file is looked at before each opening, all that is held after each change, and what is in memory of a vector
+/// whose file was read.
 pub fn with_looks(lines: &[String]) -> Looked {
     let mut looked = Looked { lines: vec![], added: vec![] };
     for line in lines {
@@ -34,12 +35,15 @@ pub fn with_looks(lines: &[String]) -> Looked {
         if changes(line) {
             looked.push("#! held", true);
         }
+        if let Some(bytes) = line.strip_prefix("decode ") {
+            looked.push(&format!("#! vector {bytes}"), true);
+        }
     }
     looked
 }
 
-/// Whether the driver can carry the line out by itself, be it accepted by the port or refused. What stands beside the
-/// version manager is left out: no definition speaks of it.
+/// Whether the driver can carry the line out by itself, be it accepted by the port or refused. Locks are left out: no
+/// definition speaks of them. So is selection, which has a size for each rowset that the port shows.
 fn is_taken(entry: &Entry) -> bool {
     let words: Vec<&str> = entry.line.split(' ').collect();
     match words[..] {
@@ -50,6 +54,12 @@ fn is_taken(entry: &Entry) -> bool {
         ["drop", table] => table.parse::<u32>().is_ok(),
         ["unpin" | "cut", number] | ["show", _, number] => number.parse::<u64>().is_ok(),
         ["compact", ..] => entry.accepted(),
+        ["encode", ..] => narrow_numbers(&words[1..]).is_some(),
+        ["decode", bytes] => bytes_of(bytes).is_some(),
+        ["mask", offset, bits, ..] => {
+            offset.parse::<u32>().is_ok() && bits_of(bits).is_some() && narrow_numbers(&words[3..]).is_some()
+        }
+        ["group", ..] => words[1..].iter().all(|word| handle_of(word).is_some()),
         ["write", ..] => is_readable(entry.line.strip_prefix("write ").unwrap_or("")),
         _ => false,
     }

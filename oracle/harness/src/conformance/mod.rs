@@ -3,6 +3,7 @@
 use follower::Follower;
 use verdict::Verdict::*;
 
+mod beside;
 mod commits;
 mod follower;
 mod held;
@@ -45,10 +46,10 @@ impl Conformance {
     }
 }
 
-/// A list with the driver's answers, one for each line.
-pub fn conformance(looked: &Looked, answers: &[String]) -> Conformance {
+/// A list with the driver's answers, one for each line. Whether its maps walk ascending.
+pub fn conformance(looked: &Looked, answers: &[String], ordered: bool) -> Conformance {
     let mut found = Conformance::default();
-    let mut follower = Follower::default();
+    let mut follower = Follower { ordered, ..Follower::default() };
     for (place, (line, answer)) in looked.lines.iter().zip(answers).enumerate() {
         let verdict = follower.verdict(line, answer.split(';').next().unwrap());
         match verdict {

@@ -4,7 +4,7 @@ use super::read::{File, file_of, line_of, number};
 use super::verdict::Verdict::{self, *};
 use super::verdict::{failed, said};
 use crate::definitions::manifest::Operation::{self, *};
-use crate::definitions::manifest::{Value, frame, replay};
+use crate::definitions::manifest::{Value, frame, read, replay};
 use crate::definitions::maps::*;
 use crate::definitions::run;
 use crate::definitions::storage::Table;
@@ -114,7 +114,7 @@ impl Follower {
             return NotSpokenOf;
         }
         self.engine.torn = values.clone();
-        let outcome = if half { Fails } else { run::starts(false, self.engine.clone()) };
+        let outcome = and_then(read(values.clone(), half), |_| run::starts(false, self.engine.clone()));
         if self.file_is_missing && failed(answer) {
             return NotSpokenOf;
         }
@@ -127,7 +127,7 @@ impl Follower {
     }
 
     fn opened(&mut self, engine: run::Engine, read: Vec<Value>, ops: &[Operation]) {
-        self.opened_with = engine.running.next_id;
+        self.opened_with = engine.running.next;
         self.engine = engine;
         self.opening += 1;
         self.next_table = next_table_of(ops);

@@ -1,10 +1,46 @@
 //! Lines of lists and of manifests as operations and values. What the driver cannot read is None here.
 use crate::definitions::manifest::Operation::{self, *};
 use crate::definitions::manifest::Value;
+use crate::definitions::transaction::Handle;
 
 /// The number of a call's word, if it is one.
 pub fn number(words: &[&str], i: usize) -> Option<u64> {
     words.get(i)?.parse().ok()
+}
+
+pub fn numbers(words: &[&str]) -> Option<Vec<u64>> {
+    words.iter().map(|word| word.parse().ok()).collect()
+}
+
+/// Numbers of 32 bits.
+pub fn narrow_numbers(words: &[&str]) -> Option<Vec<u64>> {
+    (0..words.len()).map(|i| narrow(words, i)).collect()
+}
+
+/// A row handle, ROWSET:ROW.
+pub fn handle_of(word: &str) -> Option<Handle> {
+    let fields: Vec<&str> = word.split(':').collect();
+    match fields.len() {
+        2 => Some(Handle { rowset: narrow(&fields, 0)?, row: narrow(&fields, 1)? }),
+        _ => None,
+    }
+}
+
+/// Bytes in hexadecimal, `-` for none.
+pub fn bytes_of(word: &str) -> Option<Vec<u64>> {
+    let digits = if word == "-" { "" } else { word };
+    let byte = |i: usize| u8::from_str_radix(digits.get(i..i + 2)?, 16).ok().map(u64::from);
+    (0..digits.len()).step_by(2).map(byte).collect()
+}
+
+/// Bits, `-` for none.
+pub fn bits_of(word: &str) -> Option<Vec<bool>> {
+    let bit = |digit: char| match digit {
+        '0' => Some(false),
+        '1' => Some(true),
+        _ => None,
+    };
+    if word == "-" { Some(vec![]) } else { word.chars().map(bit).collect() }
 }
 
 fn narrow(fields: &[&str], i: usize) -> Option<u64> {

@@ -46,7 +46,7 @@ impl Follower {
     }
 
     pub fn state(&self, answer: &str) -> Verdict {
-        let next = self.engine.running.next_id;
+        let next = self.engine.running.next;
         said(Ok(format!("state,{},{},{},{}", self.epoch(), self.next_table, next.rowset, next.dv)), answer)
     }
 }

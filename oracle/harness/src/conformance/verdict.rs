@@ -27,6 +27,18 @@ pub fn said(expected: Outcome<String>, answer: &str) -> Verdict {
     }
 }
 
+/// The call has to answer one of these.
+pub fn said_by_one(expected: impl IntoIterator<Item = String>, answer: &str) -> Verdict {
+    let expected: Vec<String> = expected.into_iter().collect();
+    same_if(expected.iter().any(|expected| expected == answer), || expected.join(" or "))
+}
+
+/// A list in its order: `NAME,COUNT,ITEM,..`.
+pub fn in_order(name: &str, items: &[impl ToString]) -> String {
+    let items = items.iter().map(|item| item.to_string());
+    [name.to_string(), items.len().to_string()].into_iter().chain(items).collect::<Vec<_>>().join(",")
+}
+
 /// A list, in any order: `NAME,COUNT,ITEM,..`.
 pub fn listed(name: &str, items: impl IntoIterator<Item = String>, answer: &str) -> Verdict {
     let mut items: Vec<String> = items.into_iter().collect();

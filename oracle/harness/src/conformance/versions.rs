@@ -1,5 +1,4 @@
-//! Pins, the vacuum and draws.
-use std::collections::BTreeSet;
+//! Pins, the vacuum, draws and locks.
 use std::rc::Rc;
 
 use super::follower::Follower;
@@ -9,7 +8,6 @@ use super::verdict::{item, listed, said};
 use crate::definitions::maps::{Outcome, *};
 use crate::definitions::run;
 use crate::definitions::snapshot::Snapshot;
-use crate::definitions::storage::{generate_dv_id, generate_rowset_id};
 use crate::definitions::version_manager::with_counts;
 
 /// A pin: its epoch and snapshot, and the opening whose manager made it.
@@ -75,21 +73,20 @@ impl Follower {
     }
 
     pub fn draw(&mut self, rowset: bool, answer: &str) -> Verdict {
-        let next = self.engine.running.next_id;
-        let (drawn, next) = match rowset {
-            true => generate_rowset_id(next),
-            false => generate_dv_id(next),
+        let ids = self.engine.running.next;
+        let (drawn, left) = match rowset {
+            true => (ids.rowset, run::draw_rowset(ids)),
+            false => (ids.dv, run::draw_vector(ids)),
         };
-        self.engine = run::rests(next, self.engine.clone());
+        self.engine = run::draws(left, self.engine.clone());
         said(Ok(format!("drawn,{drawn}")), answer)
     }
 
-    /// A transaction draws a vector id for each rowset that it deletes rows of.
-    pub fn group(&mut self, words: &[&str]) -> Verdict {
-        let rowsets: BTreeSet<&str> =
-            words[1..].iter().map(|handle| handle.split(':').next().unwrap()).collect();
-        let next = rowsets.iter().fold(self.engine.running.next_id, |next, _| generate_dv_id(next).1);
-        self.engine = run::rests(next, self.engine.clone());
+    /// A lock that was got or given back. Whether it was is said by no definition.
+    pub fn rests(&mut self, answer: &str) -> Verdict {
+        if ["locked", "unlocked"].contains(&answer) {
+            self.engine = run::rests(self.engine.clone());
+        }
         NotSpokenOf
     }
 }

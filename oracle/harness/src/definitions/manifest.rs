@@ -1,6 +1,7 @@
 //! Mirrors crates/risinglight/specs/Manifest.antt: `Manifest` of manifest.rs, whose values stand here for their JSON.
 //! `Operation` is that of crates/manifest/specs/Operations.antt.
 use super::keyed::joined;
+use super::maps::Outcome;
 
 #[derive(Clone, Debug, PartialEq)]
 pub enum Operation {
@@ -28,6 +29,11 @@ use Value::*;
 pub fn frame(entries: &[Operation]) -> Vec<Value> {
     let entries = entries.iter().cloned().map(Entry).collect();
     joined(joined(vec![Begin], entries), vec![End])
+}
+
+/// A file's bytes are values; where part of one stands at the end, the parser gives an error.
+pub fn read(values: Vec<Value>, part: bool) -> Outcome<Vec<Value>> {
+    if part { Outcome::Fails } else { Outcome::Ok(values) }
 }
 
 /// `replay`, as far as it has come.

@@ -4,13 +4,18 @@
 //! arguments by value, so that both texts can be held side by side. Nothing here is told by the original: what it
 //! answers is compared with what these functions give (`conformance`).
 //!
-//! What is marked "from the source" stands in no definition yet. It is read off the original's own file.
+//! What is marked "from the source" is said by no definition, since no call that the port accepts comes there. It is
+//! read off the original's own file.
 
 pub mod agreement;
+pub mod compactor;
+pub mod delete_vector;
 pub mod keyed;
 pub mod manifest;
 pub mod maps;
+pub mod numbers;
 pub mod run;
 pub mod snapshot;
 pub mod storage;
+pub mod transaction;
 pub mod version_manager;

@@ -8,24 +8,26 @@ use super::keyed::{any_of, joined, keep};
 use super::manifest::Operation::{self, *};
 use super::manifest::{Value, frame};
 use super::maps::*;
+use super::numbers::wrapping;
 use super::snapshot::Snapshot;
 use super::storage::*;
 use super::version_manager::{self as version, Inner, Pair, commit_changes, find_vacuum};
 
-/// The storage, and the manifest that a start finds if it is the next call.
+/// The storage, the manifest that a start finds if it is the next call, and how many starts there were.
 #[derive(Clone, Debug, PartialEq)]
 pub struct Engine {
     pub running: Storage,
     pub torn: Vec<Value>,
+    pub starts: u64,
 }
 
-pub fn engine(s: Storage, t: Vec<Value>) -> Engine {
-    Engine { running: s, torn: t }
+pub fn engine(s: Storage, t: Vec<Value>, n: u64) -> Engine {
+    Engine { running: s, torn: t, starts: n }
 }
 
 /// Nothing yet. The original begins by a start on an empty folder, which is a commit: that one is left out.
 pub fn started() -> Engine {
-    engine(storage(vec![], version::fresh(), vec![], NextId::default()), vec![])
+    engine(storage(vec![], version::fresh(), next_id(0, 0), vec![]), vec![], 0)
 }
 
 /// How many of the n values of a commit's append land where a start is the next call: all, or fewer.
@@ -44,25 +46,44 @@ pub fn torn_by(os: &[Operation], missing: usize, cut: usize, file: Vec<Value>) -
 }
 
 /// Any other call finds that everything had landed.
-pub fn landed(m: Inner, g: Engine) -> Engine {
+pub fn landed(m: Inner, n: NextId, g: Engine) -> Engine {
     let file = g.running.manifest;
-    engine(storage(g.running.catalog, m, file.clone(), g.running.next_id), file)
+    engine(storage(g.running.catalog, m, n, file.clone()), file, g.starts)
 }
 
-/// Draws, grouping and locks are not the version manager's. From the source: draws change the next ids.
-pub fn rests(next_id: NextId, g: Engine) -> Engine {
-    let mut h = landed(g.running.version.clone(), g);
-    h.running.next_id = next_id;
-    h
+/// A draw or a grouping, which leaves these next ids. There it is also said how its id compares with the port's.
+pub fn draws(left: NextId, g: Engine) -> Engine {
+    landed(g.running.version.clone(), left, g)
+}
+
+/// What is left by a draw of `next.rowset`. From the source: `fetch_add` wraps at the largest number, where the definition
+/// counts on, since no draw that the port accepts comes there.
+pub fn draw_rowset(ids: NextId) -> NextId {
+    next_id(wrapping32(ids.rowset + 1), ids.dv)
+}
+
+/// What is left by a draw of `next.dv`. From the source: it wraps too.
+pub fn draw_vector(ids: NextId) -> NextId {
+    next_id(ids.rowset, wrapping(u128::from(ids.dv) + 1))
+}
+
+/// What is left by a grouping into so many vectors, the first of which has `next.dv`. From the source: it wraps too.
+pub fn group(count: u64, ids: NextId) -> NextId {
+    next_id(ids.rowset, wrapping(u128::from(ids.dv) + u128::from(count)))
+}
+
+/// Locks are not the version manager's.
+pub fn rests(g: Engine) -> Engine {
+    landed(g.running.version.clone(), g.running.next, g)
 }
 
 /// Commits the operations; whoever commits creates and drops makes the catalog follow.
 pub fn commits(os: &[Operation], missing: usize, cut: usize, g: Engine) -> Outcome<Engine> {
-    let Storage { catalog, version, manifest: file, next_id } = g.running;
+    let Storage { catalog, version, next: ids, manifest: file } = g.running;
     and_then(commit_changes(os, version), |version| {
         and_then(apply_tables(os, catalog), |catalog| {
             let torn = torn_by(os, missing, cut, file.clone());
-            Ok(engine(storage(catalog, version, joined(file, frame(os)), next_id), torn))
+            Ok(engine(storage(catalog, version, ids, joined(file, frame(os))), torn, g.starts))
         })
     })
 }
@@ -70,26 +91,26 @@ pub fn commits(os: &[Operation], missing: usize, cut: usize, g: Engine) -> Outco
 /// The answer with the snapshot, and the engine after it.
 pub fn pins(g: Engine) -> Outcome<(u64, Rc<Snapshot>, Engine)> {
     and_then(version::pin(g.running.version.clone()), |result| {
-        Ok((result.epoch, result.snapshot, landed(result.left, g)))
+        Ok((result.epoch, result.snapshot, landed(result.left, g.running.next, g)))
     })
 }
 
 /// The notice is the answer.
 pub fn unpins(d: u64, g: Engine) -> Outcome<(bool, Engine)> {
     and_then(version::drop(d, g.running.version.clone()), |result| {
-        Ok((result.notice, landed(result.left, g)))
+        Ok((result.notice, landed(result.left, g.running.next, g)))
     })
 }
 
 pub fn vacuums(g: Engine) -> (Vec<Pair>, Engine) {
     let result = find_vacuum(g.running.version.clone());
-    (result.deletions, landed(result.left, g))
+    (result.deletions, landed(result.left, g.running.next, g))
 }
 
 pub fn starts(stale: bool, g: Engine) -> Outcome<Engine> {
     and_then(bootstrap(&g.torn), |result| {
         let torn = if stale { g.torn } else { result.manifest.clone() };
-        Ok(engine(result, torn))
+        Ok(engine(result, torn, g.starts + 1))
     })
 }
 

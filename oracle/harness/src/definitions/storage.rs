@@ -4,6 +4,7 @@ use super::keyed::{all_of, any_of, cons, has, joined, keep, without};
 use super::manifest::Operation::{self, *};
 use super::manifest::{Value, frame, replay};
 use super::maps::*;
+use super::numbers::wrapping;
 use super::version_manager::{Inner, commit_changes, fresh};
 
 #[derive(Clone, Debug, PartialEq)]
@@ -36,7 +37,10 @@ pub fn apply_tables(os: &[Operation], l: Vec<Table>) -> Outcome<Vec<Table>> {
     os.iter().fold(Ok(l), |l, o| and_then(l, |l| apply_table(o, l)))
 }
 
-// The loop of `bootstrap` over what `replay` gave, for each thing that it fills.
+/// The loop of `bootstrap` over what `replay` gave, for each thing that it fills.
+pub fn through<A>(f: impl Fn(&Operation, A) -> A, os: &[Operation], x: A) -> A {
+    os.iter().fold(x, |x, o| f(o, x))
+}
 
 #[derive(Clone, Debug, PartialEq)]
 pub struct Rowset {
@@ -61,7 +65,7 @@ pub fn open_rowset(o: &Operation, l: Vec<Rowset>) -> Vec<Rowset> {
 }
 
 pub fn rowsets_to_open(os: &[Operation], l: Vec<Rowset>) -> Vec<Rowset> {
-    os.iter().fold(l, |l, o| open_rowset(o, l))
+    through(open_rowset, os, l)
 }
 
 #[derive(Clone, Debug, PartialEq)]
@@ -88,7 +92,7 @@ pub fn open_dv(o: &Operation, l: Vec<Dv>) -> Vec<Dv> {
 }
 
 pub fn dvs_to_open(os: &[Operation], l: Vec<Dv>) -> Vec<Dv> {
-    os.iter().fold(l, |l, o| open_dv(o, l))
+    through(open_dv, os, l)
 }
 
 /// Every create and drop there ever was.
@@ -111,60 +115,57 @@ pub fn openable(l: &[Table], rs: &[Rowset], vs: &[Dv]) -> bool {
     all_of(|x: &Rowset| has(by_id, [x.table], l), rs) && all_of(|x: &Dv| has(by_id, [x.table], l), vs)
 }
 
-/// From the source: the next ids of rowsets and vectors. They wrap, as they do in a release build.
-#[derive(Clone, Copy, Debug, Default, PartialEq)]
+/// `next_id` of rowsets and of vectors.
+#[derive(Clone, Copy, Debug, PartialEq)]
 pub struct NextId {
-    pub rowset: u32,
+    pub rowset: u64,
     pub dv: u64,
 }
 
-/// From the source: `bootstrap` raises them past every id that was ever added, be it deleted or not.
-pub fn raise(o: &Operation, next: NextId) -> NextId {
+pub fn next_id(r: u64, v: u64) -> NextId {
+    NextId { rowset: r, dv: v }
+}
+
+/// A number of 32 bits; `fetch_max`: past every id that the manifest still adds.
+pub fn wrapping32(n: u64) -> u64 {
+    n % 4_294_967_296
+}
+
+pub fn raise(o: &Operation, x: NextId) -> NextId {
     match *o {
-        AddRowset(_, r) => NextId { rowset: next.rowset.max((r as u32).wrapping_add(1)), ..next },
-        AddVector(_, _, v) => NextId { dv: next.dv.max(v.wrapping_add(1)), ..next },
-        _ => next,
+        AddRowset(_, r) => next_id(x.rowset.max(wrapping32(r + 1)), x.dv),
+        AddVector(_, _, v) => next_id(x.rowset, x.dv.max(wrapping(u128::from(v) + 1))),
+        _ => x,
     }
 }
 
-pub fn raised(os: &[Operation], next: NextId) -> NextId {
-    os.iter().fold(next, |next, o| raise(o, next))
+pub fn raised(os: &[Operation], x: NextId) -> NextId {
+    through(raise, os, x)
 }
 
-/// From the source: `generate_rowset_id` of table.rs. The drawn id, and what is next.
-pub fn generate_rowset_id(next: NextId) -> (u64, NextId) {
-    (next.rowset.into(), NextId { rowset: next.rowset.wrapping_add(1), ..next })
-}
-
-/// From the source: `generate_dv_id` of table.rs.
-pub fn generate_dv_id(next: NextId) -> (u64, NextId) {
-    (next.dv, NextId { dv: next.dv.wrapping_add(1), ..next })
-}
-
-/// The catalog, the version manager and the manifest.
+/// The catalog, the version manager, the next ids and the manifest.
 #[derive(Clone, Debug, PartialEq)]
 pub struct Storage {
     pub catalog: Vec<Table>,
     pub version: Inner,
+    pub next: NextId,
     pub manifest: Vec<Value>,
-    pub next_id: NextId,
 }
 
-pub fn storage(c: Vec<Table>, v: Inner, m: Vec<Value>, n: NextId) -> Storage {
-    Storage { catalog: c, version: v, manifest: m, next_id: n }
+pub fn storage(c: Vec<Table>, v: Inner, n: NextId, m: Vec<Value>) -> Storage {
+    Storage { catalog: c, version: v, next: n, manifest: m }
 }
 
 /// `rewrite_changes`: committed by a manager that has nothing yet, into a new file.
-pub fn rewritten(l: Vec<Table>, os: &[Operation], n: NextId) -> Outcome<Storage> {
-    and_then(commit_changes(os, fresh()), |m| Ok(storage(l, m, frame(os), n)))
+pub fn rewritten(l: Vec<Table>, n: NextId, os: &[Operation]) -> Outcome<Storage> {
+    and_then(commit_changes(os, fresh()), |m| Ok(storage(l, m, n, frame(os))))
 }
 
 pub fn opened(ops: Vec<Operation>, l: Vec<Table>) -> Outcome<Storage> {
     let rs = rowsets_to_open(&ops, vec![]);
     let vs = dvs_to_open(&ops, vec![]);
-    let next = raised(&ops, NextId::default());
     match openable(&l, &rs, &vs) {
-        true => rewritten(l, &changeset(&rs, &vs, table_changeset(ops)), next),
+        true => rewritten(l, raised(&ops, next_id(0, 0)), &changeset(&rs, &vs, table_changeset(ops))),
         false => Fails,
     }
 }

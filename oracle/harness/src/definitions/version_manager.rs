@@ -13,67 +13,65 @@ pub type Pair = [u64; 2];
 pub struct Inner {
     /// Behind a counter as in the original, so that a copy is cheap.
     pub status: Vec<Binding<Rc<Snapshot>>>,
+    /// The pools of rowsets, by (table, rowset), and of vectors, by (table, vector): what has an object.
+    pub rowsets: Vec<Pair>,
+    pub dvs: Vec<Pair>,
     pub ref_cnt: Vec<Binding<u64>>,
     /// By epoch: pairs (table, rowset).
     pub rowset_deletion_to_apply: Vec<Binding<Vec<Pair>>>,
     pub epoch: u64,
-    pub pools: Pools,
-}
-
-/// From the source: the keys of the maps `rowsets` and `dvs`, (table, rowset) and (table, vector).
-#[derive(Clone, Debug, Default, PartialEq)]
-pub struct Pools {
-    pub rowsets: Vec<Pair>,
-    pub dvs: Vec<Pair>,
 }
 
 pub fn inner(
     s: Vec<Binding<Rc<Snapshot>>>,
+    r: Vec<Pair>,
+    v: Vec<Pair>,
     c: Vec<Binding<u64>>,
     d: Vec<Binding<Vec<Pair>>>,
     e: u64,
-    p: Pools,
 ) -> Inner {
-    Inner { status: s, ref_cnt: c, rowset_deletion_to_apply: d, epoch: e, pools: p }
+    Inner { status: s, rowsets: r, dvs: v, ref_cnt: c, rowset_deletion_to_apply: d, epoch: e }
 }
 
 /// `VersionManagerInner::default`
 pub fn fresh() -> Inner {
-    inner(vec![], vec![], vec![], 0, Pools::default())
+    inner(vec![], vec![], vec![], vec![], vec![], 0)
 }
 
-/// From the source: the object of a rowset or vector that is added goes into its pool before anything is written, in
-/// place of one that is there.
-pub fn pooled(o: &Operation, p: Pools) -> Pools {
-    let put = |key: Pair, pool: Vec<Pair>| cons(key, without(itself, key, pool));
-    match *o {
-        AddRowset(t, r) => Pools { rowsets: put([t, r], p.rowsets), dvs: p.dvs },
-        AddVector(t, _, v) => Pools { rowsets: p.rowsets, dvs: put([t, v], p.dvs) },
-        _ => p,
-    }
+/// An object in the place of what has its key.
+pub fn pooled(k: Pair, l: Vec<Pair>) -> Vec<Pair> {
+    cons(k, without(itself, k, l))
 }
 
-/// `commit_changes`: the snapshot and the deletions, operation by operation.
-#[derive(Debug, PartialEq)]
+/// `commit_changes`: the snapshot, the pools and the deletions, operation by operation.
+#[derive(Clone, Debug, PartialEq)]
 pub struct Changing {
     pub snapshot: Snapshot,
+    pub rowsets: Vec<Pair>,
+    pub dvs: Vec<Pair>,
     pub deletions: Vec<Pair>,
 }
 
-pub fn changing(s: Snapshot, d: Vec<Pair>) -> Changing {
-    Changing { snapshot: s, deletions: d }
+pub fn changing(s: Snapshot, r: Vec<Pair>, v: Vec<Pair>, d: Vec<Pair>) -> Changing {
+    Changing { snapshot: s, rowsets: r, dvs: v, deletions: d }
 }
 
 pub fn change(o: &Operation, c: Changing) -> Outcome<Changing> {
     match *o {
         CreateTable(..) => Ok(c),
         DropTable(_) => Ok(c),
-        AddRowset(t, r) => Ok(changing(add_rowset(t, r, c.snapshot), c.deletions)),
-        DeleteRowset(t, r) => {
-            and_then(delete_rowset(t, r, c.snapshot), |s| Ok(changing(s, joined(c.deletions, vec![[t, r]]))))
+        AddRowset(t, r) => {
+            Ok(changing(add_rowset(t, r, c.snapshot), pooled([t, r], c.rowsets), c.dvs, c.deletions))
         }
-        AddVector(t, r, v) => Ok(changing(add_dv(t, r, v, c.snapshot), c.deletions)),
-        DeleteVector(t, r, v) => and_then(delete_dv(t, r, v, c.snapshot), |s| Ok(changing(s, c.deletions))),
+        DeleteRowset(t, r) => and_then(delete_rowset(t, r, c.snapshot), |s| {
+            Ok(changing(s, c.rowsets, c.dvs, joined(c.deletions, vec![[t, r]])))
+        }),
+        AddVector(t, r, v) => {
+            Ok(changing(add_dv(t, r, v, c.snapshot), c.rowsets, pooled([t, v], c.dvs), c.deletions))
+        }
+        DeleteVector(t, r, v) => {
+            and_then(delete_dv(t, r, v, c.snapshot), |s| Ok(changing(s, c.rowsets, c.dvs, c.deletions)))
+        }
     }
 }
 
@@ -85,23 +83,22 @@ pub fn latest(m: &Inner) -> Snapshot {
     unwrap_or(snapshot::default(), get(m.epoch, &m.status).map(Rc::unwrap_or_clone))
 }
 
-pub fn committed(m: Inner, c: Changing, p: Pools) -> Inner {
-    let epoch = m.epoch + 1;
+pub fn committed(m: Inner, c: Changing) -> Inner {
+    let e = m.epoch + 1;
     inner(
-        insert(epoch, Rc::new(c.snapshot), m.status),
+        insert(e, Rc::new(c.snapshot), m.status),
+        c.rowsets,
+        c.dvs,
         m.ref_cnt,
-        insert(epoch, c.deletions, m.rowset_deletion_to_apply),
-        epoch,
-        p,
+        insert(e, c.deletions, m.rowset_deletion_to_apply),
+        e,
     )
 }
 
 /// The new epoch is the answer.
 pub fn commit_changes(ops: &[Operation], m: Inner) -> Outcome<Inner> {
-    and_then(changes(ops, changing(latest(&m), vec![])), |c| {
-        let pools = ops.iter().fold(m.pools.clone(), |p, o| pooled(o, p));
-        Ok(committed(m, c, pools))
-    })
+    let begun = changing(latest(&m), m.rowsets.clone(), m.dvs.clone(), vec![]);
+    and_then(changes(ops, begun), |c| Ok(committed(m, c)))
 }
 
 /// `pin`: the `Version`, and what is left.
@@ -112,7 +109,7 @@ pub struct Pinned {
 }
 
 pub fn with_counts(c: Vec<Binding<u64>>, m: Inner) -> Inner {
-    inner(m.status, c, m.rowset_deletion_to_apply, m.epoch, m.pools)
+    inner(m.status, m.rowsets, m.dvs, c, m.rowset_deletion_to_apply, m.epoch)
 }
 
 pub fn pin(m: Inner) -> Outcome<Pinned> {
@@ -177,12 +174,15 @@ pub struct Vacuumed {
     pub left: Inner,
 }
 
-/// From the source, beside the definition: a rowset that is listed leaves its pool. Vectors stay in theirs.
+/// What is listed leaves the pool.
+pub fn released(l: &[Pair], pool: Vec<Pair>) -> Vec<Pair> {
+    l.iter().fold(pool, |pool, k| without(itself, *k, pool))
+}
+
 pub fn find_vacuum(m: Inner) -> Vacuumed {
     let d = m.rowset_deletion_to_apply.clone();
-    let deletions = extended(keep(|b| can_apply(&m, b), d.clone()));
+    let l = extended(keep(|b| can_apply(&m, b), d.clone()));
     let waiting = keep(|b| !can_apply(&m, b), d);
-    let rowsets = deletions.iter().fold(m.pools.rowsets, |pool, pair| without(itself, *pair, pool));
-    let pools = Pools { rowsets, dvs: m.pools.dvs };
-    Vacuumed { deletions, left: inner(m.status, m.ref_cnt, waiting, m.epoch, pools) }
+    let left = inner(m.status, released(&l, m.rowsets), m.dvs, m.ref_cnt, waiting, m.epoch);
+    Vacuumed { deletions: l, left }
 }

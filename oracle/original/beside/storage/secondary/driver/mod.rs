@@ -267,6 +267,10 @@ impl Driver {
                 store.contents.insert(words.number(2), bytes);
                 String::new()
             }
+            "vector" => {
+                let rows = vectors::opened(store, &unhex(words.0[2])).await?;
+                listed("vector", rows.iter().map(u32::to_string))
+            }
             "scan" => {
                 self.scan = Some((words.number(2), words.number(3), words.number(4)));
                 String::new()

@@ -18,17 +18,22 @@ pub async fn encoded(rows: &[u32]) -> StorageResult<Vec<u8>> {
     Ok(bytes)
 }
 
-/// The rows in file order, by the decoder that `open` uses; `open` sorts them, and has to have the same ones.
-pub async fn decoded(store: &Store, bytes: &[u8]) -> StorageResult<Vec<u32>> {
+/// The rows in memory of a vector whose file has these bytes.
+pub async fn opened(store: &Store, bytes: &[u8]) -> StorageResult<Vec<u32>> {
     let path = store.dir.join("decoded.dv");
     std::fs::write(&path, bytes)?;
-    let opened = DeleteVector::open(0, 0, path).await?;
+    Ok(DeleteVector::open(0, 0, path).await?.rows().to_vec())
+}
+
+/// The rows in file order, by the decoder that `open` uses; `open` sorts them, and has to have the same ones.
+pub async fn decoded(store: &Store, bytes: &[u8]) -> StorageResult<Vec<u32>> {
+    let opened = opened(store, bytes).await?;
     let (mut left, mut rows) = (bytes, vec![]);
     while !left.is_empty() {
         rows.push(DeleteRecord::decode_length_delimited(&mut left)?.row_id);
     }
     let sorted: BTreeSet<u32> = rows.iter().copied().collect();
-    assert!(sorted.iter().eq(opened.rows()), "open has other rows than its decoder");
+    assert!(sorted.iter().eq(&opened), "open has other rows than its decoder");
     Ok(rows)
 }
 

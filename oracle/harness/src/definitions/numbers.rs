@@ -1,0 +1,7 @@
+//! Mirrors crates/risinglight/specs/Numbers.antt: `u64` as a release build counts with it. What is about to wrap comes
+//! as a `u128`, so that nothing has wrapped before.
+
+/// A sum that passes 64 bits begins anew.
+pub fn wrapping(n: u128) -> u64 {
+    (n % 18_446_744_073_709_551_616) as u64
+}
