@@ -2,6 +2,7 @@
 use mathlib.Core.Path.{_≡_, refl, sym, ap, _∙_}
 use mathlib.Core.Bool.{Bool, true, false, not, _&&_}
 use mathlib.Core.List.{List, [], _∷_}
+use mathlib.Core.Option.{Option, none, some}
 use Prim.Native.Nat.{ℕ, zero, suc, _≤_, _<_}
 use native.Mathlib.Omega.{arith}
 use lib.Dec.{eqb, leb, ltb}
@@ -12,7 +13,7 @@ use Rattle.lists.proofs.Keyed.{All}
 use Rattle.pins.specs.Book.{PinEntry, placeOn, placeKey, byPlace, pinned}
 use Rattle.pins.specs.Guards.{guardsBy, blocked}
 use Rattle.pins.specs.Counts.{pinsAt}
-use Rattle.risinglight.specs.Maps.{Option, none, some, unwrapOr, Binding, get, keys}
+use Rattle.risinglight.specs.Maps.{unwrapOr, Binding, get, keys}
 use Rattle.risinglight.specs.VersionManager.{Inner, smallest, minimum, vacuum-epoch}
 
 -- a count of 0 is none

@@ -20,11 +20,11 @@ opening =
       rowsetWithoutTable = (refl, refl);
       liveName = (refl, refl);
       unknownTable = (refl, refl);
-      liveId = (refl, refl);
-      tables = (refl, refl);
+      liveId = (refl, refl, refl);
+      tables = (refl, refl, refl);
       bytes = λ src h. rw (lt-ltb _ _ h);
       operations = λ s m n os o h. (rw h, refl);
-      lastId = (refl, refl);
+      lastId = (refl, refl, refl);
       tornTail = (refl, refl);
       firstEpoch = (refl, refl);
     }

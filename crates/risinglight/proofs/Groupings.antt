@@ -2,6 +2,7 @@
 use mathlib.Core.Path.{_≡_, refl, sym, ap, subst, _∙_}
 use mathlib.Core.Bool.{true, false, not, _||_}
 use mathlib.Core.List.{List, [], _∷_, _++_, map, append-nil, append-assoc}
+use mathlib.Core.Option.{Option, some}
 use Prim.Native.Nat.{ℕ, _+_, _≤_}
 use native.Mathlib.Omega.{arith}
 use lib.Dec.{eqb}
@@ -26,7 +27,7 @@ use Rattle.ids.proofs.Verdicts.{none-judged}
 use Rattle.version_manager.specs.declared.VersionManager.{VersionManager}
 use Rattle.version_manager.specs.Managers.{heldBy, badManager}
 use Rattle.version_manager.specs.Group.{groupedBy, groupVerdict}
-use Rattle.risinglight.specs.Maps.{Option, some, unwrapOr, contains, withNumber, withoutNumber, Binding, binding, get, insert, keys}
+use Rattle.risinglight.specs.Maps.{unwrapOr, contains, withNumber, withoutNumber, Binding, binding, get, insert, keys}
 use Rattle.risinglight.specs.Numbers.{wrapping}
 use Rattle.risinglight.specs.Transaction.{pushed, splitOn, split, DeleteVector, dvs}
 use Rattle.risinglight.specs.DeleteVector as vector

@@ -2,6 +2,7 @@
 use mathlib.Core.Path.{_≡_, refl, sym, ap, _∙_}
 use mathlib.Core.Bool.{Bool, true, false, cond, not, _&&_, _||_}
 use mathlib.Core.List.{List, [], _∷_}
+use mathlib.Core.Option.{none, some}
 use Prim.Native.Nat.{ℕ}
 use lib.Dec.{eqb}
 use borrow.Author.Tests.{eqb-true}
@@ -9,7 +10,7 @@ use Rattle.lists.specs.Order.{same}
 use Rattle.lists.specs.Keyed.{keep, anyOf, has, without}
 use Rattle.lists.proofs.Tests.{by-cases, clash}
 use Rattle.lists.proofs.Order.{same-true}
-use Rattle.risinglight.specs.Maps.{none, some, unwrapOr, contains, withNumber, withoutNumber, Binding, get, insert, remove}
+use Rattle.risinglight.specs.Maps.{unwrapOr, contains, withNumber, withoutNumber, Binding, get, insert, remove}
 use Rattle.risinglight.specs.Snapshot.{settled}
 
 -- p finds b of what q takes out, and where that is true, nothing else

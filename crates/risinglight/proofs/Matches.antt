@@ -1,6 +1,7 @@
 -- What stands on both sides between two calls. Assumes nothing.
 use mathlib.Core.Path.{_≡_, sym, ap, subst, _∙_}
 use mathlib.Core.Bool.{true}
+use mathlib.Core.Option.{Option, none, some}
 use Prim.Native.Nat.{ℕ, _-_}
 use native.Mathlib.Omega.{arith}
 use lib.Dec.{eqb}
@@ -19,7 +20,7 @@ use Rattle.plain_record.specs.Shows.{ShowsTables}
 use Rattle.plain_record.proofs.Invariant.{Inv, guards-alike}
 use Rattle.plain_record.proofs.Agree.{agree}
 use Rattle.plain_record.proofs.CommitShows.{shows-now}
-use Rattle.risinglight.specs.Maps.{Option, none, some, unwrapOr, get}
+use Rattle.risinglight.specs.Maps.{unwrapOr, get}
 use Rattle.risinglight.specs.Snapshot.{Snapshot, default}
 use Rattle.risinglight.specs.Run.{Engine}
 use Rattle.risinglight.specs.Agreement.{snapshotAt, Matches}

@@ -2,6 +2,7 @@
 use mathlib.Core.Path.{_≡_, refl, sym, ap, subst, _∙_}
 use mathlib.Core.Bool.{Bool, true, false, cond, not, _&&_, _||_}
 use mathlib.Core.List.{List, [], _∷_, _++_, map}
+use mathlib.Core.Option.{Option, none, some}
 use Prim.Native.Nat.{ℕ, zero, suc, _+_, _-_, _≤_, min}
 use native.Mathlib.Omega.{arith}
 use lib.Dec.{eqb, leb}
@@ -25,7 +26,7 @@ use Rattle.plain_record.specs.Claim.{waitingOf, pairsOf}
 use Rattle.plain_record.proofs.CommitShows.{getD-more, shows-now}
 use Rattle.plain_record.proofs.CommitWaits.{placedAll, await-keys}
 use Rattle.plain_record.proofs.Vacuum.{keep-arranged, map-map}
-use Rattle.risinglight.specs.Maps.{ok, Option, none, some, unwrapOr, Binding, get, insert, remove}
+use Rattle.risinglight.specs.Maps.{ok, unwrapOr, Binding, get, insert, remove}
 use Rattle.risinglight.specs.Snapshot.{Snapshot}
 use Rattle.risinglight.specs.Manifest.{Value, frame, replay}
 use Rattle.risinglight.specs.VersionManager.{Inner, Changing, changing, latest, committed, commit-changes, withCounts, Pinned, Dropped, dropped, vacuum-epoch, can-apply, find-vacuum}

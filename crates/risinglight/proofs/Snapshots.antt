@@ -2,12 +2,13 @@
 use mathlib.Core.Path.{_≡_, refl, sym, ap, _∙_}
 use mathlib.Core.Bool.{true, cond, not, _&&_, _||_}
 use mathlib.Core.List.{List, [], _∷_}
+use mathlib.Core.Option.{Option, none, some}
 use Prim.Native.Nat.{ℕ}
 use lib.Dec.{eqb}
 use borrow.Author.Tests.{eqb-true}
 use Rattle.lists.specs.Order.{same}
 use Rattle.lists.proofs.Tests.{by-cases, clash}
-use Rattle.risinglight.specs.Maps.{ok, Option, none, some, unwrapOr, contains, withNumber, withoutNumber, Binding, get, insert}
+use Rattle.risinglight.specs.Maps.{ok, unwrapOr, contains, withNumber, withoutNumber, Binding, get, insert}
 use Rattle.risinglight.specs.Snapshot.{Snapshot, snapshot, settled, add-rowset, delete-rowset, add-dv, delete-dv, hasRowset, hasDv}
 use Rattle.risinglight.proofs.Maps.{contains-without, contains-with, get-insert, get-settled}
 

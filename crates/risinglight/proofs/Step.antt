@@ -2,6 +2,7 @@
 use mathlib.Core.Path.{_≡_, refl, sym, ap, subst, _∙_}
 use mathlib.Core.Bool.{Bool, true, false, cond, not, _&&_}
 use mathlib.Core.List.{List, [], _∷_, map}
+use mathlib.Core.Option.{some}
 use Prim.Native.Nat.{ℕ, zero, suc, _+_, _-_, _≤_}
 use native.Mathlib.Omega.{arith}
 use lib.Dec.{eqb, ltb}
@@ -68,7 +69,7 @@ use Rattle.plain_record.proofs.Unpin.{without-pin}
 use Rattle.plain_record.proofs.Vacuum.{vacuum-pairs}
 use Rattle.plain_record.proofs.Reopen.{at-one, pairs-stand, vectors-stand}
 use Rattle.plain_record.proofs.Standing.{Standing, all-shown}
-use Rattle.risinglight.specs.Maps.{some}
+use Rattle.risinglight.specs.Maps.{}
 use Rattle.risinglight.specs.Run.{Engine, started, landed, Commits, DoesBy, Draws}
 use Rattle.risinglight.specs.VersionManager.{find-vacuum, Inner}
 use Rattle.risinglight.specs.Storage.{NextId, nextId, storage}

@@ -5,26 +5,27 @@ use mathlib.Core.List.{List, [], _∷_, _++_, map}
 use Prim.Native.Nat.{ℕ, zero, suc, _+_, _<_}
 use lib.Dec.{eqb, ltb}
 use lib.ListN.{length}
-use Rattle.lists.specs.Keyed.{anyOf, has, sorted}
-use Rattle.ids.specs.Limits.{mostOperations, longestManifest}
+use Rattle.lists.specs.Keyed.{keep, allOf, anyOf, has, sorted}
+use Rattle.ids.specs.Limits.{mostTables, mostHeld, mostOperations, longestManifest}
 use Rattle.ids.specs.Results.{Result, refused, given, andThen}
 use Rattle.ids.specs.declared.refusal.Refusal.the-variants.{ManifestTooLong, Malformed, TableConflict, OverLimit, RowsetWithoutTable, TooManyOperations, TableNotLive, PairNotShown, VectorNotShown, IdNotDrawn, StillHeld, LeftBehind}
-use Rattle.manifest.specs.Operations.{Operation, createTable, dropTable, addRowset, deleteRowset, addVector, deleteVector, nextIds, Line, begin, end, operation}
+use Rattle.manifest.specs.Operations.{Operation, createTable, dropTable, addRowset, deleteRowset, addVector, deleteVector, nextIds, Line, begin, end, operation, wellLine}
 use Rattle.manifest.specs.Lines.{lineText}
 use Rattle.manifest.specs.Split.{joined}
-use Rattle.manifest.specs.Edits.{table}
+use Rattle.manifest.specs.Edits.{Edit, leaves, adds, deletes, Table, editsOf}
 use Rattle.snapshot.specs.Entries.{Entry, byIds}
 use Rattle.version_state.specs.State.{State, start}
 use Rattle.commit.specs.Commit.{commitOf}
 use Rattle.vacuum.specs.LetGo.{vacuumList, vacuumed}
 use Rattle.replay.specs.Replay.{opened, carried, lineRead, replayOf}
 use Rattle.rewrite.specs.Rewritten.{rewrittenOf}
-use Rattle.plain_record.specs.Sets.{byId, itself}
+use Rattle.plain_record.specs.Sets.{byId, itself, edit}
 use Rattle.risinglight.specs.Maps.{Outcome, fails, ok, andThen as then, isEmpty, binding}
 use Rattle.risinglight.specs.Snapshot.{snapshot, hasDv}
 use Rattle.risinglight.specs.Manifest.{Value, Begin, End, entry, frame, Replaying, replaying, next, replay, read}
-use Rattle.risinglight.specs.VersionManager.{Inner, inner, fresh, latest, commit-changes, pin, find-vacuum}
-use Rattle.risinglight.specs.Storage.{pairOf, rowsets-to-open, Dv, dvs-to-open, Storage, bootstrap}
+use Rattle.risinglight.specs.VersionManager.{Inner, inner, fresh, latest, commit-changes, pin, can-apply, find-vacuum}
+use Rattle.risinglight.specs.Agreement.{deletionsIn}
+use Rattle.risinglight.specs.Storage.{through, pairOf, rowsets-to-open, Dv, dvs-to-open, Storage, bootstrap}
 
 -- Manifests that others wrote: the port reads the same values as lines.
 abbrev pub lineIn : Value → Line
@@ -53,15 +54,39 @@ abbrev pub orphan-vector : List Value → Bool
 orphan-vector file =
     anyOf (λ (x : Dv). not (has pairOf (x .table ∷ x .rowset ∷ []) (rowsets-to-open (replay file) []))) (dvs-to-open (replay file) [])
 
--- Names and operations of the cases.
-abbrev pub a : List ℕ
-a = 97 ∷ []
+-- live-id: a create has the id of a table that is there. The Rust writes no ids: only the stand-in's manifests can have it
+abbrev pub takesLive : Edit Table → List Table → Bool
+takesLive leaves l = false
+takesLive (adds t) l = has byId (byId t) l
+takesLive (deletes k) l = false
 
-abbrev pub b : List ℕ
-b = 98 ∷ []
+abbrev pub liveIdFrom : List Operation → List Table → Bool
+liveIdFrom [] l = false
+liveIdFrom (o ∷ os) l = takesLive (editsOf o .tables) l || liveIdFrom os (edit byId (editsOf o .tables) l)
+
+abbrev pub live-id : List Value → Bool
+live-id file = liveIdFrom (replay file) []
+
+-- over-limits: at the end there are more tables, rowsets or vectors than the port holds
+abbrev pub over-limits : List Value → Bool
+over-limits file =
+    let ops = replay file in
+    ltb mostTables (length (through (λ o l. edit byId (editsOf o .tables) l) ops []))
+    || (ltb mostHeld (length (rowsets-to-open ops [])) || ltb mostHeld (length (dvs-to-open ops [])))
+
+-- last-id: a value is none of the port's lines, since an id is its width's largest
+abbrev pub last-id : List Value → Bool
+last-id file = not (allOf (λ v. wellLine (lineIn v)) file)
+
+-- Names and operations of the cases.
+abbrev pub nameA : List ℕ
+nameA = 97 ∷ []
+
+abbrev pub nameB : List ℕ
+nameB = 98 ∷ []
 
 abbrev pub createA : Operation
-createA = createTable 0 7 a
+createA = createTable 0 7 nameA
 
 -- the stores that are opened
 abbrev pub shownIn : Outcome Storage → (Storage → Bool) → Bool
@@ -106,17 +131,19 @@ pub record OpeningDiffers : Type 0 where
       (bootstrap file ≡ fails) × (portOpens file ≡ refused RowsetWithoutTable)
   -- duplicate-in-manifest: a live name and an unknown table are refused by both
   pub liveName :
-      let file = frame (createA ∷ createTable 1 7 a ∷ []) in
+      let file = frame (createA ∷ createTable 1 7 nameA ∷ []) in
       (bootstrap file ≡ fails) × (portOpens file ≡ refused (TableConflict 3))
   pub unknownTable :
       let file = frame (dropTable 3 ∷ []) in
       (bootstrap file ≡ fails) × (portOpens file ≡ refused (TableConflict 2))
   -- a live id the port alone refuses: the Rust's creates have none
   pub liveId :
-      let file = frame (createA ∷ createTable 0 7 b ∷ []) in
-      (shownIn (bootstrap file) hasTableA ≡ true) × (portOpens file ≡ refused (TableConflict 3))
+      let file = frame (createA ∷ createTable 0 7 nameB ∷ []) in
+      (live-id file ≡ true) × (shownIn (bootstrap file) hasTableA ≡ true) × (portOpens file ≡ refused (TableConflict 3))
   -- limits: 17 tables; more than 65,536 bytes; more than 600 operations in a frame
-  pub tables : (shownIn (bootstrap (frame (creates 17))) hasTableA ≡ true) × (portOpens (frame (creates 17)) ≡ refused (OverLimit 19))
+  pub tables :
+      let file = frame (creates 17) in
+      (over-limits file ≡ true) × (shownIn (bootstrap file) hasTableA ≡ true) × (portOpens file ≡ refused (OverLimit 19))
   pub bytes : (src : List ℕ) → longestManifest < length src → replayOf src ≡ refused ManifestTooLong
   pub operations : (s : State) (m n : ℕ) (os : List Operation) (o : Operation) → length os ≡ mostOperations
       → (lineRead (operation o) (carried s (opened m os) n) ≡ refused (TooManyOperations n))
@@ -124,7 +151,7 @@ pub record OpeningDiffers : Type 0 where
   -- last-id: the port's line is none, and the Rust's next id wraps
   pub lastId :
       let file = frame (createA ∷ addRowset 0 4294967295 ∷ []) in
-      (shownIn (bootstrap file) (λ s. eqb (s .next .rowset) 0) ≡ true) × (portOpens file ≡ refused (Malformed 3))
+      (last-id file ≡ true) × (shownIn (bootstrap file) (λ s. eqb (s .next .rowset) 0) ≡ true) × (portOpens file ≡ refused (Malformed 3))
   -- torn-tail: part of a value is an error; of the port's bytes what no newline ends does not count
   pub tornTail : (then (read [] true) bootstrap ≡ fails) × (stateIn (replayOf (66 ∷ [])) (λ s. isEmpty (s .tables)) ≡ true)
   -- first-epoch: opening nothing is a commit
@@ -148,9 +175,9 @@ abbrev pub heldPairs : State
 heldPairs =
     record { epoch = 1; nextTable = 1; nextRowset = 2; nextVector = 1; tables = []; pairs = gone (0 ∷ 0 ∷ []) ∷ gone (0 ∷ 1 ∷ []) ∷ []; vectors = gone (0 ∷ 0 ∷ 0 ∷ []) ∷ []; manifest = 0 }
 
--- vacuum-order: the Rust's list is not in the port's order
+-- vacuum-order: what the Rust lists does not come by epoch, table, rowset
 abbrev pub vacuum-order : Inner → Bool
-vacuum-order m = not (sorted itself (find-vacuum m .deletions))
+vacuum-order m = not (sorted itself (deletionsIn (keep (can-apply m) (m .rowset-deletion-to-apply))))
 
 -- next-ids: a start has forgotten ids that the port still keeps
 abbrev pub next-ids : Storage → State → Bool
@@ -172,8 +199,8 @@ pub record ListsDiffer : Type 0 where
   pub poolOfVectors : (find-vacuum deletedPairs .left .dvs ≡ (0 ∷ 0 ∷ []) ∷ []) × (vacuumed 1 heldPairs .vectors ≡ [])
   -- rewritten: the Rust writes rowsets first, and every create and drop there ever was
   pub rewritten :
-      let file = frame (createA ∷ createTable 1 7 b ∷ addRowset 0 0 ∷ dropTable 1 ∷ []) in
-      (then (bootstrap file) (λ s. ok (s .manifest)) ≡ ok (frame (addRowset 0 0 ∷ createA ∷ createTable 1 7 b ∷ dropTable 1 ∷ [])))
+      let file = frame (createA ∷ createTable 1 7 nameB ∷ addRowset 0 0 ∷ dropTable 1 ∷ []) in
+      (then (bootstrap file) (λ s. ok (s .manifest)) ≡ ok (frame (addRowset 0 0 ∷ createA ∷ createTable 1 7 nameB ∷ dropTable 1 ∷ [])))
       × (andThen (portOpens file) (λ s. given (rewrittenOf s)) ≡ given (joined (lineText begin ∷ lineText (operation (nextIds 2 1 0)) ∷ lineText (operation createA) ∷ lineText (operation (addRowset 0 0)) ∷ lineText end ∷ [])))
 
 -- What the port refuses, and the Rust takes or panics at.
@@ -192,7 +219,7 @@ oneHeld =
       nextTable = 1;
       nextRowset = 2;
       nextVector = 2;
-      tables = record { table = 0; shape = 7; name = a; locked = false } ∷ [];
+      tables = record { table = 0; shape = 7; name = nameA; locked = false } ∷ [];
       pairs = record { ids = 0 ∷ 0 ∷ []; added = 1; deleted = 0 } ∷ [];
       vectors = [];
       manifest = 0;

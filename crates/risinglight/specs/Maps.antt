@@ -1,6 +1,7 @@
 -- Hash maps and hash sets of the Rust's, and calls of it that may fail. Its names stand here with `-` for `_`. Assumes nothing.
 use mathlib.Core.Bool.{Bool, true, false, cond, not}
 use mathlib.Core.List.{List, [], _∷_, map}
+use mathlib.Core.Option.{Option, none, some}
 use Prim.Native.Nat.{ℕ}
 use lib.Dec.{eqb}
 use Rattle.lists.specs.Keyed.{keep, anyOf}
@@ -14,11 +15,6 @@ module _ {A B : Type 0} where
   abbrev pub andThen : Outcome A → (A → Outcome B) → Outcome B
   andThen fails f = fails
   andThen (ok a) f = f a
-
--- `Option`
-pub data Option (A : Type 0) : Type 0 where
-  none : Option A
-  some : A → Option A
 
 module _ {A : Type 0} where
   abbrev pub unwrap : Option A → Outcome A

@@ -1,14 +1,14 @@
 -- `SecondaryStorage`: the catalog, and `bootstrap` of storage.rs. Assumes nothing.
 use mathlib.Core.Bool.{Bool, true, false, cond, _&&_}
 use mathlib.Core.List.{List, [], _∷_, _++_, map}
-use Prim.Native.Nat.{ℕ, _+_, _%_, max}
+use Prim.Native.Nat.{ℕ, _+_, max}
 use Rattle.lists.specs.Order.{same}
 use Rattle.lists.specs.Keyed.{keep, allOf, anyOf, has, without}
 use Rattle.manifest.specs.Operations.{Operation, createTable, dropTable, addRowset, deleteRowset, addVector, deleteVector, nextIds}
 use Rattle.manifest.specs.Edits.{Table, table}
 use Rattle.plain_record.specs.Sets.{byId}
 use Rattle.risinglight.specs.Maps.{Outcome, fails, ok, andThen}
-use Rattle.risinglight.specs.Numbers.{wrapping}
+use Rattle.risinglight.specs.Numbers.{wrapping, wrapping32}
 use Rattle.risinglight.specs.Manifest.{Value, frame, replay}
 use Rattle.risinglight.specs.VersionManager.{Inner, fresh, commit-changes}
 
@@ -105,10 +105,7 @@ pub record NextId : Type 0 where
 abbrev pub nextId : ℕ → ℕ → NextId
 nextId r v = record { rowset = r; dv = v }
 
--- a number of 32 bits; `fetch_max`: past every id that the manifest still adds
-abbrev pub wrapping32 : ℕ → ℕ
-wrapping32 n = n % 4294967296
-
+-- `fetch_max`: past every id that the manifest still adds
 abbrev pub raise : Operation → NextId → NextId
 raise (createTable t h n) x = x
 raise (dropTable t) x = x

@@ -1,12 +1,13 @@
 -- `VersionManagerInner` and the methods of `VersionManager` and `Version`, of version_manager.rs. Assumes nothing.
 use mathlib.Core.Bool.{Bool, false, cond, not}
 use mathlib.Core.List.{List, [], _∷_, _++_}
+use mathlib.Core.Option.{Option, none, some}
 use Prim.Native.Nat.{ℕ, _+_, _-_, min}
 use lib.Dec.{eqb, leb}
 use Rattle.lists.specs.Keyed.{keep, without}
 use Rattle.manifest.specs.Operations.{Operation, createTable, dropTable, addRowset, deleteRowset, addVector, deleteVector, nextIds}
 use Rattle.plain_record.specs.Sets.{itself}
-use Rattle.risinglight.specs.Maps.{Outcome, ok, andThen, Option, none, some, unwrap, unwrapOr, Binding, get, insert, remove, keys}
+use Rattle.risinglight.specs.Maps.{Outcome, ok, andThen, unwrap, unwrapOr, Binding, get, insert, remove, keys}
 use Rattle.risinglight.specs.Snapshot.{Snapshot, default, add-rowset, delete-rowset, add-dv, delete-dv}
 
 pub record Inner : Type 0 where

@@ -9,7 +9,8 @@ use crate::definitions::manifest::{Value, frame};
 use crate::definitions::maps::{Outcome, *};
 use crate::definitions::run::{self, Engine};
 use crate::definitions::snapshot::{default, has_rowset};
-use crate::definitions::storage::{apply_table, wrapping32};
+use crate::definitions::numbers::wrapping32;
+use crate::definitions::storage::apply_table;
 use crate::definitions::version_manager::{change, changing, commit_changes, latest};
 
 impl Follower {

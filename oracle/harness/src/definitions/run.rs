@@ -8,7 +8,7 @@ use super::keyed::{any_of, joined, keep};
 use super::manifest::Operation::{self, *};
 use super::manifest::{Value, frame};
 use super::maps::*;
-use super::numbers::wrapping;
+use super::numbers::{wrapping, wrapping32};
 use super::snapshot::Snapshot;
 use super::storage::*;
 use super::version_manager::{self as version, Inner, Pair, commit_changes, find_vacuum};

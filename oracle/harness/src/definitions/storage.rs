@@ -4,7 +4,7 @@ use super::keyed::{all_of, any_of, cons, has, joined, keep, without};
 use super::manifest::Operation::{self, *};
 use super::manifest::{Value, frame, replay};
 use super::maps::*;
-use super::numbers::wrapping;
+use super::numbers::{wrapping, wrapping32};
 use super::version_manager::{Inner, commit_changes, fresh};
 
 #[derive(Clone, Debug, PartialEq)]
@@ -126,11 +126,7 @@ pub fn next_id(r: u64, v: u64) -> NextId {
     NextId { rowset: r, dv: v }
 }
 
-/// A number of 32 bits; `fetch_max`: past every id that the manifest still adds.
-pub fn wrapping32(n: u64) -> u64 {
-    n % 4_294_967_296
-}
-
+/// `fetch_max`: past every id that the manifest still adds.
 pub fn raise(o: &Operation, x: NextId) -> NextId {
     match *o {
         AddRowset(_, r) => next_id(x.rowset.max(wrapping32(r + 1)), x.dv),
