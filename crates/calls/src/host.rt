@@ -37,10 +37,9 @@ fn stale(host: Host, s: &[u8], file: &mut [u8], old: &[u8], output: &mut Output)
         return host;
     }
     let room = host.room;
-    let read = host.read;
-    let n = script::least(read, old.len());
+    let n = script::least(host.old, old.len());
     let n = script::copy(&old[..n], file);
-    Host::reopened(n, n).with_room(room)
+    Host::replaced(n, n).with_room(room)
 }
 
 // All after the first blank is the text. It is looked through before the file is changed.

@@ -17,7 +17,6 @@ use world::ENOUGH;
 use world::File;
 use world::Host;
 use world::Line;
-use world::Old;
 use world::World;
 
 mod appends;
@@ -26,7 +25,7 @@ mod changes;
 mod compactions;
 mod group;
 mod host;
-mod reopen;
+mod rewrites;
 mod world;
 
 fn managed(world: World, word: Managed, s: &[u8], room: usize, output: &mut Output) -> World {
@@ -61,7 +60,7 @@ fn plain(
     word: Plain,
     s: &[u8],
     file: &mut File,
-    old: &Old,
+    old: &File,
     scratch: &mut Line,
     output: &mut Output,
 ) -> World {
@@ -75,7 +74,7 @@ fn call(
     word: Word,
     s: &[u8],
     file: &mut File,
-    old: &mut Old,
+    old: &mut File,
     scratch: &mut Line,
     output: &mut Output,
 ) -> World {
@@ -83,7 +82,8 @@ fn call(
     let next = world.with_room(ENOUGH);
     match word {
         Word::Fresh => changes::fresh(next, s, output),
-        Word::Reopen => reopen::reopen(next, s, room, file, old, output),
+        Word::Checkpoint => rewrites::checkpoint(next, s, room, file, old, output),
+        Word::Reopen => rewrites::reopen(next, s, room, file, old, output),
         Word::Appended(word) => appends::appended(next, word, s, room, file, output),
         Word::Unwritten(word) => unwritten(next, word, s, room, output),
         Word::Plain(word) => plain(world, word, s, file, old, scratch, output),
@@ -94,7 +94,7 @@ fn line(
     world: World,
     s: &[u8],
     file: &mut File,
-    old: &mut Old,
+    old: &mut File,
     scratch: &mut Line,
     output: &mut Output,
 ) -> World {
@@ -115,7 +115,7 @@ fn lines(
     s: &[u8],
     to: usize,
     file: &mut File,
-    old: &mut Old,
+    old: &mut File,
     scratch: &mut Line,
     output: &mut Output,
 ) -> World {
@@ -199,7 +199,7 @@ fn turn(
     got: Input,
     input: &mut Line,
     file: &mut File,
-    old: &mut Old,
+    old: &mut File,
     scratch: &mut Line,
     output: &mut Output,
 ) -> Turned {
@@ -214,7 +214,7 @@ fn turn(
 fn run(
     input: &mut Line,
     file: &mut File,
-    old: &mut Old,
+    old: &mut File,
     scratch: &mut Line,
     output: &mut Output,
 ) -> bool {
@@ -250,7 +250,7 @@ fn main() {
     let mut input = script::line_buffer();
     let mut scratch = script::line_buffer();
     let mut file = script::file_buffer();
-    let mut old = io::large_buffer();
+    let mut old = script::file_buffer();
     let mut output = output::empty();
     let whole = run(&mut input, &mut file, &mut old, &mut scratch, &mut output);
     output::flush(&mut output);

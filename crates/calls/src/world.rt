@@ -5,13 +5,11 @@ use version_manager::VersionManager;
 // Room that is more than any output is lent.
 pub const ENOUGH: usize = 18446744073709551615;
 
-// The buffers by their arrays: of a slice each function that is lent it has to prove that its length stays. A line, the file, and the file
-// that the last accepted reopen read.
+// The buffers by their arrays: of a slice each function that is lent it has to prove that its length stays. A line, and the file or the one
+// that it replaced.
 pub type Line = [u8; 1048577];
 
 pub type File = [u8; 1114112];
-
-pub type Old = [u8; 65536];
 
 // What is known of the file, whose bytes lie in a buffer that the program lends.
 pub struct Host {
@@ -19,9 +17,9 @@ pub struct Host {
     // Where the last append begins and ends, both the file's end where there was none.
     pub start: usize,
     pub end: usize,
-    // Whether the file that the last accepted reopen read is kept for `stale`, and its length.
+    // Whether the file that the last accepted reopen or checkpoint replaced is kept for `stale`, and its length.
     pub kept: bool,
-    pub read: usize,
+    pub old: usize,
     // The room that the next answered call is lent for each of its outputs.
     pub room: usize,
 }
@@ -48,19 +46,19 @@ impl Host {
             start: len,
             end: len,
             kept: false,
-            read: 0,
+            old: 0,
             room: ENOUGH,
         }
     }
 
-    // Such a file, with the one before it kept.
-    pub fn reopened(read: usize, len: usize) -> Host {
+    // Such a file, with the one that it replaced kept.
+    pub fn replaced(old: usize, len: usize) -> Host {
         Host {
             len,
             start: len,
             end: len,
             kept: true,
-            read,
+            old,
             room: ENOUGH,
         }
     }
@@ -73,7 +71,7 @@ impl Host {
             start,
             end,
             kept: false,
-            read: 0,
+            old: 0,
             room: ENOUGH,
         }
     }

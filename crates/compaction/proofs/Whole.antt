@@ -32,7 +32,7 @@ use Rattle.commit.specs.Commit.{appendOf}
 use Rattle.commit.proofs.Lent.{texts-short}
 use Rattle.table.specs.Made.{byNumber, isOver, deleteVectorOf, markedRows}
 use Rattle.table.specs.Compact.{compactedBy, validCompaction, compactState, compactLast, compactRules}
-use Rattle.table.specs.Laws.{Narrow}
+use Rattle.version_state.specs.Widths.{Narrow}
 use Rattle.table.specs.Says.{MadeIs}
 use Rattle.table.specs.declared.Made.{Made}
 use Rattle.table.proofs.Shown.{part-forms, part-below}

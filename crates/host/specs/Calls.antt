@@ -19,12 +19,14 @@ use Rattle.version_manager.specs.declared.GroupAnswer.{GroupAnswer}
 use Rattle.version_manager.specs.declared.CommitAnswer.{CommitAnswer}
 use Rattle.version_manager.specs.declared.CreateAnswer.{CreateAnswer}
 use Rattle.version_manager.specs.declared.VacuumAnswer.{VacuumAnswer}
+use Rattle.version_manager.specs.declared.CheckpointAnswer.{CheckpointAnswer}
 use Rattle.version_manager.specs.Group.{groupTold, GroupSays}
 use Rattle.version_manager.specs.Commit.{commitTold, CommitSays}
 use Rattle.version_manager.specs.Create.{createTold, CreateSays}
 use Rattle.version_manager.specs.Drop.{DropSays}
 use Rattle.version_manager.specs.Compact.{CompactSays}
 use Rattle.version_manager.specs.Vacuum.{vacuumTold, VacuumSays}
+use Rattle.version_manager.specs.Checkpoint.{checkpointTold, CheckpointSays}
 use Rattle.version_manager.specs.Show.{ShowTablesSays, ShowPairsSays, ShowVectorsSays}
 use Rattle.version_manager.specs.Lock.{LockSays, UnlockSays}
 use Rattle.version_manager.specs.Select.{SelectSays}
@@ -87,6 +89,10 @@ CompactTold m t some new taken out r out′ =
 abbrev pub VacuumTold : VersionManager → PinBook → List ℕ → List ℕ → Handed → List ℕ → List ℕ → Type 0
 VacuumTold m b ts rs r ts′ rs′ =
     Tells VacuumAnswer vacuumTold (λ a. VacuumSays m b ts rs (record { manager = r .manager; answer = a }) ts′ rs′) (r .answer)
+
+abbrev pub CheckpointTold : VersionManager → List ℕ → Handed → List ℕ → Type 0
+CheckpointTold m out r out′ =
+    Tells CheckpointAnswer checkpointTold (λ a. CheckpointSays m out (record { manager = r .manager; answer = a }) out′) (r .answer)
 
 abbrev pub ShowTablesTold : VersionManager → PinBook → ℕ → List ℕ → List ℕ → List ℕ → List ℕ → Answer → List ℕ → List ℕ → List ℕ → List ℕ → Type 0
 ShowTablesTold m b e is hs ls ns r is′ hs′ ls′ ns′ = Tells ShowAnswer showTold (λ a. ShowTablesSays m b e is hs ls ns a is′ hs′ ls′ ns′) r

@@ -10,6 +10,7 @@ use pinning::PinAnswer;
 use pinning::UnpinAnswer;
 use show::ShowAnswer;
 use storage::ReopenAnswer;
+use version_manager::CheckpointAnswer;
 use version_manager::CommitAnswer;
 use version_manager::CreateAnswer;
 use version_manager::GroupAnswer;
@@ -23,6 +24,7 @@ ghost use Rattle.version_manager.specs.Commit.{commitTold};
 ghost use Rattle.version_manager.specs.Create.{createTold};
 ghost use Rattle.version_manager.specs.Group.{groupTold};
 ghost use Rattle.version_manager.specs.Vacuum.{vacuumTold};
+ghost use Rattle.version_manager.specs.Checkpoint.{checkpointTold};
 ghost use Rattle.compactor.specs.Says.{selectTold};
 ghost use Rattle.show.specs.Says.{showTold};
 ghost use Rattle.version_manager.specs.Draw.{rowsetTold, vectorTold};
@@ -167,6 +169,15 @@ pub fn vacuumed(answer: VacuumAnswer) -> Answer
     match answer {
         VacuumAnswer::Listed(n) => one(size(n)),
         VacuumAnswer::Refused(why) => refused(why),
+    }
+}
+
+pub fn checkpointed(answer: CheckpointAnswer) -> Answer
+    ensures { λ r. ⌜ saidBy r ≡ checkpointTold answer ⌝ }
+{
+    match answer {
+        CheckpointAnswer::Rewritten(n) => one(size(n)),
+        CheckpointAnswer::Refused(why) => refused(why),
     }
 }
 

@@ -176,6 +176,7 @@ agree w r i =
       waiting = i .waiting;
       apart = pairs-apart (heldBy (w .manager)) (r .whole) (ascend-to byIds (heldBy (w .manager) .pairs) (sound-of (w .manager .inner) (i .sound) .ordered .pairs)) (i .waiting);
       next = i .next;
+      manifest = sym (i .file .long);
     }
   where
     shows : (d : ℕ) → mayShow (guardsIn (r .whole)) d ≡ true → mayShow (guardsOf (heldBy (w .manager)) (w .book)) d ≡ true

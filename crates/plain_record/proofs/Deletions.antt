@@ -15,7 +15,7 @@ use Rattle.manifest.specs.Operations.{Operation}
 use Rattle.manifest.specs.Edits.{Edit, leaves, adds, deletes, editsOf}
 use Rattle.pins.specs.Guards.{Guards, guardsOf, blocked}
 use Rattle.version_manager.specs.Managers.{heldBy}
-use Rattle.plain_record.specs.Calls.{Kind, quiet, asCommit, asPin, asUnpin, asVacuum, asReopen, kindOf}
+use Rattle.plain_record.specs.Calls.{Kind, quiet, asCommit, asPin, asUnpin, asVacuum, asCheckpoint, asReopen, kindOf}
 use Rattle.plain_record.specs.Plain.{Waiting, byEpochAndPair, epochOf, deletion, deletions, await, counted, guardsIn, listed, Record, atStart, turn}
 use Rattle.plain_record.specs.Run.{Event, isAccepted, value}
 use Rattle.plain_record.specs.Claim.{pairsOf, differ, AnswerBy, nextRecord, isVacuum, isReopen, vacuums, frees, isIt, another, removes, lists, Listing, NeverListed, ListedFirst, deletionsBy, EachListed, Deletions}
@@ -41,6 +41,7 @@ answer-lists r e (asCommit made missing) a v = clash v refl
 answer-lists r e asPin a v = clash v refl
 answer-lists r e (asUnpin d) a v = clash v refl
 answer-lists r e asVacuum a v = a v .0
+answer-lists r e (asCheckpoint lent) a v = clash v refl
 answer-lists r e (asReopen lent) a v = clash v refl
 
 all-await : (P : Waiting → Type 0) (ws l : List Waiting) → All P ws → All P l → All P (await ws l)
@@ -121,6 +122,7 @@ below-turn (asUnpin e) true id r b = let h = later (r .place) (r .whole .waiting
 below-turn asVacuum true id r b =
     let h = all-keep (λ (x : Waiting). x .commit < r .place + 1) (λ w. blocked (guardsIn (r .whole)) (w .epoch)) (r .whole .waiting) (later (r .place) (r .whole .waiting) (b .whole)) in
     record { whole = h; torn = h }
+below-turn (asCheckpoint lent) true id r b = let h = later (r .place) (r .whole .waiting) (b .whole) in record { whole = h; torn = h }
 below-turn (asReopen lent) true id r b = record { whole = tt; torn = tt }
 below-turn k false id r b = record { whole = later (r .place) (r .whole .waiting) (b .whole); torn = later (r .place) (r .torn .waiting) (b .torn) }
 
@@ -172,6 +174,7 @@ module _ (d : Waiting) where
   tagged-turn asVacuum true id r t =
       let h = t .earlier in
       record { earlier = omega arith; alike = all-keep (Alike d) (λ w. blocked (guardsIn (r .whole)) (w .epoch)) (r .whole .waiting) (t .alike) }
+  tagged-turn (asCheckpoint lent) true id r t = let h = t .earlier in record { earlier = omega arith; alike = t .alike }
   tagged-turn (asReopen lent) true id r t = let h = t .earlier in record { earlier = omega arith; alike = tt }
   tagged-turn k false id r t = let h = t .earlier in record { earlier = omega arith; alike = t .alike }
 
@@ -186,12 +189,14 @@ module _ (d : Waiting) where
   waits-turn asPin true id r t = refl
   waits-turn (asUnpin e) true id r t = refl
   waits-turn asVacuum true id r t = kept-tag (blocked (guardsIn (r .whole))) (r .whole .waiting) (t .alike)
+  waits-turn (asCheckpoint lent) true id r t = refl
   waits-turn (asReopen lent) true id r t = refl
   waits-turn quiet false id r t = refl
   waits-turn (asCommit made missing) false id r t = refl
   waits-turn asPin false id r t = refl
   waits-turn (asUnpin e) false id r t = refl
   waits-turn asVacuum false id r t = refl
+  waits-turn (asCheckpoint lent) false id r t = refl
   waits-turn (asReopen lent) false id r t = refl
 
   -- where no pair of a list is d's, nothing in it is d
@@ -382,6 +387,7 @@ opened (asCommit made missing) false id r es t b k n = clash t refl
 opened asPin a id r es t b k n = tt
 opened (asUnpin e) a id r es t b k n = tt
 opened asVacuum a id r es t b k n = tt
+opened (asCheckpoint lent) a id r es t b k n = tt
 opened (asReopen lent) a id r es t b k n = tt
 
 pub deletions-hold : (r : Record) (es : List Event) → Below r → AllSeen r es → Deletions r es

@@ -30,7 +30,7 @@ use Rattle.version_state.specs.State.{Fit}
 use Rattle.pins.specs.declared.PinBook.{PinBook}
 use Rattle.pins.specs.Book.{mostPinned, Keeps}
 use Rattle.operations.specs.Steps.{stepOf}
-use Rattle.table.specs.Laws.{Narrow}
+use Rattle.version_state.specs.Widths.{Narrow}
 use Rattle.compaction.specs.declared.NewRowset.{NewRowset}
 use Rattle.compaction.specs.New.{newOf}
 use Rattle.version_manager.specs.declared.VersionManager.{VersionManager}
@@ -46,16 +46,19 @@ use Rattle.version_manager.specs.declared.CreateAnswer.the-variants.{Table as N
 use Rattle.version_manager.specs.declared.Created.{Created}
 use Rattle.version_manager.specs.declared.VacuumAnswer.the-variants.{Listed}
 use Rattle.version_manager.specs.declared.Vacuumed.{Vacuumed}
+use Rattle.version_manager.specs.declared.CheckpointAnswer.the-variants as checkpointAnswer
+use Rattle.version_manager.specs.declared.Checkpointed.{Checkpointed}
 use Rattle.version_manager.specs.Managers.{heldBy, FreshSays}
 use Rattle.version_manager.specs.Draw.{DrawRowsetSays, DrawVectorSays}
 use Rattle.version_manager.specs.Commit.{CommitSays}
 use Rattle.pinning.specs.declared.PinAnswer.the-variants.{Pinned}
+use Rattle.pinning.specs.Says.{PinSays}
 use Rattle.pinning.specs.declared.UnpinAnswer.the-variants.{Unpinned}
 use Rattle.show.specs.declared.ShowAnswer.the-variants.{Shown, Refused as NotShown}
 use Rattle.storage.specs.declared.Reopened.{Reopened}
 use Rattle.storage.specs.declared.ReopenAnswer.the-variants.{Rewritten}
-use Rattle.plain_record.specs.Calls.{drawRowset, drawVector, lock, commit, create, drop, compact, pin, unpin, vacuum, reopen}
-use Rattle.plain_record.specs.Run.{Steps, World, world, Event, onward, afterCommit, afterReopen, pairsIn, Starts, Link, Chain}
+use Rattle.plain_record.specs.Calls.{drawRowset, drawVector, lock, commit, create, drop, compact, pin, unpin, vacuum, checkpoint, reopen}
+use Rattle.plain_record.specs.Run.{Steps, World, world, Event, onward, afterCommit, afterCheckpoint, afterReopen, pairsIn, Starts, Link, Chain}
 use Rattle.plain_record.specs.Claim.{Claim, Holds}
 use Rattle.plain_record.specs.Shows.{ShowsTables, ShowsPairs}
 
@@ -140,7 +143,7 @@ first = record { manager = holding 0 0 0 noTables noPairs 0; book = unpinned }
 abbrev pub begun : World
 begun = world (first .manager) unpinned [] []
 
--- Accepted calls. A commit and a reopen are lent what they then write, a vacuum a place in each slice.
+-- Accepted calls. A commit, a checkpoint and a reopen are lent what they then write, a vacuum a place in each slice.
 abbrev telling : List ℕ → Told
 telling l = record { number = 0; place = 0; values = l }
 
@@ -168,6 +171,9 @@ lockedBy m = record { manager = m; answer = Accepted }
 
 abbrev pub listedBy : VersionManager → ℕ → Vacuumed
 listedBy m n = record { manager = m; answer = Listed n }
+
+abbrev pub checkpointedBy : VersionManager → ℕ → Checkpointed
+checkpointedBy m n = record { manager = m; answer = checkpointAnswer.Rewritten n }
 
 abbrev pub rewrittenBy : VersionManager → ℕ → Reopened
 rewrittenBy m n = record { manager = m; book = unpinned; answer = Rewritten n }
@@ -242,6 +248,16 @@ vacuums w m n ts rs =
       after = onward m (w .book) (telling (n ∷ [])) w;
     }
 
+abbrev pub checkpoints : World → VersionManager → ℕ → List ℕ → Event
+checkpoints w m n out =
+    record {
+      before = w;
+      call = checkpoint out false;
+      told = telling (n ∷ []);
+      listed = [];
+      after = afterCheckpoint m (telling (n ∷ [])) out false w;
+    }
+
 abbrev pub reopens : World → VersionManager → ℕ → List ℕ → Bool → Event
 reopens w m n out stale =
     record {
@@ -312,6 +328,9 @@ module _ (S : Steps) where
   vacuumed w m n ts rs h =
       record { result = listedBy m n; tables = ts; rowsets = rs; says = h; told = refl; listed = refl; after = refl }
 
+  pub checkpointed : (w : World) (m : VersionManager) (n : ℕ) (out : List ℕ) → Narrow (heldBy (w .manager)) → S .checkpoint (w .manager) out (checkpointedBy m n) out → Link S (checkpoints w m n out)
+  checkpointed w m n out k h = record { narrow = k; result = checkpointedBy m n; left = out; says = h; told = refl; none = refl; after = refl }
+
   pub reopened : (w : World) (m : VersionManager) (n : ℕ) (out : List ℕ) (stale : Bool) → S .reopen (w .torn) out (rewrittenBy m n) out → Link S (reopens w m n out stale)
   reopened w m n out stale h = record { result = rewrittenBy m n; left = out; says = h; told = refl; none = refl; after = refl }
 
@@ -372,6 +391,10 @@ commitTAD = commits (draws .after) opsTAD afterTAD 1 24 frameTAD 0
 
 pub fits-TAD : Fit (afterTAD .inner)
 fits-TAD = few 1 1 1 tables (pair 1 1) 24 (omega arith) (omega arith)
+
+-- the deletion let go
+abbrev pub sweptTAD : VersionManager
+sweptTAD = holding 1 1 1 tables noPairs 24
 
 pub says-TAD : CommitSays (drawn .manager) (length opsTAD) opsTAD frameTAD (appended afterTAD 1 24) frameTAD
 unfolding rows stepOf textOf fieldsText digits digitsBy isName isNameByte isDigit isLower goneAt shownAt
@@ -482,9 +505,46 @@ says-TAV =
 abbrev pub frameD : List ℕ
 frameD = 66 ∷ 10 ∷ 68 ∷ 44 ∷ 48 ∷ 44 ∷ 48 ∷ 10 ∷ 69 ∷ 10 ∷ []
 
+-- The rowset is added at epoch 1, epoch 1 is pinned, and the rowset is deleted at epoch 2.
+abbrev pub opsD : List Operation
+opsD = deletes ∷ []
+
+abbrev pub afterD : Rowsets → VersionManager
+afterD l = holding 2 1 1 tables l 28
+
+abbrev pub pinTA : Event
+pinTA = pins (commitTA .after) 1 once
+
+abbrev pub commitD : Event
+commitD = commits (pinTA .after) opsD (afterD (pair 1 2)) 2 10 frameD 0
+
+pub pin-says-TA : PinSays afterTA unpinned (Pinned 1) once
+unfolding rows isName isNameByte isDigit isLower goneAt shownAt
+pin-says-TA = record { answer = refl; book = record { fits = omega arith; pins = refl } }
+
+pub says-D : CommitSays afterTA (length opsD) opsD frameD (appended (afterD (pair 1 2)) 2 10) frameD
+unfolding rows stepOf textOf fieldsText digits digitsBy isName isNameByte isDigit isLower goneAt shownAt
+says-D = (refl, record { fits = few 2 1 1 tables (pair 1 2) 28 (omega arith) (omega arith); state = refl }, refl)
+
+-- the claim of these calls and further ones, by a manager that draws, commits and pins as the port does
+module _ (S : Steps) (claim : Claim S) (fresh : S .fresh first) (draw : S .drawRowset (first .manager) drawn)
+    (add : S .commit (drawn .manager) (length opsTA) opsTA frameTA (appended afterTA 1 18) frameTA) (guard : S .pin afterTA unpinned (Pinned 1) once)
+    (delete : S .commit afterTA (length opsD) opsD frameD (appended (afterD (pair 1 2)) 2 10) frameD) where
+  pub on-D : (es : List Event) → Chain S (commitD .after) es → Holds S begun (draws ∷ commitTA ∷ pinTA ∷ commitD ∷ es)
+  on-D es c =
+      on-TA S claim fresh draw add (pinTA ∷ commitD ∷ es) (
+        refl,
+        pinned S (commitTA .after) 1 once guard,
+        (refl, committed S (pinTA .after) opsD (afterD (pair 1 2)) 2 10 frameD 0 delete, c),
+      )
+
 -- a show without pairs, where the record has one
 pub no-pair : (S : Steps) (w : World) (d : ℕ) (k : List ℕ) → S .showPairs (w .manager) (w .book) d [] [] (Shown 0) [] [] → ShowsPairs S w d (k ∷ []) → ⊥
 no-pair S w d k says h = apart (ap (λ (x : Told). x .number) (h [] [] (Shown 0) [] [] says .0)) refl
+
+-- a show of a pair, where the record has none
+pub a-pair : (S : Steps) (w : World) (d : ℕ) → S .showPairs (w .manager) (w .book) d [] [] (NotShown OutputTooShort) [] [] → ShowsPairs S w d [] → ⊥
+a-pair S w d says h = apart (ap (λ (x : Told). x .number) (h [] [] (NotShown OutputTooShort) [] [] says .0)) refl
 
 abbrev pub recordedPair : List ℕ
 recordedPair = 0 ∷ 0 ∷ []

@@ -17,6 +17,7 @@ pub mod Unpin
 pub mod Vacuum
 pub mod Standing
 pub mod Reopen
+pub mod Checkpoint
 pub mod Deletions
 pub mod Agree
 pub mod Through
@@ -24,6 +25,8 @@ pub mod Theorem
 pub mod Worked
 pub mod Events
 pub mod WrongManifests
+pub mod WrongCheckpoints
 pub mod WrongTables
 pub mod Wrong
 pub mod Story
+pub mod Either

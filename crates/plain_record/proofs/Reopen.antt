@@ -135,7 +135,7 @@ module _ (w : World) (r : Record) (i : Inv w r) (m : VersionManager) (b : PinBoo
       }
 
 -- the bytes of a run that was written over the start of a buffer
-written-first : (f out : List ℕ) → take (length f) (over f out) ≡ f
+pub written-first : (f out : List ℕ) → take (length f) (over f out) ≡ f
 written-first f out = append-taken f out (length f) (omega arith) ∙ take-all (length f) f (omega arith)
 
 module _ (w : World) (t : Told) (l : List (List ℕ)) (v : World) (out : List ℕ) (stale : Bool) (r : Record) (i : Inv w r) (d : DidReopen port w t l v out stale) where

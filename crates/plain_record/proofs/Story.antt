@@ -19,7 +19,7 @@ use Rattle.table.specs.Made.{deleteVectorOf, isOver, compactOperations}
 use Rattle.table.specs.Laws.{pairsWith, putAll}
 use Rattle.version_manager.specs.Managers.{heldBy}
 use Rattle.plain_record.specs.Sets.{Sets, applyAll}
-use Rattle.plain_record.specs.Calls.{Call, Kind, quiet, asCommit, asPin, asUnpin, asVacuum, asReopen, kindOf}
+use Rattle.plain_record.specs.Calls.{Call, Kind, quiet, asCommit, asPin, asUnpin, asVacuum, asCheckpoint, asReopen, kindOf}
 use Rattle.plain_record.specs.Plain.{Plain, epochOf, Record, atStart, turn}
 use Rattle.plain_record.specs.Run.{Steps, World, Event, isAccepted, value, port, Chain, lastOf}
 use Rattle.plain_record.specs.Shows.{ShowsPairs}
@@ -29,19 +29,19 @@ use Rattle.plain_record.proofs.CommitShows.{shows-now}
 
 -- Runs cut in two.
 
-chain-front : (S : Steps) (w : World) (es fs : List Event) → Chain S w (es ++ fs) → Chain S w es
+pub chain-front : (S : Steps) (w : World) (es fs : List Event) → Chain S w (es ++ fs) → Chain S w es
 chain-front S w [] fs k = tt
 chain-front S w (e ∷ es) fs k = (k .0, k .1, chain-front S (e .after) es fs (k .2))
 
-chain-back : (S : Steps) (w : World) (es fs : List Event) → Chain S w (es ++ fs) → Chain S (lastOf w es) fs
+pub chain-back : (S : Steps) (w : World) (es fs : List Event) → Chain S w (es ++ fs) → Chain S (lastOf w es) fs
 chain-back S w [] fs k = k
 chain-back S w (e ∷ es) fs k = chain-back S (e .after) es fs (k .2)
 
-last-append : (w : World) (es fs : List Event) → lastOf w (es ++ fs) ≡ lastOf (lastOf w es) fs
+pub last-append : (w : World) (es fs : List Event) → lastOf w (es ++ fs) ≡ lastOf (lastOf w es) fs
 last-append w [] fs = refl
 last-append w (e ∷ es) fs = last-append (e .after) es fs
 
-record-append : (r : Record) (es fs : List Event) → recordOf r (es ++ fs) ≡ recordOf (recordOf r es) fs
+pub record-append : (r : Record) (es fs : List Event) → recordOf r (es ++ fs) ≡ recordOf (recordOf r es) fs
 record-append r [] fs = refl
 record-append r (e ∷ es) fs = record-append (nextRecord r e) es fs
 
@@ -95,6 +95,7 @@ still-turn b z (asCommit made missing) true id r s h = clash s refl
 still-turn b z asPin true id r s h = settled b z r _ h refl refl
 still-turn b z (asUnpin e) true id r s h = settled b z r _ h refl refl
 still-turn b z asVacuum true id r s h = settled b z r _ h refl refl
+still-turn b z (asCheckpoint lent) true id r s h = settled b z r _ h refl refl
 still-turn b z (asReopen lent) true id r s h = clash s refl
 still-turn b z k false id r s h = record { whole = h .whole; landed = h .landed; torn = h .torn }
 

@@ -11,7 +11,7 @@ use Rattle.version_manager.proofs.Laws.{draw-laws}
 use Rattle.replay.specs.Replay.{reopened}
 use Rattle.recovery.proofs.Appending.{empty-holds, holds-replayed}
 use Rattle.plain_record.specs.Sets.{Sets, none}
-use Rattle.plain_record.specs.Calls.{Call, drawRowset, drawVector, group, lock, unlock, commit, create, drop, compact, pin, unpin, vacuum, reopen, kindOf}
+use Rattle.plain_record.specs.Calls.{Call, drawRowset, drawVector, group, lock, unlock, commit, create, drop, compact, pin, unpin, vacuum, checkpoint, reopen, kindOf}
 use Rattle.plain_record.specs.Plain.{Record, atStart}
 use Rattle.plain_record.specs.Plain.{start as plain-start}
 use Rattle.plain_record.specs.Run.{World, world, Event, value, port, LinkBy, Starts}
@@ -23,6 +23,7 @@ use Rattle.plain_record.proofs.Commit.{commit-keeps, create-keeps, drop
 use Rattle.plain_record.proofs.Pin.{pin-kept, pin-answers}
 use Rattle.plain_record.proofs.Unpin.{unpin-kept}
 use Rattle.plain_record.proofs.Vacuum.{vacuum-kept, vacuum-lists}
+use Rattle.plain_record.proofs.Checkpoint.{checkpoint-kept, checkpoint-accepted}
 use Rattle.plain_record.proofs.Reopen.{empty-book, reopen-keeps, reopen-accepted}
 use Rattle.plain_record.proofs.Through.{claimed}
 
@@ -77,6 +78,11 @@ turned (vacuum ts rs) e r i d =
     record {
       inv = vacuum-kept (e .before) r (e .told) (e .listed) (e .after) ts rs i d (value 0 (e .told));
       answer = vacuum-lists (e .before) r (e .told) (e .listed) (e .after) ts rs i d;
+    }
+turned (checkpoint out stale) e r i d =
+    record {
+      inv = checkpoint-kept (e .before) (e .told) (e .listed) (e .after) out stale r i d (value 0 (e .told));
+      answer = checkpoint-accepted (e .before) (e .told) (e .listed) (e .after) out stale r i d;
     }
 turned (reopen out stale) e r i d =
     record {

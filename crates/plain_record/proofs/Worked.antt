@@ -1,13 +1,13 @@
 -- The worked examples, by computing. Assumes nothing.
 use mathlib.Core.Path.{refl}
 use Rattle.text.specs.Class.{isDigit, isLower, isCapital, classOf}
-use Rattle.text.specs.Decimal.{readOn, readIn, readAt}
-use Rattle.manifest.specs.Lines.{fieldAt, twoFields, lineBy, lineOf}
+use Rattle.text.specs.Decimal.{digitsBy, digits, readOn, readIn, readAt}
+use Rattle.manifest.specs.Lines.{fieldAt, twoFields, threeFields, lineBy, lineOf, fieldsText, textOf}
 use Rattle.manifest.specs.Split.{linesOn, lines}
 use Rattle.plain_record.specs.Examples.{Examples}
 
 pub worked : Examples
-unfolding isDigit isLower isCapital classOf readOn readIn readAt fieldAt twoFields lineBy lineOf linesOn lines
+unfolding isDigit isLower isCapital classOf digitsBy digits readOn readIn readAt fieldAt twoFields threeFields lineBy lineOf fieldsText textOf linesOn lines
 worked =
     record {
       first = refl;
@@ -26,4 +26,6 @@ worked =
       zero = refl;
       told = refl;
       kept = refl;
+      undrawn = refl;
+      drawn = refl;
     }

@@ -38,8 +38,9 @@ use Rattle.plain_record.specs.Run.{Steps, World, Event, Chain}
 use Rattle.plain_record.specs.Claim.{Claim, Holds}
 use Rattle.plain_record.specs.Shows.{ShowsVectors}
 use Rattle.plain_record.specs.Wrong.{unchanged, keepsSets, unraised, leavesEpoch, unjudged, judgesNothing, unaware, forgetsWaiting, CommitLeaves, leavesPart, PinsNext, answersNext, PinsNothing, countsNoPin, PinsAnyway, countsRefused, UnpinsNothing, keepsPin, VacuumsTo, nothing, listsNothing, portBound, keepsListed, countsOneMore, loweredBound, keepsOwnEpoch, unguarded, ignoresPins, losesPairs, losesVectors, VacuumsAnyway, letsGoRefused, showsCurrent, showsCurrentVectors, refusesShow, Refuted, WrongRefuted}
-use Rattle.plain_record.proofs.Events.{apart, not-empty, holdsPairs, noTables, noPairs, noVectors, holdingAll, holding, few-all, few, unpinned, once, first, begun, drawn, drawnVector, appended, listedBy, draws, drawsVector, commits, pins, unpins, vacuums, commitRefused, pinRefused, vacuumRefused, begins, drew, drew-vector, committed, pinned, released, vacuumed, fresh-says, draw-says, draw-vector-says, adds, deletes, tables, pair, vectorOf, opsTAD, frameTAD, afterTAD, commitTAD, fits-TAD, says-TAD, on-TAD, opsNone, frameNone, afterNone, opsT, frameT, afterT, commitNone, commitT, says-none, no-table, a-table, recorded, opsTA, frameTA, afterTA, commitTA, says-TA, on-TA, opsTAV, frameTAV, afterTAV, commitTAV, says-TAV, frameD, no-pair, recordedPair}
+use Rattle.plain_record.proofs.Events.{apart, not-empty, holdsPairs, noTables, noPairs, noVectors, holdingAll, holding, few-all, few, unpinned, once, first, begun, drawn, drawnVector, appended, listedBy, draws, drawsVector, commits, pins, unpins, vacuums, commitRefused, pinRefused, vacuumRefused, begins, drew, drew-vector, committed, pinned, released, vacuumed, fresh-says, draw-says, draw-vector-says, adds, deletes, tables, pair, vectorOf, opsTAD, frameTAD, afterTAD, commitTAD, sweptTAD, fits-TAD, says-TAD, on-TAD, opsNone, frameNone, afterNone, opsT, frameT, afterT, commitNone, commitT, says-none, no-table, a-table, recorded, opsTA, frameTA, afterTA, commitTA, says-TA, on-TA, opsTAV, frameTAV, afterTAV, commitTAV, says-TAV, opsD, frameD, afterD, pinTA, commitD, pin-says-TA, says-D, on-D, no-pair, recordedPair}
 use Rattle.plain_record.proofs.WrongManifests.{opens-empty, reads-first, reads-to-room, counts-early, forgets-ids, appends-no-end, rewrites-no-end, refuses-reopen}
+use Rattle.plain_record.proofs.WrongCheckpoints.{writes-waiting, forgets-let-go, keeps-length, drops-older}
 use Rattle.plain_record.proofs.WrongTables.{forgets-pairs, reuses-id, creates-refused, leaves-rowsets, leaves-vectors, keeps-taken, appends-new-alone}
 
 -- a vacuum lists nothing
@@ -74,9 +75,6 @@ keeps-listed claim =
     true≢false (h .deletions .1 .0 refl refl .0 .0 refl .1 .0 .1)
 
 -- a vacuum lists the deletion, lets it go and answers 2
-abbrev sweptTAD : VersionManager
-sweptTAD = holding 1 1 1 tables noPairs 24
-
 more-says : VacuumsTo 1 portBound portBound portBound afterTAD unpinned (5 ∷ []) (5 ∷ []) (listedBy sweptTAD 2) (0 ∷ []) (0 ∷ [])
 unfolding rows isName isNameByte isDigit isLower goneAt shownAt
 more-says =
@@ -231,39 +229,6 @@ forgets-waiting claim =
     let h =
     on-TAD S claim fresh-says draw-says unaware-TAD (commits w opsAD afterAD 2 16 frameAD 0 ∷ []) (refl, committed S w opsAD afterAD 2 16 frameAD 0 unaware-AD, tt) in
     true≢false (sym (h .agrees .apart))
-
--- The rowset is added at epoch 1, epoch 1 is pinned, and the rowset is deleted at epoch 2.
-abbrev opsD : List Operation
-opsD = deletes ∷ []
-
-abbrev afterD : Rowsets → VersionManager
-afterD l = holding 2 1 1 tables l 28
-
-abbrev pinTA : Event
-pinTA = pins (commitTA .after) 1 once
-
-abbrev commitD : Event
-commitD = commits (pinTA .after) opsD (afterD (pair 1 2)) 2 10 frameD 0
-
-pin-says-TA : PinSays afterTA unpinned (Pinned 1) once
-unfolding rows isName isNameByte isDigit isLower goneAt shownAt
-pin-says-TA = record { answer = refl; book = record { fits = omega arith; pins = refl } }
-
-says-D : CommitSays afterTA (length opsD) opsD frameD (appended (afterD (pair 1 2)) 2 10) frameD
-unfolding rows stepOf textOf fieldsText digits digitsBy isName isNameByte isDigit isLower goneAt shownAt
-says-D = (refl, record { fits = few 2 1 1 tables (pair 1 2) 28 (omega arith) (omega arith); state = refl }, refl)
-
--- the claim of these calls and further ones, by a manager that draws, commits and pins as the port does
-module _ (S : Steps) (claim : Claim S) (fresh : S .fresh first) (draw : S .drawRowset (first .manager) drawn)
-    (add : S .commit (drawn .manager) (length opsTA) opsTA frameTA (appended afterTA 1 18) frameTA) (guard : S .pin afterTA unpinned (Pinned 1) once)
-    (delete : S .commit afterTA (length opsD) opsD frameD (appended (afterD (pair 1 2)) 2 10) frameD) where
-  on-D : (es : List Event) → Chain S (commitD .after) es → Holds S begun (draws ∷ commitTA ∷ pinTA ∷ commitD ∷ es)
-  on-D es c =
-      on-TA S claim fresh draw add (pinTA ∷ commitD ∷ es) (
-        refl,
-        pinned S (commitTA .after) 1 once guard,
-        (refl, committed S (pinTA .after) opsD (afterD (pair 1 2)) 2 10 frameD 0 delete, c),
-      )
 
 -- a vacuum ignores the pin
 fits-D : Fit (afterD noPairs .inner)
@@ -541,6 +506,10 @@ wrong-refuted =
       losesPairs = loses-pairs;
       losesVectors = loses-vectors;
       letsGoRefused = lets-go-refused;
+      writesWaiting = writes-waiting;
+      forgetsLetGo = forgets-let-go;
+      keepsLength = keeps-length;
+      dropsOlder = drops-older;
       opensEmpty = opens-empty;
       readsFirst = reads-first;
       readsToRoom = reads-to-room;

@@ -20,7 +20,7 @@ use Rattle.snapshot.specs.declared.rowsets.Rowsets.{Rowsets}
 use Rattle.snapshot.specs.declared.tables.Tables.{Tables}
 use Rattle.snapshot.specs.Entries.{goneAt, shownAt}
 use Rattle.operations.specs.Steps.{stepOf}
-use Rattle.table.specs.Laws.{Narrow}
+use Rattle.version_state.specs.Widths.{Narrow}
 use Rattle.compaction.specs.declared.NewRowset.{NewRowset}
 use Rattle.compaction.specs.declared.NewRowset.the-variants as new
 use Rattle.version_manager.specs.declared.VersionManager.{VersionManager}

@@ -29,7 +29,8 @@ pub data Call : Type 0 where
   unpin : ℕ → Call
   -- the lent slices for tables and rowsets
   vacuum : List ℕ → List ℕ → Call
-  -- the lent buffer, and whether the old manifest still stands where the next accepted call is again a reopen
+  -- the lent buffer, and whether the old manifest still stands where the next accepted call is a reopen
+  checkpoint : List ℕ → Bool → Call
   reopen : List ℕ → Bool → Call
 
 -- what a call is to the record
@@ -43,6 +44,7 @@ pub data Kind : Type 0 where
   asUnpin : ℕ → Kind
   asVacuum : Kind
   -- how many bytes are lent
+  asCheckpoint : ℕ → Kind
   asReopen : ℕ → Kind
 
 abbrev pub kindOf : Call → Kind
@@ -58,4 +60,5 @@ kindOf (compact t new taken out missing) = asCommit (λ id s. compactOperations 
 kindOf pin = asPin
 kindOf (unpin e) = asUnpin e
 kindOf (vacuum ts rs) = asVacuum
+kindOf (checkpoint out stale) = asCheckpoint (length out)
 kindOf (reopen out stale) = asReopen (length out)

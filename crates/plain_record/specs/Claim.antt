@@ -13,7 +13,7 @@ use Rattle.pins.specs.Book.{pinsOf}
 use Rattle.pins.specs.Guards.{guardsOf, mayShow, blocked}
 use Rattle.version_manager.specs.Managers.{heldBy}
 use Rattle.rewrite.specs.Rewritten.{longestRewritten}
-use Rattle.plain_record.specs.Calls.{Kind, quiet, asCommit, asPin, asUnpin, asVacuum, asReopen, kindOf}
+use Rattle.plain_record.specs.Calls.{Kind, quiet, asCommit, asPin, asUnpin, asVacuum, asCheckpoint, asReopen, kindOf}
 use Rattle.plain_record.specs.Plain.{Waiting, Id, tableId, rowsetId, vectorId, Plain, epochOf, setsAt, deletions, guardsIn, listed, Record, atStart, turn}
 use Rattle.plain_record.specs.Run.{Steps, World, Event, isAccepted, value, Chain, lastOf, Starts}
 use Rattle.plain_record.specs.Shows.{ShowsTables, ShowsPairs, ShowsVectors}
@@ -52,6 +52,8 @@ pub record Agrees (S : Steps) (w : World) (p : Plain) : Type 0 where
   pub apart : differ (pairsOf (p .waiting)) ≡ true
   -- next ids exceed every id that a counted commit added
   pub next : allOf (belowNext (heldBy (w .manager))) (p .added) ≡ true
+  -- the manager's manifest length is the file's
+  pub manifest : heldBy (w .manager) .manifest ≡ length (w .file)
 
 -- each answer, where the record was r before the call
 abbrev pub AnswerBy : Record → Event → Kind → Type 0
@@ -62,7 +64,8 @@ AnswerBy r e asPin = isAccepted (e .told) ≡ true → value 0 (e .told) ≡ epo
 AnswerBy r e (asUnpin d) = Unit {0}
 -- an accepted vacuum lists what the record lists, in its order, and answers how many these are
 AnswerBy r e asVacuum = isAccepted (e .told) ≡ true → (e .listed ≡ pairsOf (listed (r .whole))) × (value 0 (e .told) ≡ length (e .listed))
--- a reopen that is lent enough is never refused
+-- a checkpoint or a reopen that is lent enough is never refused
+AnswerBy r e (asCheckpoint lent) = longestRewritten ≤ lent → isAccepted (e .told) ≡ true
 AnswerBy r e (asReopen lent) = longestRewritten ≤ lent → isAccepted (e .told) ≡ true
 
 -- the id that a create answers is its answer's first value; no other call's operations look at it
@@ -85,6 +88,7 @@ isVacuum (asCommit made missing) = false
 isVacuum asPin = false
 isVacuum (asUnpin e) = false
 isVacuum asVacuum = true
+isVacuum (asCheckpoint lent) = false
 isVacuum (asReopen lent) = false
 
 abbrev pub isReopen : Kind → Bool
@@ -93,6 +97,7 @@ isReopen (asCommit made missing) = false
 isReopen asPin = false
 isReopen (asUnpin e) = false
 isReopen asVacuum = false
+isReopen (asCheckpoint lent) = false
 isReopen (asReopen lent) = true
 
 -- an accepted vacuum, and one that meets no guarded epoch before w's
@@ -144,6 +149,7 @@ deletionsBy r id (asCommit made missing) = deletions (r .place) (epochOf (r .who
 deletionsBy r id asPin = []
 deletionsBy r id (asUnpin e) = []
 deletionsBy r id asVacuum = []
+deletionsBy r id (asCheckpoint lent) = []
 deletionsBy r id (asReopen lent) = []
 
 abbrev pub EachListed : List Waiting → Record → List Event → Type 0

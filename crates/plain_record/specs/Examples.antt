@@ -12,6 +12,11 @@ use Rattle.manifest.specs.Edits.{table}
 use Rattle.pins.specs.Book.{placeOn}
 use Rattle.pins.specs.Guards.{guardsBy, blocked}
 use Rattle.pins.specs.Counts.{pinsOn}
+use Rattle.ids.specs.Results.{given}
+use Rattle.version_state.specs.State.{start, withNext, withEpoch}
+use Rattle.version_manager.specs.Draw.{rowsetDrawn}
+use Rattle.rewrite.specs.Rewritten.{rewrittenOf}
+use Rattle.replay.specs.Replay.{reopened, replayOf}
 use Rattle.plain_record.specs.Sets.{none, itself, sets}
 use Rattle.plain_record.specs.Calls.{Call, commit, pin, reopen, kindOf}
 use Rattle.plain_record.specs.Plain.{waitingAs, byEpochAndPair, plain, tableId, rowsetId, onePin, oneLess, listed, Record, atStart, turn}
@@ -63,3 +68,6 @@ pub record Examples : Type 0 where
   pub told : recordAfter again atStart .whole
       ≡ plain (none ∷ sets (table 0 7 name ∷ []) (pair ∷ []) [] ∷ []) (sets (table 0 7 name ∷ []) [] []) (pinsOn (placeOn 1) 1 ∷ []) (waitingAs 2 pair 4 0 ∷ []) (tableId 0 ∷ rowsetId 0 ∷ [])
   pub kept : listed (recordAfter again atStart .whole) ≡ []
+  -- a draw and a checkpoint: from the old manifest the same rowset id would be drawn again, from the new one the id after it
+  pub undrawn : replayOf [] ≡ given (withNext (withEpoch start reopened 0) 0 0 0)
+  pub drawn : replayOf (rewrittenOf (rowsetDrawn start)) ≡ given (withNext (withEpoch start reopened 0) 0 1 0)

@@ -8,3 +8,4 @@ pub mod Claim
 pub mod Examples
 pub mod Wrong
 pub mod Story
+pub mod Either

@@ -11,7 +11,7 @@ use Rattle.pins.specs.Book.{PinEntry, placeOn, placeKey, byPlace}
 use Rattle.pins.specs.Guards.{Guards, guardsBy, blocked}
 use Rattle.pins.specs.Counts.{pinsOn, pinsAt}
 use Rattle.plain_record.specs.Sets.{Sets, none, applyAll}
-use Rattle.plain_record.specs.Calls.{Kind, quiet, asCommit, asPin, asUnpin, asVacuum, asReopen}
+use Rattle.plain_record.specs.Calls.{Kind, quiet, asCommit, asPin, asUnpin, asVacuum, asCheckpoint, asReopen}
 
 -- a deletion that waits, told apart from every other by the place of its commit in the list and of its operation in the commit
 pub record Waiting : Type 0 where
@@ -144,6 +144,7 @@ accepts (asCommit made missing) id r = counts (made id (r .whole .now)) missing 
 accepts asPin id r = landed (withPins (onePin (epochOf (r .whole)) (r .whole .pinned)) (r .whole)) r
 accepts (asUnpin e) id r = landed (withPins (oneLess e (r .whole .pinned)) (r .whole)) r
 accepts asVacuum id r = landed (swept (r .whole)) r
+accepts (asCheckpoint lent) id r = landed (r .whole) r
 accepts (asReopen lent) id r = landed (kept (r .torn)) r
 
 -- a refused call changes nothing

@@ -11,9 +11,9 @@ use Rattle.ids.specs.Answers.{Told}
 use Rattle.ids.specs.Answers as answers
 use Rattle.manifest.specs.Operations.{Operation, batchOf}
 use Rattle.manifest.specs.declared.operation.Batch.{Batch}
+use Rattle.version_state.specs.Widths.{Narrow}
 use Rattle.pins.specs.declared.PinBook.{PinBook}
 use Rattle.show.specs.declared.ShowAnswer.{ShowAnswer}
-use Rattle.table.specs.Laws.{Narrow}
 use Rattle.compaction.specs.declared.NewRowset.{NewRowset}
 use Rattle.compaction.specs.New.{newOf}
 use Rattle.version_manager.specs.declared.VersionManager.{VersionManager}
@@ -26,6 +26,7 @@ use Rattle.version_manager.specs.declared.Locked.{Locked}
 use Rattle.version_manager.specs.declared.Committed.{Committed}
 use Rattle.version_manager.specs.declared.Created.{Created}
 use Rattle.version_manager.specs.declared.Vacuumed.{Vacuumed}
+use Rattle.version_manager.specs.declared.Checkpointed.{Checkpointed}
 use Rattle.version_manager.specs.Managers.{heldBy, FreshSays}
 use Rattle.version_manager.specs.Draw.{rowsetTold, vectorTold, DrawRowsetSays, DrawVectorSays}
 use Rattle.version_manager.specs.Group.{groupTold, GroupSays}
@@ -35,13 +36,14 @@ use Rattle.version_manager.specs.Create.{createTold, CreateSays}
 use Rattle.version_manager.specs.Drop.{DropSays}
 use Rattle.version_manager.specs.Compact.{CompactSays}
 use Rattle.version_manager.specs.Vacuum.{vacuumTold, VacuumSays}
+use Rattle.version_manager.specs.Checkpoint.{checkpointTold, CheckpointSays}
 use Rattle.version_manager.specs.Show.{ShowTablesSays, ShowPairsSays, ShowVectorsSays}
 use Rattle.pinning.specs.declared.PinAnswer.{PinAnswer}
 use Rattle.pinning.specs.declared.UnpinAnswer.{UnpinAnswer}
 use Rattle.pinning.specs.Says.{pinTold, unpinTold, PinSays, UnpinSays}
 use Rattle.storage.specs.declared.Reopened.{Reopened}
 use Rattle.storage.specs.Reopen.{reopenTold, ReopenSays}
-use Rattle.plain_record.specs.Calls.{Call, drawRowset, drawVector, group, lock, unlock, commit, create, drop, compact, pin, unpin, vacuum, reopen}
+use Rattle.plain_record.specs.Calls.{Call, drawRowset, drawVector, group, lock, unlock, commit, create, drop, compact, pin, unpin, vacuum, checkpoint, reopen}
 
 -- what each entry point may return and leave
 pub record Steps : Type 1 where
@@ -58,6 +60,7 @@ pub record Steps : Type 1 where
   pub pin : VersionManager → PinBook → PinAnswer → PinBook → Type 0
   pub unpin : VersionManager → ℕ → PinBook → UnpinAnswer → PinBook → Type 0
   pub vacuum : VersionManager → PinBook → List ℕ → List ℕ → Vacuumed → List ℕ → List ℕ → Type 0
+  pub checkpoint : VersionManager → List ℕ → Checkpointed → List ℕ → Type 0
   pub reopen : List ℕ → List ℕ → Reopened → List ℕ → Type 0
   pub showTables : VersionManager → PinBook → ℕ → List ℕ → List ℕ → List ℕ → List ℕ → ShowAnswer → List ℕ → List ℕ → List ℕ → List ℕ → Type 0
   pub showPairs : VersionManager → PinBook → ℕ → List ℕ → List ℕ → ShowAnswer → List ℕ → List ℕ → Type 0
@@ -80,6 +83,7 @@ port =
       pin = PinSays;
       unpin = UnpinSays;
       vacuum = VacuumSays;
+      checkpoint = CheckpointSays;
       reopen = ReopenSays;
       showTables = ShowTablesSays;
       showPairs = ShowPairsSays;
@@ -123,6 +127,11 @@ afterCommit m t n out missing w =
 -- a rewritten manifest replaces the old one whole; only where the next accepted call is a reopen may the old one still stand
 abbrev pub replaced : VersionManager → PinBook → List ℕ → List ℕ → Bool → World
 replaced m b old new stale = world m b new (cond stale old new)
+
+-- a checkpoint replaces the manifest on which everything had landed
+abbrev pub afterCheckpoint : VersionManager → Told → List ℕ → Bool → World → World
+afterCheckpoint m t out stale w =
+    cond (isAccepted t) (replaced m (w .book) (w .file) (take (value 0 t) out) stale) (world m (w .book) (w .file) (w .torn))
 
 -- a reopen replaces the manifest that it read; a refused one hands nothing on
 abbrev pub afterReopen : VersionManager → PinBook → Told → List ℕ → Bool → World → World
@@ -240,6 +249,15 @@ module _ (S : Steps) (w : World) (t : Told) (l : List (List ℕ)) (v : World) wh
     pub listed : l ≡ listedIf t tables rowsets
     pub after : v ≡ onward (result .manager) (w .book) t w
 
+  pub record DidCheckpoint (out : List ℕ) (stale : Bool) : Type 0 where
+    pub narrow : Narrow (heldBy (w .manager))
+    pub result : Checkpointed
+    pub left : List ℕ
+    pub says : S .checkpoint (w .manager) out result left
+    pub told : t ≡ checkpointTold (result .answer)
+    pub none : l ≡ []
+    pub after : v ≡ afterCheckpoint (result .manager) t left stale w
+
   -- it reads what then stands
   pub record DidReopen (out : List ℕ) (stale : Bool) : Type 0 where
     pub result : Reopened
@@ -262,6 +280,7 @@ module _ (S : Steps) (w : World) (t : Told) (l : List (List ℕ)) (v : World) wh
   LinkBy pin = DidPin
   LinkBy (unpin e) = DidUnpin e
   LinkBy (vacuum ts rs) = DidVacuum ts rs
+  LinkBy (checkpoint out stale) = DidCheckpoint out stale
   LinkBy (reopen out stale) = DidReopen out stale
 
 abbrev pub Link : Steps → Event → Type 0

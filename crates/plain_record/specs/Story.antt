@@ -10,7 +10,7 @@ use Rattle.compaction.specs.New.{newOf}
 use Rattle.table.specs.Laws.{pairsWith, putAll}
 use Rattle.version_manager.specs.Managers.{heldBy}
 use Rattle.replay.specs.Replay.{reopened}
-use Rattle.plain_record.specs.Calls.{compact, reopen, Kind, quiet, asCommit, asPin, asUnpin, asVacuum, asReopen, kindOf}
+use Rattle.plain_record.specs.Calls.{compact, reopen, Kind, quiet, asCommit, asPin, asUnpin, asVacuum, asCheckpoint, asReopen, kindOf}
 use Rattle.plain_record.specs.Run.{Steps, World, Event, isAccepted, Chain, Starts}
 use Rattle.plain_record.specs.Shows.{ShowsPairs}
 
@@ -25,6 +25,7 @@ isStill (asCommit made missing) = false
 isStill asPin = true
 isStill (asUnpin e) = true
 isStill asVacuum = true
+isStill (asCheckpoint lent) = true
 isStill (asReopen lent) = false
 
 -- refused calls commit nothing

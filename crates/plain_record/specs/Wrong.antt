@@ -2,12 +2,13 @@
 use mathlib.Core.Path.{_≡_}
 use mathlib.Core.Bool.{true, cond}
 use mathlib.Core.List.{List, [], _∷_, _++_, map}
-use Prim.Native.Nat.{ℕ, _+_, _-_, _≤_}
+use Prim.Native.Nat.{ℕ, _+_, _-_, _≤_, max}
 use lib.ListN.{length, take}
 use Rattle.lists.specs.Order.{same}
 use Rattle.lists.specs.Keyed.{keep}
 use Rattle.lists.specs.Written.{over}
 use Rattle.text.specs.Class.{newline}
+use Rattle.ids.specs.Ids.{next}
 use Rattle.ids.specs.declared.TableNo.{TableNo}
 use Rattle.ids.specs.declared.refusal.Refusal.the-variants.{BadManager, EpochNotPinned, OutputTooShort}
 use Rattle.ids.specs.declared.refusal.Verdict.{Verdict}
@@ -18,8 +19,9 @@ use Rattle.ids.specs.Results.{Result, refused, given, andThen, onward}
 use Rattle.manifest.specs.Operations.{Operation, end}
 use Rattle.manifest.specs.Lines.{lineText}
 use Rattle.manifest.specs.Split.{restOn, lines, joined}
-use Rattle.snapshot.specs.Entries.{Entry, field, waits}
+use Rattle.snapshot.specs.Entries.{Entry, byIds, shownBy, field, waits}
 use Rattle.version_state.specs.State.{State, withTables, withPairs, withVectors, withNext, withEpoch, vectorsAt}
+use Rattle.version_state.specs.Sets.{sets, unlocked, setsOf, nextOf}
 use Rattle.pins.specs.declared.PinBook.{PinBook}
 use Rattle.pins.specs.Book.{PinEntry, pinsOf, placeOn, Keeps}
 use Rattle.pins.specs.Guards.{guardsBy, bound}
@@ -39,6 +41,7 @@ use Rattle.version_manager.specs.declared.Locked.{Locked}
 use Rattle.version_manager.specs.declared.Committed.{Committed}
 use Rattle.version_manager.specs.declared.Created.{Created}
 use Rattle.version_manager.specs.declared.Vacuumed.{Vacuumed}
+use Rattle.version_manager.specs.declared.Checkpointed.{Checkpointed}
 use Rattle.version_manager.specs.Managers.{heldBy, badManager, Manages, HandsBack}
 use Rattle.version_manager.specs.Commit.{outcomeOf, commitTold, CommitEnds}
 use Rattle.version_manager.specs.Lock.{lockVerdict}
@@ -46,25 +49,26 @@ use Rattle.version_manager.specs.Create.{createVerdict, createTold}
 use Rattle.version_manager.specs.Drop.{dropVerdict}
 use Rattle.version_manager.specs.Compact.{compactVerdict}
 use Rattle.version_manager.specs.Vacuum.{vacuumTold, vacuumVerdict}
+use Rattle.version_manager.specs.Checkpoint.{checkpointTold, checkpointVerdict}
 use Rattle.version_manager.specs.Show.{ShowPairsSays, ShowVectorsSays}
 use Rattle.pinning.specs.declared.PinAnswer.{PinAnswer}
 use Rattle.pinning.specs.declared.UnpinAnswer.{UnpinAnswer}
 use Rattle.pinning.specs.Says.{current, BookAfter, pinVerdict, pinTold, unpinVerdict, isDue, flag, unpinTold, readyOf}
 use Rattle.replay.specs.Replay.{stands, replayOf}
-use Rattle.rewrite.specs.Rewritten.{rewrittenOf}
+use Rattle.rewrite.specs.Rewritten.{writtenOf, rewrittenOf}
 use Rattle.storage.specs.declared.Reopened.{Reopened}
 use Rattle.storage.specs.Reopen.{openedOf, reopenOf, reopenTold, ReopenIs, ReopenSays}
 use Rattle.plain_record.specs.Run.{Steps, port}
 use Rattle.plain_record.specs.Claim.{Claim}
-open Steps port using (lock, commit, create, drop, compact, pin, unpin, vacuum, reopen, showTables, showPairs, showVectors)
+open Steps port using (lock, commit, create, drop, compact, pin, unpin, vacuum, checkpoint, reopen, showTables, showPairs, showVectors)
 
 -- what may stand in the place of a call's contract
 abbrev pub Like : {A : Type 1} → A → Type 1
 Like {A} says = A
 
 -- the port with these calls in place of its own
-abbrev pub exchanged : Like lock → Like commit → Like create → Like drop → Like compact → Like pin → Like unpin → Like vacuum → Like reopen → Like showTables → Like showPairs → Like showVectors → Steps
-exchanged lock commit create drop compact pin unpin vacuum reopen showTables showPairs showVectors =
+abbrev pub exchanged : Like lock → Like commit → Like create → Like drop → Like compact → Like pin → Like unpin → Like vacuum → Like checkpoint → Like reopen → Like showTables → Like showPairs → Like showVectors → Steps
+exchanged lock commit create drop compact pin unpin vacuum checkpoint reopen showTables showPairs showVectors =
     record {
       fresh = port .fresh;
       drawRowset = port .drawRowset;
@@ -79,6 +83,7 @@ exchanged lock commit create drop compact pin unpin vacuum reopen showTables sho
       pin = pin;
       unpin = unpin;
       vacuum = vacuum;
+      checkpoint = checkpoint;
       reopen = reopen;
       showTables = showTables;
       showPairs = showPairs;
@@ -87,34 +92,37 @@ exchanged lock commit create drop compact pin unpin vacuum reopen showTables sho
 
 -- with one of them
 abbrev pub locking : Like lock → Steps
-locking f = exchanged f commit create drop compact pin unpin vacuum reopen showTables showPairs showVectors
+locking f = exchanged f commit create drop compact pin unpin vacuum checkpoint reopen showTables showPairs showVectors
 
 abbrev pub committing : Like commit → Steps
-committing f = exchanged lock f create drop compact pin unpin vacuum reopen showTables showPairs showVectors
+committing f = exchanged lock f create drop compact pin unpin vacuum checkpoint reopen showTables showPairs showVectors
 
 abbrev pub creating : Like create → Steps
-creating f = exchanged lock commit f drop compact pin unpin vacuum reopen showTables showPairs showVectors
+creating f = exchanged lock commit f drop compact pin unpin vacuum checkpoint reopen showTables showPairs showVectors
 
 abbrev pub dropping : Like drop → Steps
-dropping f = exchanged lock commit create f compact pin unpin vacuum reopen showTables showPairs showVectors
+dropping f = exchanged lock commit create f compact pin unpin vacuum checkpoint reopen showTables showPairs showVectors
 
 abbrev pub compacting : Like compact → Steps
-compacting f = exchanged lock commit create drop f pin unpin vacuum reopen showTables showPairs showVectors
+compacting f = exchanged lock commit create drop f pin unpin vacuum checkpoint reopen showTables showPairs showVectors
 
 abbrev pub pinning : Like pin → Steps
-pinning f = exchanged lock commit create drop compact f unpin vacuum reopen showTables showPairs showVectors
+pinning f = exchanged lock commit create drop compact f unpin vacuum checkpoint reopen showTables showPairs showVectors
 
 abbrev pub unpinning : Like unpin → Steps
-unpinning f = exchanged lock commit create drop compact pin f vacuum reopen showTables showPairs showVectors
+unpinning f = exchanged lock commit create drop compact pin f vacuum checkpoint reopen showTables showPairs showVectors
 
 abbrev pub vacuuming : Like vacuum → Steps
-vacuuming f = exchanged lock commit create drop compact pin unpin f reopen showTables showPairs showVectors
+vacuuming f = exchanged lock commit create drop compact pin unpin f checkpoint reopen showTables showPairs showVectors
+
+abbrev pub checkpointing : Like checkpoint → Steps
+checkpointing f = exchanged lock commit create drop compact pin unpin vacuum f reopen showTables showPairs showVectors
 
 abbrev pub reopening : Like reopen → Steps
-reopening f = exchanged lock commit create drop compact pin unpin vacuum f showTables showPairs showVectors
+reopening f = exchanged lock commit create drop compact pin unpin vacuum checkpoint f showTables showPairs showVectors
 
 abbrev pub showing : Like showTables → Like showPairs → Like showVectors → Steps
-showing t s x = exchanged lock commit create drop compact pin unpin vacuum reopen t s x
+showing t s x = exchanged lock commit create drop compact pin unpin vacuum checkpoint reopen t s x
 
 -- an accepted lock forgets the pairs
 pub record LocksForgetting (m : VersionManager) (t : TableNo) (r : Locked) : Type 0 where
@@ -338,6 +346,45 @@ pub record VacuumsAnyway (m : VersionManager) (b : PinBook) (ts rs : List ℕ) (
 abbrev pub letsGoRefused : Steps
 letsGoRefused = vacuuming VacuumsAnyway
 
+-- a checkpoint under the port's verdict: it writes what `written` makes of the state, and hands back what `left` makes of it
+pub record ChecksBy (written : State → List ℕ) (left : State → State) (m : VersionManager) (out : List ℕ) (r : Checkpointed) (out′ : List ℕ) : Type 0 where
+  pub answer : checkpointTold (r .answer) ≡ told (checkpointVerdict m (length out)) (length (written (heldBy m)) ∷ [])
+  pub bytes : out′ ≡ after (checkpointVerdict m (length out)) (over (written (heldBy m)) out) out
+  pub manager : HandsBack (checkpointVerdict m (length out)) m (left (heldBy m)) (r .manager)
+
+-- the state, with a manifest of so many bytes
+abbrev pub withLength : (State → List ℕ) → State → State
+withLength written s = withEpoch s (s .epoch) (length (written s))
+
+-- it writes what waits, too
+abbrev pub allHeld : State → List ℕ
+allHeld s = writtenOf (nextOf s) (sets (map unlocked (s .tables)) (map byIds (s .pairs)) (map byIds (s .vectors)))
+
+abbrev pub writesWaiting : Steps
+writesWaiting = checkpointing (ChecksBy allHeld (withLength allHeld))
+
+-- its `N` is past the ids that are held, and not past those that were let go
+abbrev pub past : List ℕ → ℕ
+past [] = 0
+past (n ∷ l) = max (n + 1) (past l)
+
+abbrev pub pastHeld : State → List ℕ
+pastHeld s = writtenOf (next (past (map (λ t. t .table) (s .tables))) (past (field 1 (s .pairs))) (past (field 2 (s .vectors)))) (setsOf s)
+
+abbrev pub forgetsLetGo : Steps
+forgetsLetGo = checkpointing (ChecksBy pastHeld (withLength pastHeld))
+
+-- it leaves the manifest's length
+abbrev pub keepsLength : Steps
+keepsLength = checkpointing (ChecksBy rewrittenOf (λ s. s))
+
+-- it keeps what is shown now, and drops what older epochs show
+abbrev pub onlyNow : State → State
+onlyNow s = withVectors (withPairs s (keep (shownBy (s .epoch)) (s .pairs))) (keep (shownBy (s .epoch)) (s .vectors))
+
+abbrev pub dropsOlder : Steps
+dropsOlder = checkpointing (ChecksBy rewrittenOf (λ s. withLength rewrittenOf (onlyNow s)))
+
 -- a reopen finds nothing in any manifest
 abbrev pub opensEmpty : Steps
 opensEmpty = reopening (λ src. ReopenSays [])
@@ -432,6 +479,10 @@ pub record WrongRefuted : Type 0 where
   pub losesPairs : Refuted losesPairs
   pub losesVectors : Refuted losesVectors
   pub letsGoRefused : Refuted letsGoRefused
+  pub writesWaiting : Refuted writesWaiting
+  pub forgetsLetGo : Refuted forgetsLetGo
+  pub keepsLength : Refuted keepsLength
+  pub dropsOlder : Refuted dropsOlder
   pub opensEmpty : Refuted opensEmpty
   pub readsFirst : Refuted readsFirst
   pub readsToRoom : Refuted readsToRoom

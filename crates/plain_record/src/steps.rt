@@ -10,6 +10,7 @@ use pins::PinBook;
 use show::ShowAnswer;
 use storage::Reopened;
 use transaction::Handles;
+use version_manager::Checkpointed;
 use version_manager::Committed;
 use version_manager::Created;
 use version_manager::DrawnRowset;
@@ -127,6 +128,12 @@ pub fn vacuum(
     ensures { λ r. ⌜ port .vacuum manager book (now (tables .entry)) (now (rowsets .entry)) r (now (tables .exit)) (now (rowsets .exit)) ⌝ }
 {
     manager.vacuum(book, tables, rowsets)
+}
+
+pub fn checkpoint(manager: VersionManager, out: &mut [u8]) -> Checkpointed
+    ensures { λ r. ⌜ port .checkpoint manager (now (out .entry)) r (now (out .exit)) ⌝ }
+{
+    manager.checkpoint(out)
 }
 
 pub fn reopen(src: &[u8], out: &mut [u8]) -> Reopened

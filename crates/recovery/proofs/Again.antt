@@ -4,6 +4,7 @@ use mathlib.Core.Bool.{Bool, true, false, not}
 use mathlib.Core.List.{List, [], _∷_, _++_, map, map-map, map-id}
 use Prim.Native.Nat.{ℕ, _+_, _≤_}
 use native.Mathlib.Omega.{arith}
+use lib.Dec.{leb}
 use lib.ListN.{length, take, length-append, length-map}
 use borrow.Author.Tests.{le-ltb}
 use Rattle.lists.specs.Keyed.{keep, allOf, isAt, has}
@@ -19,19 +20,20 @@ use Rattle.snapshot.specs.Entries.{Entry, addedAt, byIds, goneAt, shownAt, show
 use Rattle.snapshot.specs.Tables.{TableEntry, byTable}
 use Rattle.version_state.specs.declared.VersionManagerInner.{VersionManagerInner}
 use Rattle.version_state.specs.State.{State, start, withTables, withPairs, withVectors, withEpoch, stateOf}
-use Rattle.ids.specs.Ids.{Next}
+use Rattle.ids.specs.Ids.{largest32, Next}
 use Rattle.version_state.specs.Sets.{Sets, sets, unlocked, setsOf, nextOf}
+use Rattle.version_state.specs.Widths.{Narrow, Widths}
 use Rattle.version_state.specs.Sound.{hasTable, hasRowset, badInner}
 use Rattle.rewrite.specs.Rewritten.{createOf, addOf, addVectorOf, rewriteOf, writtenOf, rewrittenOf, longestRewritten}
 use Rattle.rewrite.proofs.Room.{rewritten-fits}
 use Rattle.replay.specs.Replay.{none, carried, reopened, atStart, stands, settled, overLimit, linesRead, tableless, withoutOrphans, replayOf}
-use Rattle.recovery.specs.Rewritable.{Rewritable, Widths, madeOf, namesDiffer}
+use Rattle.recovery.specs.Rewritable.{Rewritable, madeOf, namesDiffer}
 use Rattle.recovery.specs.Holds.{Holds}
 use Rattle.recovery.proofs.Framed.{frame-lines, rest-frame}
 use Rattle.recovery.proofs.Reading.{saidRead, said-read, whole-append}
 use Rattle.recovery.proofs.Owned.{allOf-map}
-use Rattle.recovery.proofs.SoundReading.{Whole, whole-replayed}
-use Rattle.recovery.proofs.SoundSets.{all-with, passes-rewritable, manager-passes}
+use Rattle.recovery.proofs.SoundReading.{Whole, whole-held, whole-replayed}
+use Rattle.recovery.proofs.SoundSets.{all-with, Passes, passes-rewritable, differ-unlocked, manager-passes}
 use Rattle.recovery.proofs.Sound.{standing, pairs-shown, vectors-shown, whole-passes}
 use Rattle.recovery.proofs.AgainBuilt.{Leads, rewrite-leads}
 use Rattle.operations.specs.Effect.{appliedAll}
@@ -124,6 +126,23 @@ module _ (n : Next) (z : Sets) (r : Rewritable n z) where
 -- Of an open manager.
 pub manager-rewritable : (m : VersionManagerInner) → badInner m ≡ false → Widths (stateOf m) → namesDiffer (stateOf m .tables) ≡ true → Rewritable (nextOf (stateOf m)) (setsOf (stateOf m))
 manager-rewritable m g w d = passes-rewritable (stateOf m) (manager-passes m g w d)
+
+-- The same where its manifest holds s: names and shapes are then those of s.
+module _ (src : List ℕ) (s : State) (m : VersionManagerInner) (h : Holds src s) (k : setsOf (stateOf m) ≡ setsOf s) (g : badInner m ≡ false) (n : Narrow (stateOf m)) where
+  passes : Passes s
+  passes = whole-passes s (whole-held src s h)
+
+  same-tables : {A : Type 0} (f : List TableEntry → A) → ((l : List TableEntry) → f (map unlocked l) ≡ f l) → f (stateOf m .tables) ≡ f (s .tables)
+  same-tables f q = sym (q (stateOf m .tables)) ∙ ap (λ (z : Sets). f (z .tables)) k ∙ q (s .tables)
+
+  abbrev narrow-shape : TableEntry → Bool
+  narrow-shape t = leb (t .shape) largest32
+
+  pub held-rewritable : Rewritable (nextOf (stateOf m)) (setsOf (stateOf m))
+  held-rewritable =
+      manager-rewritable m g
+      (record { next = n; shapes = same-tables (allOf narrow-shape) (allOf-map unlocked narrow-shape narrow-shape (λ t. refl)) ∙ passes .widths .shapes })
+      (same-tables namesDiffer differ-unlocked ∙ passes .differ)
 
 -- Of what a replay gives: it is what is made of its next ids and sets.
 map-same : {A : Type 0} (f : A → A) (l : List A) → All (λ x. f x ≡ x) l → map f l ≡ l

@@ -17,7 +17,8 @@ use Rattle.frames.specs.Frames.{frameOf}
 use Rattle.version_state.specs.declared.VersionManagerInner.{VersionManagerInner}
 use Rattle.version_state.specs.State.{State, start, withEpoch, stateOf}
 use Rattle.ids.specs.Ids.{Next}
-use Rattle.version_state.specs.Sets.{Sets, setsOf}
+use Rattle.version_state.specs.Sets.{Sets, setsOf, nextOf}
+use Rattle.version_state.specs.Widths.{Narrow}
 use Rattle.version_state.specs.Sound.{badInner}
 use Rattle.version_state.proofs.Facts.{sound-of}
 use Rattle.commit.specs.Commit.{commitOf}
@@ -25,13 +26,14 @@ use Rattle.commit.proofs.Sounds.{Accepts, accepts}
 use Rattle.rewrite.specs.Rewritten.{writtenOf}
 use Rattle.replay.specs.Replay.{none, Carried, carried, reopened, atStart, linesRead, finished, linesReplayed, replayOf}
 use Rattle.recovery.specs.Rewritable.{Rewritable, madeOf}
-use Rattle.recovery.specs.Holds.{Holds, followed, Appended, first, rewritten, committed, other}
+use Rattle.recovery.specs.Holds.{Holds, followed, Appended, first, rewritten, checkpointed, committed, other}
+use Rattle.recovery.specs.Laws.{Replaces}
 use Rattle.recovery.proofs.Reading.{saidRead, said-read, read-append, whole-append, torn-append}
 use Rattle.recovery.proofs.Framed.{frame-lines, rest-frame, torn-lines}
 use Rattle.recovery.proofs.Replays.{holds-read, sets-settled}
 use Rattle.recovery.proofs.Besides.{Went, beside-start, beside-steps}
 use Rattle.recovery.proofs.Owned.{none-tableless, none-orphaned, none-over}
-use Rattle.recovery.proofs.Again.{rewritten-holds, rewritten-room, replay-again}
+use Rattle.recovery.proofs.Again.{made-same, rewritten-holds, rewritten-room, held-rewritable, replay-again}
 use Rattle.operations.specs.Effect.{appliedAll}
 
 pub empty-holds : Holds [] (withEpoch start reopened 0)
@@ -52,6 +54,19 @@ holds-replayed src s h q =
 
 pub rewritten-replayed : (n : Next) (z : Sets) → Rewritable n z → replayOf (writtenOf n z) ≡ given (madeOf n z)
 rewritten-replayed n z r = holds-replayed (writtenOf n z) (madeOf n z) (rewritten-holds n z r) (omega (arith, rewritten-room n z r))
+
+-- the manifest of a checkpoint by a manager that shows what its manifest holds
+pub replaces : (src : List ℕ) (s : State) (m : VersionManagerInner) → Holds src s → setsOf (stateOf m) ≡ setsOf s → badInner m ≡ false → Narrow (stateOf m) → Replaces s m
+replaces src s m h k g n =
+    let r = held-rewritable src s m h k g n in
+    record {
+      state = madeOf (nextOf (stateOf m)) (setsOf (stateOf m));
+      holds = rewritten-holds (nextOf (stateOf m)) (setsOf (stateOf m)) r;
+      replayed = rewritten-replayed (nextOf (stateOf m)) (setsOf (stateOf m)) r;
+      room = rewritten-room (nextOf (stateOf m)) (setsOf (stateOf m)) r;
+      sets = made-same (stateOf m) ∙ k;
+      next = refl;
+    }
 
 -- lines after those that are read to s
 module _ (src more : List ℕ) (s : State) (h : Holds src s) where
@@ -118,6 +133,10 @@ pub record Held (src : List ℕ) (m : VersionManagerInner) : Type 0 where
 held : (src : List ℕ) (m : VersionManagerInner) → Appended src m → Held src m
 held _ _ (first m h) = record { state = withEpoch start reopened 0; holds = empty-holds; same = ap setsOf (h .state) }
 held _ _ (rewritten src s m r q) = record { state = s; holds = replay-again src s r; same = q }
+held _ _ (checkpointed src m n p g w q) =
+    let i = held src m p in
+    let c = replaces src (i .state) m (i .holds) (i .same) g w in
+    record { state = c .state; holds = c .holds; same = q ∙ i .same ∙ sym (c .sets) }
 held _ _ (committed src m n k os room u p g few c h) =
     let i = held src m p in
     let w = whole-appended src (i .state) m k os room u (i .holds) (i .same) g few c in

@@ -100,9 +100,7 @@ module _ (s : State) (w : Whole s) where
         few = record { tables = w .rests .tableCount; pairs = w .rests .pairCount; vectors = w .rests .vectorCount };
         widths =
             record {
-              nextTable = k .nextTable;
-              nextRowset = k .nextRowset;
-              nextVector = k .nextVector;
+              next = record { table = k .nextTable; rowset = k .nextRowset; vector = k .nextVector };
               shapes = all-allOf _ (s .tables) (all-map (s .tables) (λ t g. le-leb (t .shape) largest32 (g .shape)) (k .tables));
             };
         names = all-allOf _ (s .tables) (all-map (s .tables) (λ t g. g .name) (k .tables));

@@ -22,6 +22,7 @@ use Rattle.snapshot.specs.Entries.{Entry, byIds}
 use Rattle.version_state.specs.State.{State, start, withPairs, withVectors, withEpoch}
 use Rattle.operations.specs.Effect.{applied}
 use Rattle.replay.specs.Replay.{Frame, none, opened, Carried, carried, reopened, atStart, conflicts, framed, stands, settled, overLimit, limited, ended, noted, lineRead, linesRead, tableless, withoutOrphans, finished, linesReplayed, replayOf}
+use Rattle.recovery.specs.Holds.{Holds}
 use Rattle.recovery.proofs.SoundState.{Added, two, three, Kept, kept-applied}
 
 -- what an `E` leaves: nothing is marked, and the lists are within the limits
@@ -184,6 +185,11 @@ whole-finished s r t =
       tables = t;
       rowsets = ap (withVectors s) (keep-all q (keep q (s .vectors)) (kept-all q (s .vectors)));
     }
+
+pub whole-held : (src : List ℕ) (s : State) → Holds src s → Whole s
+whole-held src s h =
+    let r = runs-lines (lines src) atStart (carried s (h .frame) (h .line)) (record { state = rests-start; frame = tt }) (h .read) in
+    record { rests = r .state; tables = h .tables; rowsets = h .rowsets }
 
 pub whole-replayed : (src : List ℕ) (s : State) → replayOf src ≡ given s → Whole s
 whole-replayed src s h =

@@ -24,11 +24,12 @@ use Rattle.version_state.specs.State.{State, stateOf}
 use Rattle.version_state.specs.Sets.{unlocked, setsOf, nextOf}
 use Rattle.version_state.specs.Sound.{hasTable, hasRowset, leftBehind, badInner}
 use Rattle.version_state.proofs.Within.{within-of}
+use Rattle.version_state.specs.Widths.{Widths}
 use Rattle.version_state.proofs.Facts.{Ordered, sound-of}
 use Rattle.operations.proofs.Keeps.{Short}
 use Rattle.rewrite.specs.Rewritten.{createOf, addOf, addVectorOf, rewriteOf}
 use Rattle.replay.proofs.Maps.{ascending-mapped}
-use Rattle.recovery.specs.Rewritable.{Rewritable, Widths, namesDiffer, idsBelow}
+use Rattle.recovery.specs.Rewritable.{Rewritable, namesDiffer, idsBelow}
 use Rattle.recovery.proofs.SoundState.{two, three}
 use Rattle.recovery.proofs.Besides.{few-start}
 use Rattle.recovery.proofs.Owned.{allOf-map, housed-of, owned-of}
@@ -81,7 +82,7 @@ shown-few e l h = omega (arith, length-map (keep (shownBy e) l) byIds, length-ke
 shown-all : (P : List ℕ → Type 0) (e : ℕ) (l : List Entry) → All (λ x. P (byIds x)) l → All P (shown e l)
 shown-all P e l a = all-mapped P byIds (keep (shownBy e) l) (all-keep (λ x. P (byIds x)) (shownBy e) l a)
 
-differ-unlocked : (l : List TableEntry) → namesDiffer (map unlocked l) ≡ namesDiffer l
+pub differ-unlocked : (l : List TableEntry) → namesDiffer (map unlocked l) ≡ namesDiffer l
 differ-unlocked [] = refl
 differ-unlocked (t ∷ l) = ap₂ (λ (b c : Bool). not b && c) (anyOf-map unlocked (λ y. same (y .name) (t .name)) l) (differ-unlocked l)
 
@@ -103,7 +104,7 @@ module _ (s : State) (p : Passes s) where
 
   well-tables : All (λ o. wellFormed o ≡ true) (map createOf (map unlocked (s .tables)))
   well-tables =
-      let n = p .widths .nextTable in
+      let n = p .widths .next .table in
       let names = allOf-all _ (s .tables) (p .names) in
       let shapes = allOf-all _ (s .tables) (p .widths .shapes) in
       let below = allOf-all _ (s .tables) (p .below) in
@@ -114,16 +115,16 @@ module _ (s : State) (p : Passes s) where
 
   well-pairs : All (λ o. wellFormed o ≡ true) (map addOf (shown now (s .pairs)))
   well-pairs =
-      let n = p .widths .nextTable in
-      let m = p .widths .nextRowset in
+      let n = p .widths .next .table in
+      let m = p .widths .next .rowset in
       all-mapped (λ o. wellFormed o ≡ true) addOf (shown now (s .pairs))
       (all-map (shown now (s .pairs)) (λ k h. let g = ids-two (s .nextTable) (s .nextRowset) k h in join (low-32 _ _ (g .1) n) (low-32 _ _ (g .2) m)) pairs-low)
 
   well-vectors : All (λ o. wellFormed o ≡ true) (map addVectorOf (shown now (s .vectors)))
   well-vectors =
-      let n = p .widths .nextTable in
-      let m = p .widths .nextRowset in
-      let l = p .widths .nextVector in
+      let n = p .widths .next .table in
+      let m = p .widths .next .rowset in
+      let l = p .widths .next .vector in
       all-mapped (λ o. wellFormed o ≡ true) addVectorOf (shown now (s .vectors))
       (all-map (shown now (s .vectors)) (λ k h.
       let g = ids-three (s .nextTable) (s .nextRowset) (s .nextVector) k h in
@@ -131,8 +132,8 @@ module _ (s : State) (p : Passes s) where
 
   well-rewrite : allOf wellFormed (rewriteOf (nextOf s) (setsOf s)) ≡ true
   well-rewrite =
-      let w = p .widths in
-      let n = join (le-leb (s .nextTable) largest32 (w .nextTable)) (join (le-leb (s .nextRowset) largest32 (w .nextRowset)) (le-leb (s .nextVector) largest64 (w .nextVector))) in
+      let w = p .widths .next in
+      let n = join (le-leb (s .nextTable) largest32 (w .table)) (join (le-leb (s .nextRowset) largest32 (w .rowset)) (le-leb (s .nextVector) largest64 (w .vector))) in
       let ts = map createOf (map unlocked (s .tables)) in
       let ps = map addOf (shown now (s .pairs)) in
       all-allOf wellFormed (rewriteOf (nextOf s) (setsOf s))

@@ -10,6 +10,7 @@ use Rattle.manifest.specs.Split.{restOn, lines}
 use Rattle.version_state.specs.declared.VersionManagerInner.{VersionManagerInner}
 use Rattle.version_state.specs.State.{State, start, stateOf, Hands}
 use Rattle.version_state.specs.Sets.{setsOf}
+use Rattle.version_state.specs.Widths.{Narrow}
 use Rattle.version_state.specs.Sound.{badInner}
 use Rattle.operations.specs.Effect.{appliedAll}
 use Rattle.commit.specs.Commit.{appendOf, commitOf}
@@ -29,11 +30,12 @@ pub record Holds (src : List ℕ) (s : State) : Type 0 where
 abbrev pub followed : List Operation → State → State
 followed os s = settled (appliedAll reopened os s)
 
--- A manifest that the port wrote: none yet, or one that a reopen wrote anew, and after it the bytes that accepted commits hand out for
--- appending. Between commits a call may hand out any manager that shows the same.
+-- A manifest that the port wrote: none yet, or one that a reopen or a checkpoint wrote anew, and after it the bytes that accepted commits
+-- hand out for appending. Between commits a call may hand out any manager that shows the same.
 pub data Appended : List ℕ → VersionManagerInner → Type 0 where
   first : (m : VersionManagerInner) → Hands m start → Appended [] m
   rewritten : (src : List ℕ) (s : State) (m : VersionManagerInner) → replayOf src ≡ given s → setsOf (stateOf m) ≡ setsOf s → Appended (rewrittenOf s) m
+  checkpointed : (src : List ℕ) (m n : VersionManagerInner) → Appended src m → badInner m ≡ false → Narrow (stateOf m) → setsOf (stateOf n) ≡ setsOf (stateOf m) → Appended (rewrittenOf (stateOf m)) n
   committed : (src : List ℕ) (m n : VersionManagerInner) (k : ℕ) (os : List Operation) (room : ℕ) (u : State)
       → Appended src m → badInner m ≡ false → length os ≤ k → commitOf (stateOf m) k os room ≡ given u → Hands n u → Appended (src ++ appendOf os) n
   other : (src : List ℕ) (m n : VersionManagerInner) → Appended src m → setsOf (stateOf n) ≡ setsOf (stateOf m) → Appended src n

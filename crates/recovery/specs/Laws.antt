@@ -12,12 +12,13 @@ use Rattle.version_state.specs.declared.VersionManagerInner.{VersionManagerInne
 use Rattle.version_state.specs.State.{State, start, withEpoch, stateOf, Hands}
 use Rattle.ids.specs.Ids.{Next}
 use Rattle.version_state.specs.Sets.{Sets, setsOf, nextOf}
+use Rattle.version_state.specs.Widths.{Narrow, Widths}
 use Rattle.version_state.specs.Sound.{badInner}
 use Rattle.commit.specs.Commit.{appendOf, commitOf}
 use Rattle.transaction_manager.specs.Locks.{isLocked}
 use Rattle.rewrite.specs.Rewritten.{writtenOf, rewrittenOf, longestRewritten}
 use Rattle.replay.specs.Replay.{reopened, replayOf}
-use Rattle.recovery.specs.Rewritable.{Rewritable, Widths, madeOf, namesDiffer}
+use Rattle.recovery.specs.Rewritable.{Rewritable, madeOf, namesDiffer}
 use Rattle.recovery.specs.Holds.{Holds, followed, Appended}
 
 -- Of a manifest that holds a state.
@@ -47,6 +48,20 @@ pub record RewriteLaws : Type 0 where
   pub same : (s : State) → (nextOf (madeOf (nextOf s) (setsOf s)) ≡ nextOf s) × (setsOf (madeOf (nextOf s) (setsOf s)) ≡ setsOf s)
   -- those of an open manager that passes 29, where its live names differ: 29 does not ask that
   pub manager : (m : VersionManagerInner) → badInner m ≡ false → Widths (stateOf m) → namesDiffer (stateOf m .tables) ≡ true → Rewritable (nextOf (stateOf m)) (setsOf (stateOf m))
+
+-- What a checkpoint by the manager m hands out, where the manifest that it replaces held s.
+pub record Replaces (s : State) (m : VersionManagerInner) : Type 0 where
+  pub state : State
+  pub holds : Holds (rewrittenOf (stateOf m)) state
+  pub replayed : replayOf (rewrittenOf (stateOf m)) ≡ given state
+  pub room : length (rewrittenOf (stateOf m)) ≤ longestRewritten
+  -- the same sets from either; the next ids are the manager's, while those of the old manifest are as its last append left them
+  pub sets : setsOf state ≡ setsOf s
+  pub next : nextOf state ≡ nextOf (stateOf m)
+
+-- Of an open manager that passes 29 and shows what its manifest holds.
+pub record CheckpointLaws : Type 0 where
+  pub replaces : (src : List ℕ) (s : State) (m : VersionManagerInner) → Holds src s → setsOf (stateOf m) ≡ setsOf s → badInner m ≡ false → Narrow (stateOf m) → Replaces s m
 
 -- Of any manifest that replay accepts.
 pub record ReopenLaws : Type 0 where

@@ -3,10 +3,10 @@ use mathlib.Core.Path.{_≡_}
 use mathlib.Core.Bool.{Bool, true, not, _&&_}
 use mathlib.Core.List.{List, [], _∷_, map}
 use Prim.Native.Nat.{ℕ, _≤_}
-use lib.Dec.{leb, ltb, eqb}
+use lib.Dec.{ltb, eqb}
 use lib.ListN.{length, take}
 use Rattle.lists.specs.Keyed.{allOf, has, ascending}
-use Rattle.ids.specs.Ids.{largest32, largest64, Next}
+use Rattle.ids.specs.Ids.{Next}
 use Rattle.ids.specs.Limits.{mostTables, mostHeld}
 use Rattle.columns.specs.Rows.{plain}
 use Rattle.manifest.specs.Operations.{wellFormed}
@@ -61,10 +61,3 @@ pub record Rewritable (n : Next) (z : Sets) : Type 0 where
   pub names : namesDiffer (z .tables) ≡ true
   pub pairTables : housed (z .tables) (z .pairs) ≡ true
   pub vectorPairs : owned (z .pairs) (z .vectors) ≡ true
-
--- the next ids and shapes of a state are within their widths, as those of a manager's columns always are
-pub record Widths (s : State) : Type 0 where
-  pub nextTable : s .nextTable ≤ largest32
-  pub nextRowset : s .nextRowset ≤ largest32
-  pub nextVector : s .nextVector ≤ largest64
-  pub shapes : allOf (λ t. leb (t .shape) largest32) (s .tables) ≡ true

@@ -1,3 +1,4 @@
 -- The definitions that this crate's contracts cite. Assumes nothing.
 pub mod Rewritten
+pub mod Says
 pub mod Laws

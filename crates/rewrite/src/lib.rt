@@ -2,10 +2,13 @@
 use ids::RowsetNo;
 use ids::TableNo;
 use ids::VectorNo;
+use ids::limits::LONGEST_REWRITTEN;
 use ids::limits::MOST_HELD;
 use ids::limits::MOST_TABLES;
 use ids::limits::NAME_BYTES;
 use ids::name::Name;
+use ids::refusal::Refusal;
+use ids::refusal::Verdict;
 use manifest::operation::Change;
 use manifest::operation::EpochOp;
 use version_state::NextIds;
@@ -23,7 +26,15 @@ ghost use Rattle.snapshot.specs.Entries.{shown, entries};
 ghost use Rattle.snapshot.specs.Tables.{nameBytes, tableRows};
 ghost use Rattle.version_state.specs.State.{stateOf, Fit};
 ghost use Rattle.rewrite.specs.Laws.{RewrittenFits};
+ghost use Rattle.rewrite.specs.Says.{RewriteIs};
 ghost use Rattle.rewrite.specs.Rewritten.{createOf, addOf, addVectorOf, longestNext, longestCreate, longestAdd, longestAddVector, longestRewritten, rewrittenOf};
+
+// After the rewritten manifest was handed out: its length, and the state whose manifest it is.
+pub struct Rewrote {
+    pub verdict: Verdict,
+    pub length: usize,
+    pub inner: VersionManagerInner,
+}
 
 // A rewritten manifest never has more bytes than the longest one.
 pub fn holds()
@@ -190,4 +201,28 @@ pub fn put_rewritten(inner: VersionManagerInner, out: &mut [u8]) -> usize
         inner.epoch,
     );
     frames::put_letter(out, at, b'E')
+}
+
+// The rewritten manifest handed out, for a reopened store and for one that stays open; refused where the lent bytes do not hold it.
+pub fn rewrite_into(inner: VersionManagerInner, out: &mut [u8]) -> Rewrote
+    requires { ⌜ Fit inner ⌝ }
+    ensures { λ r. ⌜ RewriteIs (stateOf inner) (now (out .entry)) r (now (out .exit)) ⌝ }
+{
+    let mut printed = [0; LONGEST_REWRITTEN];
+    let n = put_rewritten(inner, &mut printed);
+    if out.len() < n {
+        return Rewrote {
+            verdict: Verdict::Refused(Refusal::OutputTooShort),
+            length: n,
+            inner,
+        };
+    }
+    text::put_bytes(out, 0, &printed[..n]);
+    let mut rewritten = inner;
+    rewritten.manifest = n;
+    Rewrote {
+        verdict: Verdict::Accepted,
+        length: n,
+        inner: rewritten,
+    }
 }

@@ -20,6 +20,8 @@ use Rattle.table.specs.Compact.{compactedBy}
 use Rattle.compaction.specs.New.{newOf}
 use Rattle.vacuum.specs.LetGo.{vacuumed}
 use Rattle.vacuum.specs.Says.{boundOf, listOf}
+use Rattle.rewrite.specs.Rewritten.{rewrittenOf}
+use Rattle.rewrite.specs.Says.{withRewritten}
 use Rattle.version_manager.specs.Managers.{heldBy, HandsBack}
 use Rattle.version_manager.specs.Commit.{CommitEnds, outcomeOf}
 use Rattle.version_manager.specs.Create.{createVerdict}
@@ -30,8 +32,9 @@ use Rattle.version_manager.specs.Draw.{rowsetVerdict, vectorVerdict, rowsetDraw
 use Rattle.version_manager.specs.Group.{vectorsDrawn, groupedBy, groupVerdict}
 use Rattle.version_manager.specs.Lock.{lockVerdict}
 use Rattle.version_manager.specs.Vacuum.{vacuumVerdict}
-use Rattle.plain_record.specs.Calls.{Call, drawRowset, drawVector, group, lock, unlock, commit, create, drop, compact, pin, unpin, vacuum, reopen}
-use Rattle.plain_record.specs.Run.{World, Event, isAccepted, value, port, LinkBy, replaced}
+use Rattle.version_manager.specs.Checkpoint.{checkpointVerdict}
+use Rattle.plain_record.specs.Calls.{Call, drawRowset, drawVector, group, lock, unlock, commit, create, drop, compact, pin, unpin, vacuum, checkpoint, reopen}
+use Rattle.plain_record.specs.Run.{World, world, Event, isAccepted, value, port, LinkBy, replaced}
 
 accepted-told : (v : Verdict) (vs : List ℕ) (t : Told) (m n : VersionManager) (s : State) → t ≡ told v vs → isAccepted t ≡ false → HandsBack v m s n → n ≡ m
 accepted-told Accepted vs t m n s e a h = clash (ap isAccepted e) a
@@ -72,4 +75,10 @@ refused-manager (unpin n) e d a = ap (λ (x : World). x .manager) (d .after)
 refused-manager (vacuum ts rs) e d a =
     let m = e .before .manager in
     ap (λ (x : World). x .manager) (d .after) ∙ accepted-told (vacuumVerdict m (e .before .book) (length ts) (length rs)) (length (listOf (heldBy m) (e .before .book)) ∷ []) (e .told) m (d .result .manager) (vacuumed (boundOf (heldBy m) (e .before .book)) (heldBy m)) (d .told ∙ d .says .answer) a (d .says .manager)
+refused-manager (checkpoint out stale) e d a =
+    let m = e .before .manager in
+    let n = d .result .manager in
+    ap (λ (x : World). x .manager) (d .after)
+    ∙ ap (λ (b : Bool). cond b (replaced n (e .before .book) (e .before .file) (take (value 0 (e .told)) (d .left)) stale) (world n (e .before .book) (e .before .file) (e .before .torn)) .manager) a
+    ∙ accepted-told (checkpointVerdict m (length out)) (length (rewrittenOf (heldBy m)) ∷ []) (e .told) m n (withRewritten (heldBy m)) (d .told ∙ d .says .answer) a (d .says .manager)
 refused-manager (reopen out stale) e d a = ap (λ (x : World). x .manager) (d .after) ∙ ap (λ (b : Bool). cond b (replaced (d .result .manager) (d .result .book) (e .before .torn) (take (value 0 (e .told)) (d .left)) stale) (e .before) .manager) a

@@ -13,15 +13,15 @@ use Rattle.lists.specs.Keyed.{has, isAt, arranged}
 use Rattle.lists.proofs.Tests.{both}
 use Rattle.lists.proofs.Keyed.{All, anyOf-map, ascend-to}
 use Rattle.ids.specs.declared.refusal.Verdict.{Verdict}
-use Rattle.ids.specs.declared.refusal.Verdict.the-variants.{Accepted}
+use Rattle.ids.specs.declared.refusal.Verdict.the-variants.{Accepted, Refused}
 use Rattle.ids.specs.Answers.{told}
-use Rattle.ids.specs.Results.{Result, refused, given}
+use Rattle.ids.specs.Results.{Result, refused, given, onward}
 use Rattle.ids.proofs.Verdicts.{none-judged}
 use Rattle.ids.specs.declared.TableNo.{TableNo}
 use Rattle.ids.specs.declared.refusal.Refusal.the-variants.{OutputTooShort}
 use Rattle.manifest.specs.Operations.{Operation}
 use Rattle.snapshot.specs.Entries.{Entry, byIds, shown}
-use Rattle.version_state.specs.State.{State, withEpoch}
+use Rattle.version_state.specs.State.{State}
 use Rattle.version_state.proofs.Facts.{sound-of}
 use Rattle.pins.specs.Book.{PinEntry, pinsOf, placeOn, hasPlace, pinned}
 use Rattle.pins.specs.Counts.{pinsAt}
@@ -40,6 +40,7 @@ use Rattle.compaction.specs.New.{newOf}
 use Rattle.vacuum.specs.LetGo.{vacuumList, vacuumed}
 use Rattle.vacuum.specs.Says.{boundOf, listOf}
 use Rattle.rewrite.specs.Rewritten.{rewrittenOf}
+use Rattle.rewrite.specs.Says.{withRewritten}
 use Rattle.storage.specs.Reopen.{openedOf, ReopenIs}
 use Rattle.version_manager.specs.Managers.{heldBy, HandsBack}
 use Rattle.version_manager.specs.declared.Committed.{Committed}
@@ -52,12 +53,13 @@ use Rattle.version_manager.specs.Draw.{rowsetVerdict, vectorVerdict, rowsetDraw
 use Rattle.version_manager.specs.Group.{vectorsDrawn, groupedBy, groupVerdict}
 use Rattle.version_manager.specs.Lock.{lockVerdict, RelockSays}
 use Rattle.version_manager.specs.Vacuum.{vacuumVerdict}
+use Rattle.version_manager.specs.Checkpoint.{checkpointVerdict}
 use Rattle.pinning.specs.Says.{pinRules, pinVerdict, unpinRules, unpinVerdict, isDue, flag, readyOf}
 use Rattle.plain_record.specs.Sets.{Sets, itself}
-use Rattle.plain_record.specs.Calls.{Call, drawRowset, drawVector, group, lock, unlock, commit, create, drop, compact, pin, unpin, vacuum, reopen, kindOf}
+use Rattle.plain_record.specs.Calls.{Call, drawRowset, drawVector, group, lock, unlock, commit, create, drop, compact, pin, unpin, vacuum, checkpoint, reopen, kindOf}
 use Rattle.plain_record.specs.Plain.{epochOf, withPins, kept, Record, counts, accepts as accepted, onePin, oneLess, swept}
 use Rattle.plain_record.specs.Plain as plain
-use Rattle.plain_record.specs.Run.{World, Event, isAccepted, value, port, LinkBy, DidLock, DidReopen, replaced}
+use Rattle.plain_record.specs.Run.{World, world, Event, isAccepted, value, port, LinkBy, DidLock, DidReopen, replaced}
 use Rattle.plain_record.specs.Claim.{AnswerBy}
 use Rattle.plain_record.proofs.Invariant.{plainSets, Inv}
 use Rattle.plain_record.proofs.Stands.{stands-of}
@@ -125,19 +127,26 @@ module _ (cut : ℕ) (g : Engine) (r : Record) (k : Rel g r) (e : Event) (i : In
         pool = subst (λ (o : State). Pool (landed (g .running .version) n g) o (plain.landed (r .whole) r)) (sym q) (pool-landed g m r pool (g .running .version) n s (r .whole) (r .place + 1) refl refl x y refl u v);
       }
 
-  lock-step : (b : Bool) (n : TableNo) → DidLock port w (e .told) (e .listed) (e .after) (λ o t x. RelockSays o t b x) n
-      → Stepped (λ h. h ≡ landed (g .running .version) (g .running .next) g) held-after (plain.landed (r .whole) r)
-  lock-step b n d =
-      let q = passed (lockVerdict (w .manager) (n .0) b) [] (e .told) (d .told ∙ d .says .answer) a in
-      let s = relocked (n .0) b m in
-      let h : held-after ≡ s = ap (λ (x : World). heldBy (x .manager)) (d .after) ∙ back (lockVerdict (w .manager) (n .0) b) s (d .result .manager) q (d .says .manager) in
+  -- the Rust is not called
+  Resting : Type 0
+  Resting = Stepped (λ h. h ≡ landed (g .running .version) (g .running .next) g) held-after (plain.landed (r .whole) r)
+
+  rest-step : (s : State) → held-after ≡ s → s .pairs ≡ m .pairs → s .vectors ≡ m .vectors → s .nextRowset ≡ m .nextRowset → s .nextVector ≡ m .nextVector → Resting
+  rest-step s h x y u v =
       record {
         engine = landed (g .running .version) (g .running .next) g;
         does = refl;
         rel = quiet (g .running .next);
         pool = subst (λ (o : State). Pool (landed (g .running .version) (g .running .next) g) o (plain.landed (r .whole) r)) (sym h)
-            (pool-landed g m r pool (g .running .version) (g .running .next) s (r .whole) (r .place + 1) refl refl refl refl refl (pool .nextRowset) (pool .nextDv));
+            (pool-landed g m r pool (g .running .version) (g .running .next) s (r .whole) (r .place + 1) refl refl x y refl
+            (subst (NotAbove (g .starts) (g .running .next .rowset)) (sym u) (pool .nextRowset)) (subst (NotAbove (g .starts) (g .running .next .dv)) (sym v) (pool .nextDv)));
       }
+
+  lock-step : (b : Bool) (n : TableNo) → DidLock port w (e .told) (e .listed) (e .after) (λ o t x. RelockSays o t b x) n → Resting
+  lock-step b n d =
+      let q = passed (lockVerdict (w .manager) (n .0) b) [] (e .told) (d .told ∙ d .says .answer) a in
+      let s = relocked (n .0) b m in
+      rest-step s (ap (λ (x : World). heldBy (x .manager)) (d .after) ∙ back (lockVerdict (w .manager) (n .0) b) s (d .result .manager) q (d .says .manager)) refl refl refl refl
 
   -- one that counts as a commit of os, and hands back the state s
   commit-step : (z : ℕ) (os : List Operation) (room missing : ℕ) (s : State) → commitOf m z os room ≡ given s → held-after ≡ s → held-after .epoch ≡ epochOf (counts os missing r .whole)
@@ -209,11 +218,11 @@ module _ (cut : ℕ) (g : Engine) (r : Record) (k : Rel g r) (e : Event) (i : In
           let y = opened-lists (ltb (length out) (length (rewrittenOf (i .torn .state)))) q in
           (ap (λ (u : State). u .pairs) z ∙ y .0, ap (λ (u : State). u .vectors) z ∙ y .1)
         where
-          opened-lists : (b : Bool) → cond b (refused OutputTooShort) (given (withEpoch (i .torn .state) (i .torn .state .epoch) (length (rewrittenOf (i .torn .state))))) ≡ given s
+          opened-lists : (b : Bool) → onward (cond b (Refused OutputTooShort) Accepted) (given (withRewritten (i .torn .state))) ≡ given s
               → (s .pairs ≡ i .torn .state .pairs) × (s .vectors ≡ i .torn .state .vectors)
           opened-lists true h = absurd (halt h)
           opened-lists false h =
-              let q : withEpoch (i .torn .state) (i .torn .state .epoch) (length (rewrittenOf (i .torn .state))) ≡ s = cc in
+              let q : withRewritten (i .torn .state) ≡ s = cc in
               (sym (ap (λ (u : State). u .pairs) q), sym (ap (λ (u : State). u .vectors) q))
 
   pub step : (c : Call) → LinkBy port w (e .told) (e .listed) (e .after) c → Inv (e .after) (accepted (kindOf c) (value 0 (e .told)) r) → AnswerBy r e (kindOf c) → StepOf c
@@ -317,6 +326,14 @@ module _ (cut : ℕ) (g : Engine) (r : Record) (k : Rel g r) (e : Event) (i : In
         pool = pool-vacuum g m r pool b held-after (swept (r .whole)) (r .place + 1) (ascend-to byIds (m .pairs) (sound-of (w .manager .inner) (i .sound) .ordered .pairs))
             (ap (λ (y : World). heldBy (y .manager)) (d .after) ∙ back v (vacuumed b m) (d .result .manager) q (d .says .manager)) (answer ∙ ap (arranged itself) listed-pairs) refl;
       }
+  step (checkpoint out stale) d j s =
+      let n = d .result .manager in
+      let v = checkpointVerdict (w .manager) (length out) in
+      let q = passed v (length (rewrittenOf m) ∷ []) (e .told) (d .told ∙ d .says .answer) a in
+      let after : e .after .manager ≡ n =
+      ap (λ (x : World). x .manager) (d .after)
+      ∙ ap (λ (b : Bool). cond b (replaced n (w .book) (w .file) (take (value 0 (e .told)) (d .left)) stale) (world n (w .book) (w .file) (w .torn)) .manager) a in
+      rest-step (withRewritten m) (ap heldBy after ∙ back v (withRewritten m) n q (d .says .manager)) refl refl refl refl
   step (reopen out stale) d j s =
       let x = stands.shows-now held-after (e .after .book) (e .after .file) (kept (r .torn)) (stands-of (e .after) (plain.landed (kept (r .torn)) r) j) in
       let p = starts-on g r k stale (subst Whole x (whole-of (e .after) (plain.landed (kept (r .torn)) r) j)) in

@@ -14,7 +14,7 @@ use Rattle.compaction.specs.New.{newOf}
 use Rattle.version_manager.specs.Managers.{heldBy}
 use Rattle.pinning.specs.Says.{flag}
 use Rattle.plain_record.specs.Sets.{itself}
-use Rattle.plain_record.specs.Calls.{Call, drawRowset, drawVector, group, lock, unlock, commit, create, drop, compact, pin, unpin, vacuum, reopen}
+use Rattle.plain_record.specs.Calls.{Call, drawRowset, drawVector, group, lock, unlock, commit, create, drop, compact, pin, unpin, vacuum, checkpoint, reopen}
 use Rattle.plain_record.specs.Run.{Event, value}
 use Rattle.risinglight.specs.Maps.{ok}
 use Rattle.risinglight.specs.Manifest.{Value, frame}
@@ -56,7 +56,7 @@ module _ (cut : ℕ) (g h : Engine) (e : Event) where
   abbrev pub ids : NextId
   ids = g .running .next
 
-  -- locks are not the version manager's
+  -- the Rust is not called: locks are not the version manager's, and it has no checkpoint
   abbrev pub Rests : Type 0
   Rests = h ≡ landed (g .running .version) ids g
 
@@ -107,6 +107,7 @@ module _ (cut : ℕ) (g h : Engine) (e : Event) where
   DoesBy pin = Pins
   DoesBy (unpin d) = Unpins d
   DoesBy (vacuum ts rs) = Vacuums
+  DoesBy (checkpoint out stale) = Rests
   DoesBy (reopen out stale) = Starts stale
 
   abbrev pub Does : Type 0

@@ -2,6 +2,7 @@
 
 pub enum Word {
     Fresh,
+    Checkpoint,
     Reopen,
     Appended(Appended),
     Unwritten(Unwritten),
@@ -154,6 +155,9 @@ fn appended_word(s: &[u8]) -> Word {
 pub fn first_word(s: &[u8]) -> Word {
     if crate::same(s, b"fresh") {
         return Word::Fresh;
+    }
+    if crate::same(s, b"checkpoint") {
+        return Word::Checkpoint;
     }
     if crate::same(s, b"reopen") {
         return Word::Reopen;

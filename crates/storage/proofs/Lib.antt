@@ -1,4 +1,4 @@
 -- The laws that this crate's proofs cite. Assumes nothing.
 pub mod Replayed
 pub mod Answered
-pub mod Printed
+pub mod HandedOut

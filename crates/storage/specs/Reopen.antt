@@ -1,27 +1,26 @@
 -- Reopen: from a manifest's bytes to a manager, an empty pin book and the rewritten manifest. Assumes nothing.
 use mathlib.Core.Path.{_≡_}
-use mathlib.Core.Bool.{cond}
 use mathlib.Core.List.{List, [], _∷_}
 use Prim.Native.Nat.{ℕ}
-use lib.Dec.{ltb}
 use lib.ListN.{length}
 use Rattle.lists.specs.Written.{over}
-use Rattle.ids.specs.declared.refusal.Refusal.the-variants.{OutputTooShort}
 use Rattle.ids.specs.declared.refusal.Verdict.the-variants.{Accepted, Refused}
+use Rattle.ids.specs.Verdicts.{judged}
 use Rattle.ids.specs.Answers.{Told, told}
-use Rattle.ids.specs.Results.{Result, refused, given, andThen}
-use Rattle.version_state.specs.State.{State, start, withEpoch}
+use Rattle.ids.specs.Results.{Result, refused, given, andThen, onward}
+use Rattle.version_state.specs.State.{State, start}
 use Rattle.pins.specs.Book.{Keeps}
 use Rattle.version_manager.specs.Managers.{Manages}
 use Rattle.rewrite.specs.Rewritten.{rewrittenOf}
+use Rattle.rewrite.specs.Says.{rewriteRules, withRewritten}
 use Rattle.replay.specs.Replay.{replayOf}
 use Rattle.storage.specs.declared.Reopened.{Reopened}
 use Rattle.storage.specs.declared.ReopenAnswer.{ReopenAnswer}
 use Rattle.storage.specs.declared.ReopenAnswer.the-variants as answer
 
--- the manifest of what is handed out is the rewritten one; 9 goes by its bytes
+-- the manifest of what is handed out is the rewritten one
 abbrev pub openedOf : ℕ → State → Result State
-openedOf room s = cond (ltb room (length (rewrittenOf s))) (refused OutputTooShort) (given (withEpoch s (s .epoch) (length (rewrittenOf s))))
+openedOf room s = onward (judged (rewriteRules room s)) (given (withRewritten s))
 
 -- the state of the manager that a reopen hands out, for a lent buffer of `room`: 1, the lines in order, 5, 9
 abbrev pub reopenOf : List ℕ → ℕ → Result State

@@ -1,5 +1,4 @@
 // Reopen: a manifest is replayed, and what it holds is handed out with a manifest written anew.
-use ids::limits::LONGEST_REWRITTEN;
 use ids::refusal::Refusal;
 use ids::refusal::Verdict;
 use pins::PinBook;
@@ -40,24 +39,22 @@ fn refused(refusal: Refusal) -> Reopened
 }
 
 // Internal: what was replayed is handed out with its manifest.
-fn rewrite_into(inner: VersionManagerInner, out: &mut [u8]) -> Reopened
+fn opened(inner: VersionManagerInner, out: &mut [u8]) -> Reopened
     requires { ⌜ Fit inner ⌝ }
     ensures { λ r. ⌜ ReopenIs (openedOf (length (now (out .entry))) (stateOf inner)) (now (out .entry)) r (now (out .exit)) ⌝ }
 {
-    let mut printed = [0; LONGEST_REWRITTEN];
-    let n = rewrite::put_rewritten(inner, &mut printed);
-    if out.len() < n {
-        return refused(Refusal::OutputTooShort);
+    let done = rewrite::rewrite_into(inner, out);
+    let verdict = done.verdict;
+    if let Verdict::Refused(refusal) = verdict {
+        return refused(refusal);
     }
-    text::put_bytes(out, 0, &printed[..n]);
-    let mut inner = inner;
-    inner.manifest = n;
+    let inner = done.inner;
     let manager = version_manager::handed(inner);
     let book = PinBook::none();
     Reopened {
         manager,
         book,
-        answer: ReopenAnswer::Rewritten(n),
+        answer: ReopenAnswer::Rewritten(done.length),
     }
 }
 
@@ -70,5 +67,5 @@ pub fn bootstrap(src: &[u8], out: &mut [u8]) -> Reopened
         return refused(refusal);
     }
     let inner = replayed.inner;
-    rewrite_into(inner, out)
+    opened(inner, out)
 }

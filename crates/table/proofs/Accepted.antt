@@ -25,7 +25,7 @@ use Rattle.operations.specs.Steps.{stepOf, stepsOf}
 use Rattle.commit.specs.Commit.{appendOf, finishOf, commitOf}
 use Rattle.commit.proofs.Stepwise.{halt, step-given, steps-manifest}
 use Rattle.table.specs.Made.{committed, deleteRowsetOf, deleteVectorOf}
-use Rattle.table.specs.Laws.{Narrow}
+use Rattle.version_state.specs.Widths.{Narrow}
 use Rattle.table.proofs.Deletes.{deletedAll, deletes}
 use Rattle.table.proofs.Shown.{Held, rows-all}
 

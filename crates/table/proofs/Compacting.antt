@@ -27,7 +27,8 @@ use Rattle.operations.specs.Judge.{isLive, isShown}
 use Rattle.operations.specs.Steps.{stepOf, stepsOf}
 use Rattle.commit.specs.Commit.{appendOf}
 use Rattle.table.specs.Made.{byNumber, ofTable, isOver, deleteRowsetOf, deleteVectorOf, compactOperations}
-use Rattle.table.specs.Laws.{Narrow, pairsWith, Compacts}
+use Rattle.version_state.specs.Widths.{Narrow}
+use Rattle.table.specs.Laws.{pairsWith, Compacts}
 use Rattle.table.proofs.Deletes.{among, deletedAll, shown-marked}
 use Rattle.table.proofs.Shown.{or-second, few-rows, few-part, next-same, part-forms, part-below, part-rises, part-shown, part-deleted}
 use Rattle.table.proofs.Accepted.{two, three, vectors-deleted, pairs-deleted, commit-accepts, vector-well, pairs-held, vectors-held, steps-applied}

@@ -28,7 +28,7 @@ use Rattle.operations.specs.Judge.{isLive}
 use Rattle.operations.specs.Steps.{stepOf, stepsOf}
 use Rattle.commit.specs.Commit.{appendOf, commitOf}
 use Rattle.table.specs.Made.{committed, ofTable, deleteRowsetOf, deleteVectorOf, dropOperations}
-use Rattle.table.specs.Laws.{Narrow}
+use Rattle.version_state.specs.Widths.{Narrow}
 use Rattle.table.proofs.Deletes.{deletedAll}
 use Rattle.table.proofs.Shown.{few-rows, few-part, part-forms, part-below, part-rises, part-shown, part-deleted}
 use Rattle.table.proofs.Accepted.{two, three, vectors-deleted, pairs-deleted, steps-applied, commit-accepts, pair-well, vector-well, pairs-held, vectors-held}

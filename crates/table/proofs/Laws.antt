@@ -27,7 +27,8 @@ use Rattle.table.specs.Made.{committed, ofTable, byNumber, isOver, delet
 use Rattle.table.specs.Create.{createdBy, createRules}
 use Rattle.table.specs.Drop.{droppedBy, dropRules}
 use Rattle.table.specs.Compact.{compactedBy, compactRules, validCompaction}
-use Rattle.table.specs.Laws.{Narrow, Accepts, MadeLaws, Compacts}
+use Rattle.version_state.specs.Widths.{Narrow}
+use Rattle.table.specs.Laws.{Accepts, MadeLaws, Compacts}
 use Rattle.table.proofs.Creating.{create-accepts}
 use Rattle.table.proofs.Dropping.{drop-accepts, drop-pairs, drop-vectors}
 use Rattle.table.proofs.Compacting.{few, none-compacts, one-compacts}

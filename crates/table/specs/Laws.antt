@@ -6,7 +6,7 @@ use Prim.Native.Nat.{ℕ, _+_, _≤_}
 use lib.ListN.{length}
 use Rattle.lists.specs.Order.{same}
 use Rattle.lists.specs.Keyed.{keep, allOf, anyOf, put}
-use Rattle.ids.specs.Ids.{largest32, largest64}
+use Rattle.ids.specs.Ids.{largest32}
 use Rattle.ids.specs.Limits.{mostOperations}
 use Rattle.ids.specs.declared.refusal.Verdict.the-variants.{Accepted}
 use Rattle.ids.specs.Verdicts.{judged}
@@ -14,6 +14,7 @@ use Rattle.ids.specs.Results.{given}
 use Rattle.manifest.specs.Operations.{Operation}
 use Rattle.version_state.specs.declared.VersionManagerInner.{VersionManagerInner}
 use Rattle.version_state.specs.State.{State, stateOf, pairsAt, vectorsAt}
+use Rattle.version_state.specs.Widths.{Narrow}
 use Rattle.version_state.specs.Sound.{badInner}
 use Rattle.operations.specs.Judge.{isShown}
 use Rattle.commit.specs.Commit.{commitOf}
@@ -21,12 +22,6 @@ use Rattle.table.specs.Made.{ofTable, isOver, committed}
 use Rattle.table.specs.Create.{createdBy, createRules}
 use Rattle.table.specs.Drop.{droppedBy, dropRules}
 use Rattle.table.specs.Compact.{compactedBy, validCompaction, compactRules}
-
--- next ids within their widths, as the numbers of a manager are
-pub record Narrow (s : State) : Type 0 where
-  pub table : s .nextTable ≤ largest32
-  pub rowset : s .nextRowset ≤ largest32
-  pub vector : s .nextVector ≤ largest64
 
 -- the commit of os by s into a buffer of `room` is accepted
 abbrev pub Accepts : State → List Operation → ℕ → Type 0

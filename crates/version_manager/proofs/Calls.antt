@@ -30,6 +30,9 @@ use Rattle.commit.specs.Commit.{commitOf, CommitIs}
 use Rattle.commit.specs.Lent.{asLine, operationsIn}
 use Rattle.commit.proofs.Sounds.{onward-given}
 use Rattle.commit.proofs.AsLines.{lines-room, lines-read, commit-same, commit-lines-same}
+use Rattle.rewrite.specs.declared.Rewrote.{Rewrote}
+use Rattle.rewrite.specs.Rewritten.{rewrittenOf}
+use Rattle.rewrite.specs.Says.{withRewritten, RewriteIs}
 use Rattle.vacuum.specs.declared.Released.{Released}
 use Rattle.vacuum.specs.LetGo.{vacuumed}
 use Rattle.vacuum.specs.Says.{boundOf, listOf, VacuumIs}
@@ -40,11 +43,14 @@ use Rattle.version_manager.specs.declared.VersionManager.{VersionManager
 use Rattle.version_manager.specs.declared.Committed.{Committed}
 use Rattle.version_manager.specs.declared.Vacuumed.{Vacuumed}
 use Rattle.version_manager.specs.declared.Locked.{Locked}
+use Rattle.version_manager.specs.declared.Checkpointed.{Checkpointed}
+use Rattle.version_manager.specs.declared.CheckpointAnswer.the-variants as checkpointed
 use Rattle.version_manager.specs.declared.VacuumAnswer.the-variants as answer
 use Rattle.version_manager.specs.Managers.{heldBy, badManager, Manages, HandsBack}
 use Rattle.version_manager.specs.Commit.{outcomeOf, commitTold, CommitEnds, CommitSays}
 use Rattle.version_manager.specs.Vacuum.{vacuumVerdict, VacuumSays}
 use Rattle.version_manager.specs.Lock.{lockVerdict, RelockSays}
+use Rattle.version_manager.specs.Checkpoint.{checkpointVerdict, CheckpointSays}
 
 -- a commit over the columns c that was refused, and one that was accepted
 module _ (m : VersionManager) (d : Done) (c : Columns) (r : Committed) where
@@ -153,4 +159,37 @@ module _ (m : VersionManager) (t : TableNo) (b : Bool) (v : Relocked) (g : badMa
         record {
           answer = lock-told;
           manager = subst (λ (d : Verdict). HandsBack d m (relocked (t .0) b (heldBy m)) (r .manager)) (sym e ∙ lock-verdict) (rw h (i .inner));
+        }
+
+-- a checkpoint of a manager that passed 29
+module _ (m : VersionManager) (out : List ℕ) (v : Rewrote) (out′ : List ℕ) (g : badManager m ≡ false) (i : RewriteIs (heldBy m) out v out′) where
+  checkpoint-verdict : v .verdict ≡ checkpointVerdict m (length out)
+  checkpoint-verdict = rw g (i .verdict)
+
+  module _ (r : Checkpointed) where
+    abbrev written : List ℕ
+    written = rewrittenOf (heldBy m)
+
+    checkpoint-says : told (v .verdict) (length written ∷ []) ≡ told (checkpointVerdict m (length out)) (length written ∷ [])
+    checkpoint-says = ap (λ (d : Verdict). told d (length written ∷ [])) checkpoint-verdict
+
+    checkpoint-bytes : out′ ≡ after (checkpointVerdict m (length out)) (over written out) out
+    checkpoint-bytes = rw g (i .bytes)
+
+    pub checkpoint-no : (k : Refusal) → v .verdict ≡ Refused k → r .manager ≡ m → r .answer ≡ checkpointed.Refused k → CheckpointSays m out r out′
+    checkpoint-no k e h a =
+        record {
+          answer = rw a (sym (ap (λ (d : Verdict). told d (length written ∷ [])) e) ∙ checkpoint-says);
+          bytes = checkpoint-bytes;
+          manager = subst (λ (d : Verdict). HandsBack d m (withRewritten (heldBy m)) (r .manager)) (sym e ∙ checkpoint-verdict) h;
+          room = λ b. i .within;
+        }
+
+    pub checkpoint-yes : v .verdict ≡ Accepted → r .manager .inner ≡ v .inner → r .answer ≡ checkpointed.Rewritten (v .length) → CheckpointSays m out r out′
+    checkpoint-yes e h a =
+        record {
+          answer = rw (a, i .counted) (sym (ap (λ (d : Verdict). told d (length written ∷ [])) e) ∙ checkpoint-says);
+          bytes = checkpoint-bytes;
+          manager = subst (λ (d : Verdict). HandsBack d m (withRewritten (heldBy m)) (r .manager)) (sym e ∙ checkpoint-verdict) (rw h (i .inner e));
+          room = λ b. i .within;
         }

@@ -7,7 +7,7 @@ use lib.ListN.{length}
 use Rattle.ids.specs.declared.refusal.Refusal.the-variants.{BadManager}
 use Rattle.ids.specs.declared.refusal.Verdict.the-variants.{Accepted}
 use Rattle.version_state.proofs.Facts.{sound-of}
-use Rattle.table.specs.Laws.{Narrow}
+use Rattle.version_state.specs.Widths.{Narrow}
 use Rattle.table.specs.Compact.{compactedBy, compactRules}
 use Rattle.table.proofs.Laws.{made-laws}
 use Rattle.version_manager.specs.declared.VersionManager.{VersionManager}

@@ -1,9 +1,10 @@
--- What fresh, draw and group hand out passes 29. Assumes nothing.
+-- What fresh, draw, group and a checkpoint hand out passes 29. Assumes nothing.
 use mathlib.Core.Path.{_≡_, refl, sym, subst}
 use mathlib.Core.Bool.{true, false}
 use mathlib.Core.List.{List, [], _∷_}
 use Prim.Native.Nat.{ℕ, _+_, _≤_}
 use native.Mathlib.Omega.{arith}
+use borrow.Author.Tests.{le-ltb}
 use lib.Dec.{ltb}
 use lib.ListN.{length}
 use Rattle.lists.specs.Keyed.{allOf}
@@ -22,13 +23,16 @@ use Rattle.version_state.specs.State.{State, start, stateOf, withNext, Hands}
 use Rattle.version_state.specs.Sound.{leftBehind, badInner}
 use Rattle.version_state.proofs.Within.{Rises, within-of, of-within, within-up}
 use Rattle.version_state.proofs.Facts.{Ordered, sound-of, of-sound}
+use Rattle.rewrite.specs.Rewritten.{rewrittenOf}
+use Rattle.rewrite.specs.Says.{rewriteRules, withRewritten}
 use Rattle.transaction.specs.Groups.{handlesOf}
 use Rattle.transaction.specs.Says.{groupRules}
 use Rattle.version_manager.specs.declared.VersionManager.{VersionManager}
 use Rattle.version_manager.specs.Managers.{heldBy, badManager, HandsBack}
 use Rattle.version_manager.specs.Draw.{drawRules, rowsetVerdict, vectorVerdict, rowsetDrawn, vectorDrawn}
 use Rattle.version_manager.specs.Group.{vectorsDrawn, groupedBy, groupVerdict}
-use Rattle.version_manager.specs.Laws.{DrawLaws}
+use Rattle.version_manager.specs.Checkpoint.{checkpointVerdict}
+use Rattle.version_manager.specs.Laws.{DrawLaws, CheckpointLaws}
 
 -- entries stay within next ids that rise
 entries-up : (e : ℕ) (ns ms : List ℕ) (l : List Entry) → Rises ns ms → allOf (within e ns) l ≡ true → allOf (within e ms) l ≡ true
@@ -51,6 +55,23 @@ raised-sound m n r v hr hv b k =
       below = subst (λ (u : State). allOf (λ x. ltb (x .table) (u .nextTable)) (u .tables) ≡ true) q (s .below);
       pairs = subst (λ (u : State). allOf (within (u .epoch) (u .nextTable ∷ u .nextRowset ∷ [])) (u .pairs) ≡ true) q (entries-up (t .epoch) (t .nextTable ∷ t .nextRowset ∷ []) (t .nextTable ∷ r ∷ []) (t .pairs) (omega arith, (hr, tt)) (s .pairs));
       vectors = subst (λ (u : State). allOf (within (u .epoch) (u .nextTable ∷ u .nextRowset ∷ u .nextVector ∷ [])) (u .vectors) ≡ true) q (entries-up (t .epoch) (t .nextTable ∷ t .nextRowset ∷ t .nextVector ∷ []) (t .nextTable ∷ r ∷ v ∷ []) (t .vectors) (omega arith, (hr, (hv, tt))) (s .vectors));
+      whole = subst (λ (u : State). leftBehind (u .epoch) u ≡ false) q (s .whole);
+    })
+
+-- and so does a manifest of another length that is within the limit
+rewritten-sound : (m n : VersionManagerInner) → length (rewrittenOf (stateOf m)) ≤ longestManifest → badInner m ≡ false → Hands n (withRewritten (stateOf m)) → badInner n ≡ false
+rewritten-sound m n h b k =
+    let s = sound-of m b in
+    let q = sym (k .state) in
+    of-sound n
+    (record {
+      fits = k .fits;
+      manifest = subst (λ (u : State). u .manifest ≤ longestManifest) q h;
+      names = subst (λ (u : State). allOf (λ x. isName (x .name)) (u .tables) ≡ true) q (s .names);
+      ordered = subst Ordered q (record { tables = s .ordered .tables; pairs = s .ordered .pairs; vectors = s .ordered .vectors });
+      below = subst (λ (u : State). allOf (λ x. ltb (x .table) (u .nextTable)) (u .tables) ≡ true) q (s .below);
+      pairs = subst (λ (u : State). allOf (within (u .epoch) (u .nextTable ∷ u .nextRowset ∷ [])) (u .pairs) ≡ true) q (s .pairs);
+      vectors = subst (λ (u : State). allOf (within (u .epoch) (u .nextTable ∷ u .nextRowset ∷ u .nextVector ∷ [])) (u .vectors) ≡ true) q (s .vectors);
       whole = subst (λ (u : State). leftBehind (u .epoch) u ≡ false) q (s .whole);
     })
 
@@ -87,4 +108,13 @@ draw-laws =
           raised-sound (m .inner) (g .manager .inner) (heldBy m .nextRowset) (heldBy m .nextVector + length (groupedBy h)) (omega arith) (omega arith)
           (none-judged ((badManager m ⇒ BadManager) ∷ groupRules (handlesOf h) (h .count) (heldBy m .nextVector) (length rs) (length ls) (length cs) (length fs) (length ms)) a .0)
           (handed-back (groupVerdict m h rs ls cs fs ms) m (g .manager) (vectorsDrawn (length (groupedBy h)) (heldBy m)) a (w .manager));
+    }
+
+pub checkpoint-laws : CheckpointLaws
+checkpoint-laws =
+    record {
+      sound = λ m out r out′ w a.
+          let good = none-judged ((badManager m ⇒ BadManager) ∷ rewriteRules (length out) (heldBy m)) a .0 in
+          rewritten-sound (m .inner) (r .manager .inner) (omega (arith, w .room good)) good (handed-back (checkpointVerdict m (length out)) m (r .manager) (withRewritten (heldBy m)) a (w .manager));
+      accepted = λ m out r out′ w good h. rw (good, le-ltb (length out) (length (rewrittenOf (heldBy m))) (omega (arith, w .room good, h)));
     }

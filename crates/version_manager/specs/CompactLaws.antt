@@ -6,7 +6,7 @@ use Prim.Native.Nat.{ℕ, _≤_}
 use lib.ListN.{length}
 use Rattle.ids.specs.declared.refusal.Verdict.the-variants.{Accepted}
 use Rattle.version_state.specs.Sound.{leftBehind}
-use Rattle.table.specs.Laws.{Narrow}
+use Rattle.version_state.specs.Widths.{Narrow}
 use Rattle.version_manager.specs.declared.VersionManager.{VersionManager}
 use Rattle.version_manager.specs.declared.Committed.{Committed}
 use Rattle.version_manager.specs.Managers.{heldBy, badManager}

@@ -7,6 +7,7 @@ pub mod Made
 pub mod Create
 pub mod Drop
 pub mod Compact
+pub mod Checkpoint
 pub mod Vacuum
 pub mod Show
 pub mod Lock

@@ -35,11 +35,12 @@ ghost use Rattle.version_manager.specs.Commit.{CommitSays};
 ghost use Rattle.version_manager.specs.Create.{CreateSays};
 ghost use Rattle.version_manager.specs.Drop.{DropSays};
 ghost use Rattle.version_manager.specs.Compact.{CompactSays};
+ghost use Rattle.version_manager.specs.Checkpoint.{CheckpointSays};
 ghost use Rattle.version_manager.specs.Vacuum.{VacuumSays};
 ghost use Rattle.version_manager.specs.Show.{ShowTablesSays, ShowPairsSays, ShowVectorsSays};
 ghost use Rattle.version_manager.specs.Lock.{RelockSays, LockSays, UnlockSays};
 ghost use Rattle.version_manager.specs.Select.{SelectSays};
-ghost use Rattle.version_manager.specs.Laws.{DrawLaws};
+ghost use Rattle.version_manager.specs.Laws.{DrawLaws, CheckpointLaws};
 ghost use Rattle.version_manager.specs.TableLaws.{TableLaws};
 ghost use Rattle.version_manager.specs.CompactLaws.{CompactLaws};
 
@@ -119,6 +120,17 @@ pub struct Vacuumed {
     pub answer: VacuumAnswer,
 }
 
+pub enum CheckpointAnswer {
+    // How many bytes the rewritten manifest has.
+    Rewritten(usize),
+    Refused(Refusal),
+}
+
+pub struct Checkpointed {
+    pub manager: VersionManager,
+    pub answer: CheckpointAnswer,
+}
+
 // After a lock was taken or given back.
 pub struct Locked {
     pub manager: VersionManager,
@@ -139,9 +151,9 @@ fn buffer() -> [u8; LONGEST_LINE]
     [0u8; LONGEST_LINE]
 }
 
-// What fresh, draw, group, create, drop and a compaction hand out passes 29.
+// What fresh, draw, group, a checkpoint, create, drop and a compaction hand out passes 29.
 pub fn holds()
-    ensures { λ _. ⌜ DrawLaws × TableLaws × CompactLaws ⌝ }
+    ensures { λ _. ⌜ DrawLaws × CheckpointLaws × TableLaws × CompactLaws ⌝ }
 {}
 
 impl VersionManager {
@@ -393,6 +405,34 @@ impl VersionManager {
         Committed {
             manager,
             answer: CommitAnswer::Appended(held.epoch, done.length),
+        }
+    }
+
+    // The rewritten manifest of what is shown now, to replace the old one while the store stays open. Epochs, waiting deletions, locks and
+    // next ids go on.
+    pub fn checkpoint(self, out: &mut [u8]) -> Checkpointed
+        ensures { λ r. ⌜ CheckpointSays self (now (out .entry)) r (now (out .exit)) ⌝ }
+    {
+        if self.bad() {
+            return Checkpointed {
+                manager: self,
+                answer: CheckpointAnswer::Refused(Refusal::BadManager),
+            };
+        }
+        let inner = self.inner;
+        let done = rewrite::rewrite_into(inner, out);
+        let verdict = done.verdict;
+        if let Verdict::Refused(refusal) = verdict {
+            return Checkpointed {
+                manager: self,
+                answer: CheckpointAnswer::Refused(refusal),
+            };
+        }
+        let inner = done.inner;
+        let manager = handed(inner);
+        Checkpointed {
+            manager,
+            answer: CheckpointAnswer::Rewritten(done.length),
         }
     }
 

@@ -3,3 +3,4 @@ pub mod State
 pub mod Columns
 pub mod Sets
 pub mod Sound
+pub mod Widths

@@ -9,7 +9,7 @@ use Rattle.columns.specs.Rows.{marks}
 use Rattle.version_state.specs.State.{stateOf}
 use Rattle.version_state.proofs.Facts.{sound-of}
 use Rattle.table.specs.Compact.{compactedBy}
-use Rattle.table.specs.Laws.{Narrow}
+use Rattle.version_state.specs.Widths.{Narrow}
 use Rattle.table.proofs.Judged.{made-no}
 use Rattle.compaction.specs.New.{newOf}
 use Rattle.compaction.proofs.Whole.{few-new, few-places, rule-2, many-taken, taken-rise, rule-6, counted, lines-room, lines-are, state-refused, last-judged, new-short, lines-short, made-off}

@@ -1,6 +1,6 @@
 -- `recovery::holds` meets its contract: the laws of a manifest, of what is appended to it, and of a reopened store. Assumes nothing.
 use mathlib.Core.Path.{refl}
-use Rattle.recovery.proofs.Appending.{empty-holds, holds-replayed, torn-replayed, whole-appended, made-replayed, rewritten-replayed}
+use Rattle.recovery.proofs.Appending.{empty-holds, holds-replayed, replaces, torn-replayed, whole-appended, made-replayed, rewritten-replayed}
 use Rattle.recovery.proofs.Sound.{replay-sound}
 use Rattle.recovery.proofs.Again.{made-same, rewritten-holds, rewritten-room, manager-rewritable, replay-rewritable, replay-room, replay-again}
 use Rattle.recovery.proofs.Locks.{replay-locks}
@@ -11,6 +11,7 @@ returns : tie.Need-returns
 returns c = (
   record { empty = empty-holds; replayed = holds-replayed; whole = whole-appended; torn = torn-replayed; made = made-replayed },
   record { room = rewritten-room; holds = rewritten-holds; replayed = rewritten-replayed; same = λ s. (refl, made-same s); manager = manager-rewritable },
+  record { replaces = replaces },
   record { sound = replay-sound; rewritable = replay-rewritable; room = replay-room; again = replay-again; locks = replay-locks },
 )
 

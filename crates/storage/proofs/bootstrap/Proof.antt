@@ -22,8 +22,8 @@ returns c =
 enum-told : tie.Need-enum-told
 enum-told c = search known
 
-rewrite-into-requires : tie.Need-rewrite-into-requires
-rewrite-into-requires c κs = replay-given _ _ (c .before .before .before .before .replay .ensures) (c .before .before .enum-told .given .1) .1
+opened-requires : tie.Need-opened-requires
+opened-requires c κs = replay-given _ _ (c .before .before .before .before .replay .ensures) (c .before .before .enum-told .given .1) .1
 
 same-length : tie.Need-same-length
 same-length c = search known
@@ -31,7 +31,7 @@ same-length c = search known
 returns-2 : tie.Need-returns-2
 returns-2 c =
     let x = replay-given _ _ (c .before .before .before .before .before .before .before .replay .ensures) (c .before .before .before .before .before .enum-told .given .1) in
-    rw (x .0) (c .before .before .rewrite-into .ensures)
+    rw (x .0) (c .before .before .opened .ensures)
 
 pub bootstrap-spec : {M : Type 1} → statement M
 bootstrap-spec =
@@ -42,6 +42,6 @@ bootstrap-spec =
     refused-requires
     returns
     enum-told
-    rewrite-into-requires
+    opened-requires
     same-length
     returns-2)

@@ -23,8 +23,8 @@ slice-aggregate-copy c = search (needs, length-take-le)
 copy-requires : tie.Need-copy-requires
 copy-requires c κs = search needs
 
-reopened-requires : tie.Need-reopened-requires
-reopened-requires c κs = search needs
+replaced-requires : tie.Need-replaced-requires
+replaced-requires c κs = search needs
 
 with-room-requires : tie.Need-with-room-requires
 with-room-requires c κs = search needs
@@ -45,7 +45,7 @@ stale-spec =
     least-requires
     slice-aggregate-copy
     copy-requires
-    reopened-requires
+    replaced-requires
     with-room-requires
     same-length
     returns-3)

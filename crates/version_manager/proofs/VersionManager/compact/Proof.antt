@@ -4,7 +4,7 @@ use native.Mathlib.Omega.{arith}
 use denote.Ref.{now}
 use lib.ListN.{length, length-take}
 use Rattle.table.specs.Compact.{compactedBy}
-use Rattle.table.specs.Laws.{Narrow}
+use Rattle.version_state.specs.Widths.{Narrow}
 use Rattle.table.proofs.Laws.{made-laws}
 use Rattle.compaction.specs.New.{newOf}
 use Rattle.compaction.proofs.Whole.{few-new}

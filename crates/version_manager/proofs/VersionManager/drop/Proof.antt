@@ -5,7 +5,7 @@ use denote.Ref.{now}
 use lib.ListN.{length, length-take}
 use Rattle.lists.proofs.Places.{known}
 use Rattle.table.specs.Drop.{droppedBy}
-use Rattle.table.specs.Laws.{Narrow}
+use Rattle.version_state.specs.Widths.{Narrow}
 use Rattle.table.proofs.Laws.{made-laws}
 use Rattle.version_manager.specs.Managers.{heldBy}
 use Rattle.version_manager.proofs.Made.{made-within, made-ends, made-refused, made-accepted}

@@ -1,8 +1,8 @@
--- `calls::reopen::opened` meets its contract. Assumes nothing.
+-- `calls::rewrites::opened` meets its contract. Assumes nothing.
 use lib.Seq.{length-take-le}
 use borrow.Author.Needs.{needs}
-use Rattle.calls.proofs.reopen.opened.Statement.{statement}
-use Rattle.calls.proofs.reopen.opened.Tie as tie
+use Rattle.calls.proofs.rewrites.opened.Statement.{statement}
+use Rattle.calls.proofs.rewrites.opened.Tie as tie
 
 least-requires : tie.Need-least-requires
 least-requires c κs = search needs

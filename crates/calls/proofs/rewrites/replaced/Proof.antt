@@ -1,9 +1,9 @@
--- `calls::reopen::replaced` meets its contract. Assumes nothing.
+-- `calls::rewrites::replaced` meets its contract. Assumes nothing.
 use Prim.Native.Nat.{_-_}
 use lib.Seq.{length-take-le}
 use borrow.Author.Needs.{needs}
-use Rattle.calls.proofs.reopen.replaced.Statement.{statement}
-use Rattle.calls.proofs.reopen.replaced.Tie as tie
+use Rattle.calls.proofs.rewrites.replaced.Statement.{statement}
+use Rattle.calls.proofs.rewrites.replaced.Tie as tie
 
 least-requires : tie.Need-least-requires
 least-requires c κs = search needs
@@ -26,8 +26,8 @@ slice-aggregate-copy-2 c = search (needs, length-take-le)
 copy-requires-2 : tie.Need-copy-requires-2
 copy-requires-2 c κs = search needs
 
-reopened-requires : tie.Need-reopened-requires
-reopened-requires c κs = search needs
+replaced-requires : tie.Need-replaced-requires
+replaced-requires c κs = search needs
 
 same-length : tie.Need-same-length
 same-length c = search needs
@@ -49,7 +49,7 @@ replaced-spec =
     least-requires-2
     slice-aggregate-copy-2
     copy-requires-2
-    reopened-requires
+    replaced-requires
     same-length
     same-length-2
     returns)
