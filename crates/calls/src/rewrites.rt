@@ -94,31 +94,24 @@ pub fn reopen(
     reopen_into(world, room, &mut out, file, old, output)
 }
 
+// What a checkpoint leaves: the length is 0 where it is refused.
+struct Rewritten {
+    manager: VersionManager,
+    length: usize,
+}
+
 // Of what is lent so much is used as the room allows.
 fn taken(manager: VersionManager, out: &mut [u8], room: usize) -> Checkpointed {
     let n = script::least(room, out.len());
     manager.checkpoint(&mut out[..n])
 }
 
-fn checkpoint_into(
-    world: World,
-    room: usize,
-    out: &mut [u8; LONGEST_REWRITTEN],
-    file: &mut File,
-    old: &mut File,
-    output: &mut Output,
-) -> World {
-    let manager = world.manager;
-    let len = world.host.len;
+fn written(manager: VersionManager, out: &mut [u8], room: usize, output: &mut Output) -> Rewritten {
     let done = taken(manager, out, room);
     let answer = done.answer;
-    let n = checkpointed(answer, output);
-    if n == 0 {
-        return world;
-    }
+    let length = checkpointed(answer, output);
     let manager = done.manager;
-    let host = replaced(len, n, out, file, old);
-    world.with_manager(manager).with_host(host)
+    Rewritten { manager, length }
 }
 
 pub fn checkpoint(
@@ -133,5 +126,11 @@ pub fn checkpoint(
         return world;
     }
     let mut out = [0u8; LONGEST_REWRITTEN];
-    checkpoint_into(world, room, &mut out, file, old, output)
+    let done = written(world.manager, &mut out, room, output);
+    let n = done.length;
+    if n == 0 {
+        return world;
+    }
+    let host = replaced(world.host.len, n, &out, file, old);
+    world.with_written(done.manager, host)
 }

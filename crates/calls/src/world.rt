@@ -122,6 +122,13 @@ impl World {
         world
     }
 
+    pub fn with_written(self, manager: VersionManager, host: Host) -> World {
+        let mut world = self;
+        world.manager = manager;
+        world.host = host;
+        world
+    }
+
     pub fn with_room(self, room: usize) -> World {
         let host = self.host;
         self.with_host(host.with_room(room))

@@ -60,7 +60,7 @@ pub record Replaces (s : State) (m : VersionManagerInner) : Type 0 where
   pub next : nextOf state ≡ nextOf (stateOf m)
 
 -- Of an open manager that passes 29 and shows what its manifest holds.
-pub record CheckpointLaws : Type 0 where
+pub record ReplaceLaws : Type 0 where
   pub replaces : (src : List ℕ) (s : State) (m : VersionManagerInner) → Holds src s → setsOf (stateOf m) ≡ setsOf s → badInner m ≡ false → Narrow (stateOf m) → Replaces s m
 
 -- Of any manifest that replay accepts.

@@ -128,7 +128,7 @@ module _ (cut : ℕ) (g : Engine) (r : Record) (k : Rel g r) (e : Event) (i : In
       }
 
   -- the Rust is not called
-  Resting : Type 0
+  abbrev Resting : Type 0
   Resting = Stepped (λ h. h ≡ landed (g .running .version) (g .running .next) g) held-after (plain.landed (r .whole) r)
 
   rest-step : (s : State) → held-after ≡ s → s .pairs ≡ m .pairs → s .vectors ≡ m .vectors → s .nextRowset ≡ m .nextRowset → s .nextVector ≡ m .nextVector → Resting

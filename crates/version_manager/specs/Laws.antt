@@ -6,12 +6,12 @@ use Prim.Native.Nat.{ℕ, _≤_}
 use lib.ListN.{length}
 use Rattle.ids.specs.declared.refusal.Verdict.the-variants.{Accepted}
 use Rattle.transaction.specs.declared.Handles.{Handles}
+use Rattle.rewrite.specs.Rewritten.{longestRewritten}
 use Rattle.version_manager.specs.declared.VersionManager.{VersionManager}
 use Rattle.version_manager.specs.declared.Opened.{Opened}
 use Rattle.version_manager.specs.declared.DrawnRowset.{DrawnRowset}
 use Rattle.version_manager.specs.declared.DrawnVector.{DrawnVector}
 use Rattle.version_manager.specs.declared.Grouped.{Grouped}
-use Rattle.rewrite.specs.Rewritten.{longestRewritten}
 use Rattle.version_manager.specs.declared.Checkpointed.{Checkpointed}
 use Rattle.version_manager.specs.Managers.{badManager, FreshSays}
 use Rattle.version_manager.specs.Draw.{rowsetVerdict, vectorVerdict, DrawRowsetSays, DrawVectorSays}
