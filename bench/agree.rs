@@ -33,11 +33,12 @@ struct Both {
 }
 
 // Every number that these calls may answer, in the order in which they are judged.
-const MET: [(&str, &[u32]); 7] = [
+const MET: [(&str, &[u32]); 8] = [
     ("group", &[29, 2, 8, 26, 9, 0]),
     ("create", &[29, 2, 15, 20, 21, 23, 26, 9, 0]),
     ("drop", &[29, 2, 11, 20, 23, 9, 0]),
     ("compact", &[29, 2, 6, 11, 12, 14, 16, 20, 22, 23, 27, 9, 0]),
+    ("checkpoint", &[29, 9, 0]),
     ("lock", &[29, 2, 11, 25, 0]),
     ("unlock", &[29, 2, 11, 27, 0]),
     ("select", &[29, 2, 8, 11, 9, 0]),
@@ -260,6 +261,21 @@ impl Both {
         assert!(x == y, "compact: appends differ");
     }
 
+    // Lent enough, just enough, or one byte less.
+    fn checkpoint(&mut self) {
+        let needed = bound::checkpoint(self.bound, &mut [0; 18625]).answer.values[0] as usize;
+        let room = match self.random.below(4) {
+            0 => needed,
+            1 => needed.saturating_sub(1),
+            _ => 18625,
+        };
+        let (mut x, mut y) = (vec![0u8; room], vec![0u8; room]);
+        let p = port::checkpoint(self.port, &mut x);
+        let b = bound::checkpoint(self.bound, &mut y);
+        self.handed("checkpoint", p, b);
+        assert!(x == y, "checkpoint: rewritten manifests differ");
+    }
+
     fn select(&mut self) {
         let table = self.table();
         let shown = self.shown(table).len();
@@ -321,19 +337,20 @@ impl Both {
         (self.port.epoch, self.port.next, self.port.manifest) = (m.epoch, m.next, m.manifest);
     }
 
-    // A call of tables, locks or handles. Some are on a manager with a number changed, and it is put back then.
+    // A call of tables, locks or handles, or a checkpoint. Some are on a manager with a number changed, and it is put back then.
     fn tables(&mut self) {
         let kept = (self.port, self.bound);
         let strained = self.random.one_in(3);
         if strained {
             self.strain();
         }
-        match self.random.below(10) {
+        match self.random.below(11) {
             0 | 1 => self.lock(),
             2 => self.create(),
             3 | 4 => self.drop(),
             5..8 => self.compact(),
             8 => self.select(),
+            9 => self.checkpoint(),
             _ => self.group(),
         }
         if strained {

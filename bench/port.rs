@@ -54,6 +54,7 @@ extern "C" {
         out: *mut u8,
         room: usize,
     ) -> Handed;
+    fn seqapti_checkpoint(m: Manager, out: *mut u8, room: usize) -> Handed;
     fn seqapti_vacuum(
         m: Manager,
         b: PinBook,
@@ -199,6 +200,11 @@ pub fn compact(m: Manager, table: u32, new: Option<u32>, taken: &[u32], out: &mu
             out.len(),
         )
     }
+}
+
+#[inline(always)]
+pub fn checkpoint(m: Manager, out: &mut [u8]) -> Handed {
+    unsafe { seqapti_checkpoint(m, out.as_mut_ptr(), out.len()) }
 }
 
 #[inline(always)]

@@ -105,7 +105,7 @@ pub fn calls(rows: &mut Rows) {
     show(rows, "show of 256 pairs".into(), full);
 }
 
-// Locks, and the calls that make their own commit.
+// Locks, the calls that make their own commit, and checkpoints.
 pub fn tables(rows: &mut Rows) {
     for held in [0, 256] {
         let m = reopened(&texts::held(held));
@@ -130,6 +130,13 @@ pub fn tables(rows: &mut Rows) {
             m,
             |m, out| port::create(m, 7, b"bookings_of_1997", out),
             |m, out| bound::create(m, 7, b"bookings_of_1997", out),
+        );
+        making(
+            rows,
+            format!("checkpoint, {held} held"),
+            m,
+            port::checkpoint,
+            |m, out| bound::checkpoint(m, out),
         );
     }
     let full = reopened(&texts::one_table(256));
@@ -187,7 +194,7 @@ fn handing(
     );
 }
 
-// A call that makes an append, too.
+// A call that writes bytes for the manifest, too.
 fn making(
     rows: &mut Rows,
     name: String,
@@ -200,7 +207,7 @@ fn making(
     let written = copied(out);
     at(out).fill(0);
     bound(m, at(out));
-    assert!(written == at(out), "{name}: appends differ");
+    assert!(written == at(out), "{name}: bytes differ");
     handing(
         rows,
         name,

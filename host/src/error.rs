@@ -57,7 +57,7 @@ refusals! {
     20 EpochsFull "The last epoch has been reached.",
     21 TablesFull "There are 16 tables.",
     22 HeldFull "256 rowsets or 256 delete vectors are held, those that wait for a vacuum counted.",
-    23 ManifestFull "The manifest would pass 65,536 bytes; a reopen makes it short again.",
+    23 ManifestFull "The manifest would pass 65,536 bytes; a checkpoint makes it short again.",
     24 EpochNotPinned "The epoch is not pinned.",
     25 LockHeld "The table's lock is held.",
     26 IdsUsedUp "All ids of the kind are used up.",
@@ -85,7 +85,8 @@ pub enum StorageError {
     Refused { refusal: Refusal, place: usize },
     /// A file operation failed.
     Io { what: &'static str, path: PathBuf, source: io::Error },
-    /// An append failed, so that the manifest may end in a part of it: nothing is changed before a reopen.
+    /// An append failed, so that the manifest may end in a part of it, or the manifest could not be replaced, so that the
+    /// old or the new one may stand: nothing is changed before a reopen.
     Poisoned,
     /// The store's lock file is held: by another process, by another manager, or by a pin or a table's lock that outlived its manager.
     InUse { path: PathBuf },
@@ -133,7 +134,7 @@ impl fmt::Display for StorageError {
                 write!(f, "cannot {what} {}: {source}", path.display())
             }
             StorageError::Poisoned => f.write_str(
-                "an append to the manifest failed; nothing is changed before the store is reopened",
+                "the manifest could not be appended to or replaced; nothing is changed before the store is reopened",
             ),
             StorageError::InUse { path } => write!(f, "the store is in use: {} is locked", path.display()),
             StorageError::NoManifest { path } => write!(

@@ -82,27 +82,39 @@ impl Folder {
         }
     }
 
-    /// Puts a manifest of these bytes in place of the old one: whoever opens the store finds one of the two, whole.
-    pub fn replace(&self, bytes: &[u8]) -> StorageResult<Manifest> {
-        let path = self.path.join(MANIFEST_FILE_NAME);
-        let temporary = self.path.join(TEMPORARY_FILE_NAME);
+    /// Writes a manifest of these bytes beside the one that stands, which stays as it is whatever fails.
+    pub fn write_beside(&self, bytes: &[u8]) -> StorageResult<Beside> {
+        let path = self.path.join(TEMPORARY_FILE_NAME);
         let written = || -> io::Result<File> {
             faults::step("create temporary")?;
-            let mut file = File::create(&temporary)?;
+            let mut file = File::create(&path)?;
             faults::write("write temporary", &mut file, bytes)?;
             faults::step("sync temporary")?;
             file.sync_all()?;
             Ok(file)
         };
-        let file = written().map_err(StorageError::io("write", &temporary))?;
+        match written() {
+            Ok(file) => Ok(Beside { path, file }),
+            Err(e) => {
+                // One that stays is written over by the next.
+                let _ = fs::remove_file(&path);
+                Err(StorageError::io("write", &path)(e))
+            }
+        }
+    }
+
+    /// Puts it in the place of the one that stands: whoever opens the store finds one of the two, whole. After an error
+    /// it may be either.
+    pub fn put_in_place(&self, beside: Beside) -> StorageResult<Manifest> {
+        let path = self.path.join(MANIFEST_FILE_NAME);
         let renamed = || -> io::Result<()> {
             faults::step("rename")?;
-            fs::rename(&temporary, &path)?;
+            fs::rename(&beside.path, &path)?;
             faults::step("sync folder")?;
             sync_folder(&self.path)
         };
         renamed().map_err(StorageError::io("replace", &path))?;
-        Ok(Manifest::File { path, file })
+        Ok(Manifest::File { path, file: beside.file })
     }
 
     /// Writes files of the folder `dv` that no commit has named yet, and makes them last.
@@ -118,6 +130,12 @@ impl Folder {
         let folder = self.dv_folder();
         sync_folder(&folder).map_err(StorageError::io("sync", &folder))
     }
+}
+
+/// A manifest that is on disk whole and has not taken its place yet.
+pub struct Beside {
+    path: PathBuf,
+    file: File,
 }
 
 /// Where appends go. A mock's stay in memory.

@@ -54,8 +54,8 @@ pub struct Opened {
     pub not_live: NotLive,
 }
 
-/// Manages the epochs of a store. All calls may be made from any thread; they come one after another, and a commit
-/// holds the others until its append is on disk.
+/// Manages the epochs of a store. All calls may be made from any thread; they come one after another, and a commit or a
+/// checkpoint holds the others until it is on disk.
 pub struct VersionManager {
     shared: Arc<Shared>,
     notices: Mutex<Option<Receiver<Notice>>>,
@@ -92,6 +92,12 @@ pub(crate) fn accepted(answer: sys::Answer) -> StorageResult<[u64; 3]> {
     }
 }
 
+// The bytes that an accepted call wrote: the answer says their length last.
+fn handed_out<'a>(answer: &sys::Answer, out: &'a [u8]) -> StorageResult<&'a [u8]> {
+    let length = answer.count.checked_sub(1).and_then(|last| answer.values.get(last));
+    length.and_then(|n| out.get(..*n as usize)).ok_or(StorageError::Border { what: "the length of bytes handed out" })
+}
+
 fn guard<T>(mutex: &Mutex<T>) -> MutexGuard<'_, T> {
     mutex.lock().unwrap_or_else(PoisonError::into_inner)
 }
@@ -111,17 +117,33 @@ impl Inner {
         Ok(values)
     }
 
-    // A change that is no change before its append, whose length the answer says last, is on disk.
+    // A change that is no change before its append is on disk.
     fn land(&mut self, handed: sys::Handed, out: &[u8]) -> StorageResult<[u64; 3]> {
         let values = accepted(handed.answer)?;
-        let length = handed.answer.count.checked_sub(1).and_then(|last| values.get(last)).map(|n| *n as usize);
-        let append = length.and_then(|n| out.get(..n)).ok_or(StorageError::Border { what: "an append's length" })?;
+        let append = handed_out(&handed.answer, out)?;
         self.poisoned = true;
         self.manifest.append(append)?;
         *self.manager = handed.manager;
         self.snapshot = None;
         self.poisoned = false;
         Ok(values)
+    }
+
+    // A rewritten manifest of the same sets. While it is only written beside the old one, a failure changes nothing.
+    fn replace(&mut self, handed: sys::Handed, out: &[u8], folder: Option<&Folder>) -> StorageResult<usize> {
+        accepted(handed.answer)?;
+        let rewritten = handed_out(&handed.answer, out)?;
+        self.manifest = match folder {
+            None => Manifest::Memory(rewritten.to_vec()),
+            Some(folder) => {
+                let beside = folder.write_beside(rewritten)?;
+                self.poisoned = true;
+                folder.put_in_place(beside)?
+            }
+        };
+        *self.manager = handed.manager;
+        self.poisoned = false;
+        Ok(rewritten.len())
     }
 
     fn snapshot(&mut self) -> StorageResult<Arc<Snapshot>> {
@@ -168,7 +190,7 @@ impl Inner {
         if first {
             folder.sync_parent()?;
         }
-        inner.manifest = folder.replace(&rewritten)?;
+        inner.manifest = folder.put_in_place(folder.write_beside(&rewritten)?)?;
         Ok((inner, not_live))
     }
 }
@@ -232,7 +254,8 @@ impl VersionManager {
     }
 
     /// Reads the manifest again, as an opening does. Epochs start anew, so none may be pinned; locks are freed. It is
-    /// the way on after [`StorageError::Poisoned`] and [`Refusal::ManifestFull`].
+    /// the way on after [`StorageError::Poisoned`]. After [`Refusal::ManifestFull`] a
+    /// [`checkpoint`](VersionManager::checkpoint) is enough.
     pub fn reopen(&self) -> StorageResult<NotLive> {
         let mut inner = self.inner();
         if inner.book.count > 0 {
@@ -250,6 +273,20 @@ impl VersionManager {
         drop(inner);
         self.shared.freed.notify_all();
         Ok(not_live)
+    }
+
+    /// Replaces the manifest by a short one of what the current epoch shows, and returns its length, at most 18,625
+    /// bytes. Epochs, pins, locks, drawn ids and deletions that wait go on. It is the way on after
+    /// [`Refusal::ManifestFull`]: any commit has room after it.
+    ///
+    /// Where the new manifest cannot be written, the store goes on with the old one. Where it cannot be put in the old
+    /// one's place, either may stand, and every change is refused with [`StorageError::Poisoned`] until a reopen.
+    pub fn checkpoint(&self) -> StorageResult<usize> {
+        let mut inner = self.inner();
+        inner.may_change()?;
+        let mut out = vec![0; LONGEST_REWRITTEN];
+        let handed = sys::checkpoint(&inner.manager, &mut out);
+        inner.replace(handed, &out, self.shared.folder.as_ref())
     }
 
     /// The notices of due vacuums, for the one who asks first.
@@ -462,12 +499,13 @@ impl VersionManager {
         book.items.iter().take(book.count).map(|pin| (pin.epoch, pin.count)).collect()
     }
 
-    /// How long the manifest is.
+    /// How long the manifest is. A commit that would take it past 65,536 bytes is refused by
+    /// [`Refusal::ManifestFull`]; a [`checkpoint`](VersionManager::checkpoint) makes it short.
     pub fn manifest_len(&self) -> usize {
         self.inner().manager.manifest
     }
 
-    /// Whether an append failed, so that every change is refused before a reopen.
+    /// Whether an append failed, or the manifest could not be replaced, so that every change is refused before a reopen.
     pub fn is_poisoned(&self) -> bool {
         self.inner().poisoned
     }

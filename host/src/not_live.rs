@@ -7,7 +7,7 @@ use std::fs;
 use std::io;
 use std::path::{Path, PathBuf};
 
-/// Told by an opening, when nobody writes yet. Ids that were drawn and never committed are drawn again after a
+/// Told by an opening, when nobody writes yet. Ids that were drawn and never committed may be drawn again after a
 /// reopen, so whoever keeps these has to move them out of the way.
 #[derive(Clone, Debug, Default, PartialEq, Eq)]
 pub struct NotLive {

@@ -28,6 +28,9 @@ impl Pool {
     }
 }
 
+// Of the 65,536 bytes that a manifest has room for: few, so that there are many checkpoints.
+const LONG: usize = 1_000;
+
 struct Engine {
     version: Arc<VersionManager>,
     pool: Arc<Pool>,
@@ -150,6 +153,15 @@ impl Engine {
         self.version.compact(&lock, new, &selected)?;
         Ok(true)
     }
+
+    // Before the manifest is full. Nothing is closed for it, and readers keep their pins.
+    fn shorten(&self) -> StorageResult<bool> {
+        let long = self.version.manifest_len() > LONG;
+        if long {
+            self.version.checkpoint()?;
+        }
+        Ok(long)
+    }
 }
 
 fn vacuum(version: &VersionManager, pool: &Pool, count: &AtomicUsize) {
@@ -190,6 +202,7 @@ fn bookings_are_counted_once() {
     let mut random = Random(3);
     let (mut lowest, mut next) = (0, 0);
     let (boards, mut compactions, mut vacuumed, mut full) = (AtomicUsize::new(0), 0, 0, 0);
+    let mut checkpoints = 0;
     for _ in 0..12 {
         let engine = Engine::open(&folder.store());
         let pin = engine.version.pin().expect("a pin");
@@ -225,6 +238,7 @@ fn bookings_are_counted_once() {
                 }
                 // What waits is held, pins or none.
                 vacuum(&engine.version, &engine.pool, &engine.vacuumed);
+                checkpoints += usize::from(engine.shorten().expect("a checkpoint"));
             }
         });
         vacuumed += engine.vacuumed.load(Ordering::Relaxed);
@@ -236,6 +250,6 @@ fn bookings_are_counted_once() {
     }
     let boards = boards.load(Ordering::Relaxed);
     println!(
-        "bookings: {next} booked, {boards} boards read, {compactions} compactions, {vacuumed} rowsets vacuumed, {full} times full, 12 openings"
+        "bookings: {next} booked, {boards} boards read, {compactions} compactions, {vacuumed} rowsets vacuumed, {full} times full, {checkpoints} checkpoints, 12 openings"
     );
 }

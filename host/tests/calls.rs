@@ -15,10 +15,14 @@ fn number<T: std::fmt::Debug>(told: StorageResult<T>) -> (u32, usize) {
 // A table and rowsets 0, 1, .. in it.
 fn store(rowsets: usize) -> VersionManager {
     let manager = VersionManager::new_mock().expect("a mock");
+    fill(&manager, rowsets);
+    manager
+}
+
+fn fill(manager: &VersionManager, rowsets: usize) {
     manager.create_table("slots", 7).expect("a table");
     let ops: Vec<EpochOp> = (0..rowsets).map(|_| add(0, manager.draw_rowset_id().expect("an id"))).collect();
     manager.commit_changes(ops).expect("a commit");
-    manager
 }
 
 const SLOTS: TableId = TableId(0);
@@ -236,6 +240,70 @@ fn selection_and_compaction() {
     assert_eq!(number(manager.compact(&foreign, None, &[])), (27, 0), "another store's lock");
 }
 
+// With an epoch pinned, a deletion that waits for it, a table's lock held and an id drawn.
+fn goes_on_after_a_checkpoint(manager: &VersionManager) {
+    fill(manager, 2);
+    let notices = manager.take_notices().expect("the notices");
+    let lock = manager.lock_table(SLOTS).expect("a lock");
+    let version = manager.pin().expect("a pin");
+    manager.commit_changes([delete(0, 0)]).expect("a commit");
+    let drawn = manager.draw_rowset_id().expect("an id");
+    while manager.commit_changes([]).is_ok() {}
+    assert_eq!(number(manager.commit_changes([])), (23, 0));
+
+    let held = || (manager.epoch(), manager.next_ids(), manager.pinned());
+    let (before, snapshot) = (held(), manager.snapshot().expect("now"));
+    let length = "B\nN,1,3,0\nT,0,7,slots\nA,0,1\nE\n".len();
+    assert_eq!(manager.checkpoint().expect("a checkpoint"), length);
+    assert_eq!((manager.manifest_len(), held()), (length, before));
+    assert!(Arc::ptr_eq(&snapshot, &manager.snapshot().expect("now")));
+    assert_eq!(number(manager.lock_table(SLOTS)), (25, 0));
+    assert_eq!(manager.find_vacuum().expect("a vacuum"), [], "the pin shows what waits");
+
+    let epoch = manager.epoch();
+    assert_eq!(manager.commit_changes([add(0, drawn)]).expect("a commit"), epoch + 1);
+    assert_eq!(version.snapshot().get_rowsets_of(SLOTS), Some(&[RowsetId(0), RowsetId(1)][..]));
+    let epoch = version.epoch();
+    drop(version);
+    assert_eq!(notices.try_recv(), Ok(Notice { epoch, ready: 1 }));
+    assert_eq!(manager.find_vacuum().expect("a vacuum"), [(SLOTS, RowsetId(0))]);
+    manager.compact(&lock, None, &[RowsetId(1)]).expect("a compaction by the same lock");
+    let sets = Sets::now(manager);
+    assert_eq!(sets.pairs, [(0, drawn.0)].into());
+    manager.reopen().expect("a reopen");
+    assert_eq!(Sets::now(manager), sets);
+}
+
+#[test]
+fn a_full_store_goes_on_after_a_checkpoint() {
+    goes_on_after_a_checkpoint(&VersionManager::new_mock().expect("a mock"));
+    goes_on_after_a_checkpoint(&Folder::in_memory("full").open());
+}
+
+#[test]
+fn checkpoints_of_a_new_store_and_twice_in_a_row() {
+    let folder = Folder::in_memory("checkpoint");
+    let manager = folder.open();
+    let checkpoint = || {
+        let length = manager.checkpoint().expect("a checkpoint");
+        let bytes = std::fs::read(folder.manifest()).expect("the manifest");
+        assert_eq!((length, manager.manifest_len()), (bytes.len(), bytes.len()));
+        assert!(!folder.store().join("manifest.tmp").exists());
+        String::from_utf8(bytes).expect("text")
+    };
+    assert_eq!((checkpoint(), manager.epoch()), ("B\nN,0,0,0\nE\n".into(), 1));
+    assert_eq!((checkpoint(), manager.epoch()), ("B\nN,0,0,0\nE\n".into(), 1));
+    fill(&manager, 2);
+    manager.group_deletes(&[SecondaryRowHandler(RowsetId(0), RowId(1))]).expect("a vector");
+    manager.commit_changes([EpochOp::add_dv(SLOTS, RowsetId(1), VectorId(0))]).expect("a commit");
+    manager.draw_dv_id().expect("an id");
+    let text = "B\nN,1,2,2\nT,0,7,slots\nA,0,0\nA,0,1\nV,0,1,0\nE\n";
+    assert_eq!((checkpoint(), checkpoint()), (text.into(), text.into()));
+    manager.commit_changes([delete(0, 0)]).expect("a commit");
+    let appended = std::fs::read(folder.manifest()).expect("the manifest");
+    assert_eq!(appended, format!("{text}B\nD,0,0\nE\n").as_bytes());
+}
+
 #[test]
 fn deletes_are_grouped() {
     let manager = store(2);
@@ -299,6 +367,14 @@ fn ids_come_again_only_if_nothing_named_them() {
     manager.drop_table(SLOTS).expect("a drop");
     manager.reopen().expect("a reopen");
     assert_eq!(manager.create_table("slots", 7).expect("a table"), TableId(1));
+
+    // A checkpoint names all that were drawn before it.
+    let drawn = (manager.draw_rowset_id().expect("an id"), manager.draw_dv_id().expect("an id"));
+    manager.checkpoint().expect("a checkpoint");
+    manager.draw_rowset_id().expect("an id");
+    manager.reopen().expect("a reopen");
+    let next = manager.next_ids();
+    assert_eq!((next.rowset, next.dv), (RowsetId(drawn.0 .0 + 1), VectorId(drawn.1 .0 + 1)));
 }
 
 #[test]
@@ -326,6 +402,7 @@ fn a_small_stack_is_enough() {
         let dvs = manager.group_deletes(&handles).expect("vectors");
         let ops: Vec<_> = dvs.iter().map(|g| EpochOp::add_dv(SLOTS, g.vector.rowset_id(), g.vector.dv_id())).collect();
         manager.commit_changes(ops).expect("a commit");
+        manager.checkpoint().expect("a checkpoint");
         drop(version);
         manager.drop_table(SLOTS).expect("a drop");
         manager.vacuum().expect("a vacuum");
@@ -364,6 +441,29 @@ fn the_longest_appends_have_room() {
 
     let mock = VersionManager::new_mock().expect("a mock");
     mock.create_table(&"n".repeat(32), u32::MAX).expect("a table");
+}
+
+#[test]
+fn the_longest_rewritten_manifest_has_room_and_leaves_some() {
+    let (id, dv) = (|i| u32::MAX - 1 - i, |i| u64::MAX - 1 - i);
+    let mut text = format!("B\nN,{0},{0},{1}\n", u32::MAX, u64::MAX);
+    for i in (0..16).rev() {
+        text += &format!("T,{},{},{i:n>32}\n", id(i), u32::MAX);
+    }
+    for i in (0..256).rev() {
+        text += &format!("A,{},{}\n", id(0), id(i));
+    }
+    for i in (0..256).rev() {
+        text += &format!("V,{},{},{}\n", id(0), id(i), dv(u64::from(i)));
+    }
+    text += "E\n";
+    let folder = Folder::in_memory("longest");
+    folder.write_manifest(text.as_bytes());
+    let manager = folder.open();
+    while manager.commit_changes([]).is_ok() {}
+    assert_eq!(manager.checkpoint().expect("a checkpoint"), 18_625);
+    assert_eq!(std::fs::read(folder.manifest()).expect("the manifest"), text.as_bytes());
+    manager.drop_table(TableId(id(0))).expect("a drop of all that is held");
 }
 
 #[test]

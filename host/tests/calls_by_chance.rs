@@ -16,6 +16,8 @@ struct Writer {
     random: Random,
     // At times nothing is deleted, so that the store fills up.
     growing: bool,
+    // A call was refused by 23, and no checkpoint has come since.
+    full: bool,
     // How often each call answered each number.
     numbers: BTreeMap<(&'static str, u32), usize>,
 }
@@ -24,7 +26,7 @@ impl Writer {
     fn new(manager: Arc<VersionManager>, seed: u64) -> Writer {
         let mut model = Model::default();
         model.reopen(manager.manifest_len());
-        Writer { manager, model, random: Random(seed), growing: false, numbers: BTreeMap::new() }
+        Writer { manager, model, random: Random(seed), growing: false, full: false, numbers: BTreeMap::new() }
     }
 
     fn said<T>(&mut self, call: &'static str, told: StorageResult<T>, expected: Result<(), u32>) -> Option<T> {
@@ -34,6 +36,7 @@ impl Writer {
         };
         assert_eq!(number, expected.err().unwrap_or(0), "{call}");
         *self.numbers.entry((call, number)).or_default() += 1;
+        self.full |= number == 23;
         told.ok()
     }
 
@@ -192,15 +195,22 @@ impl Writer {
         done
     }
 
+    fn checkpoint(&mut self) {
+        let length = self.manager.checkpoint().expect("a checkpoint");
+        let rewritten = self.model.checkpoint();
+        let bytes = std::fs::read(self.manager.path().join(MANIFEST_FILE_NAME)).expect("the manifest");
+        assert_eq!(bytes, rewritten.as_bytes());
+        assert_eq!((length, self.manager.manifest_len()), (bytes.len(), bytes.len()));
+        assert_eq!((self.manager.epoch(), Sets::now(&self.manager)), (self.model.epoch, self.model.sets.clone()));
+        *self.numbers.entry(("checkpoint", 0)).or_default() += 1;
+        self.full = false;
+    }
+
     fn reopen(&mut self) {
         self.manager.reopen().expect("a reopen");
         self.model.reopen(self.manager.manifest_len());
         assert_eq!(Sets::now(&self.manager), self.model.sets);
         *self.numbers.entry(("reopen", 0)).or_default() += 1;
-    }
-
-    fn is_full(&self) -> bool {
-        self.numbers.get(&("commit", 23)).copied().unwrap_or(0) > 0 || self.model.length > 65_000
     }
 }
 
@@ -211,7 +221,7 @@ fn alone() {
     let notices = manager.take_notices().expect("the notices");
     let mut w = Writer::new(manager, 11);
     let mut versions: Vec<(Version, Sets)> = Vec::new();
-    for _ in 0..60_000 {
+    for turn in 0..100_000 {
         match w.random.below(100) {
             0..25 => w.draw(),
             25..60 => w.change(&|_| {}),
@@ -219,7 +229,12 @@ fn alone() {
             75..92 => unpin(&mut w, &mut versions, &notices),
             _ => vacuum(&mut w),
         }
-        if w.model.length > 65_400 || w.random.one_in(4000) {
+        // At first by chance, and then only where the manifest is full.
+        let by_chance = |random: &mut Random| turn < 60_000 && random.one_in(4000);
+        if w.full || by_chance(&mut w.random) {
+            w.checkpoint();
+        }
+        if by_chance(&mut w.random) {
             while !versions.is_empty() {
                 unpin(&mut w, &mut versions, &notices);
             }
@@ -227,7 +242,7 @@ fn alone() {
         }
     }
     println!("alone: {} calls; {:?}", w.numbers.values().sum::<usize>(), w.numbers);
-    for number in [0, 2, 11, 12, 14, 15, 16, 17, 22] {
+    for number in [0, 2, 11, 12, 14, 15, 16, 17, 22, 23] {
         assert!(w.numbers.contains_key(&("commit", number)), "{number} was not met");
     }
 }
@@ -321,7 +336,7 @@ fn write_beside_readers(folder: &Folder, least_turns: usize, least_pins: usize) 
         })
         .collect();
 
-    let mut turns = 0;
+    let (mut turns, seldom) = (0, least_turns as u64 / 10);
     let announce = |after: &Model| {
         board.epochs.lock().expect("no panic").insert(after.epoch, Arc::new(after.sets.clone()));
     };
@@ -337,8 +352,11 @@ fn write_beside_readers(folder: &Folder, least_turns: usize, least_pins: usize) 
             }
             _ => vacuum_beside_pins(&mut w, &board),
         }
-        if w.is_full() {
-            w.numbers.remove(&("commit", 23));
+        if w.full || w.random.one_in(seldom) {
+            // Beside the readers and their pins.
+            w.checkpoint();
+        }
+        if w.random.one_in(seldom) {
             let _alone = board.reopening.write().expect("no reader panics");
             w.reopen();
             let mut epochs = board.epochs.lock().expect("no panic");

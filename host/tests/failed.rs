@@ -1,4 +1,5 @@
-//! Steps of an append or a rewrite that fail: nothing follows a failed append before a reopen.
+//! Steps of an append or a rewrite that fail: nothing follows a failed append before a reopen, nor a manifest that may or
+//! may not have been replaced.
 mod common;
 use common::*;
 use seqapti::faults::{self, Fault, Plan};
@@ -44,6 +45,7 @@ fn an_append_that_fails_is_followed_by_none() {
         assert!(is_poisoned(manager.create_table("rides", 1)));
         assert!(is_poisoned(manager.drop_table(TableId(0))));
         assert!(is_poisoned(manager.compact(&lock, None, &[])));
+        assert!(is_poisoned(manager.checkpoint()));
         assert!(is_poisoned(manager.vacuum()));
         assert!(is_poisoned(manager.draw_rowset_id()));
         assert!(is_poisoned(manager.draw_dv_id()));
@@ -77,6 +79,9 @@ fn an_append_that_fails_is_followed_by_none() {
     println!("failed appends: {tries}, each followed by a reopen");
 }
 
+const REWRITE: [&str; 5] = ["create temporary", "write temporary", "sync temporary", "rename", "sync folder"];
+const RENAME: usize = 3;
+
 #[test]
 fn a_rewrite_that_fails_leaves_the_store() {
     let folder = Folder::in_memory("rewrite");
@@ -85,9 +90,8 @@ fn a_rewrite_that_fails_leaves_the_store() {
     faults::plan(None);
     drop(manager);
     drop(folder.open());
-    let in_order = ["create temporary", "write temporary", "sync temporary", "rename", "sync folder"];
-    assert_eq!(faults::passed(), in_order);
-    let steps = in_order.len();
+    assert_eq!(faults::passed(), REWRITE);
+    let steps = REWRITE.len();
     for at in 0..steps {
         fail(at, 5);
         assert!(is_io(VersionManager::open(folder.store())));
@@ -105,6 +109,83 @@ fn a_rewrite_that_fails_leaves_the_store() {
         manager.commit_changes([]).expect("a commit");
     }
     println!("failed rewrites: {steps} steps, opening and reopening");
+}
+
+// Before the rename the old manifest stands, and the store goes on with it.
+#[test]
+fn a_checkpoint_that_cannot_be_written_changes_nothing() {
+    let folder = Folder::in_memory("written");
+    let manager = with_a_table(&folder);
+    let mut tries = 0;
+    for (at, landed) in [(0, 0), (1, 0), (1, 5), (1, 1000), (2, 0)] {
+        let id = manager.draw_rowset_id().expect("an id");
+        manager.commit_changes([add(0, id)]).expect("a commit");
+        let version = manager.pin().expect("a pin");
+        manager.commit_changes([delete(0, id.0)]).expect("a commit");
+        let held = || (manager.epoch(), manager.next_ids(), manager.pinned(), manager.manifest_len());
+        let (before, sets, bytes) = (held(), Sets::now(&manager), std::fs::read(folder.manifest()).expect("bytes"));
+        fail(at, landed);
+        assert!(is_io(manager.checkpoint()));
+        assert_eq!(faults::passed(), REWRITE[..=at]);
+        faults::plan(None);
+
+        assert!(!manager.is_poisoned());
+        assert_eq!((held(), Sets::now(&manager)), (before, sets));
+        assert_eq!(std::fs::read(folder.manifest()).expect("bytes"), bytes);
+        assert!(!folder.store().join("manifest.tmp").exists());
+        manager.commit_changes([]).expect("a commit");
+        assert_eq!(std::fs::read(folder.manifest()).expect("bytes"), [&bytes[..], b"B\nE\n"].concat());
+        drop(version);
+        assert_eq!(manager.find_vacuum().expect("a vacuum"), [(TableId(0), id)]);
+        if tries % 2 == 0 {
+            assert_eq!(manager.checkpoint().expect("a checkpoint"), manager.manifest_len());
+        }
+        tries += 1;
+    }
+    let sets = Sets::now(&manager);
+    drop(manager);
+    assert_eq!(Sets::now(&folder.open()), sets);
+    println!("failed checkpoints: {tries} before the rename");
+}
+
+// From the rename on the old manifest may stand or the new one.
+#[test]
+fn a_checkpoint_that_may_have_landed_is_followed_by_a_reopen() {
+    let folder = Folder::in_memory("landed");
+    let mut manager = with_a_table(&folder);
+    let mut tries = 0;
+    for (at, again) in [(RENAME, false), (RENAME, true), (RENAME + 1, false), (RENAME + 1, true)] {
+        let version = manager.pin().expect("a pin");
+        let id = manager.draw_rowset_id().expect("an id");
+        manager.commit_changes([add(0, id)]).expect("a commit");
+        manager.draw_rowset_id().expect("an id that is never committed");
+        let (epoch, sets, length) = (manager.epoch(), Sets::now(&manager), manager.manifest_len());
+        fail(at, 0);
+        assert!(is_io(manager.checkpoint()));
+        assert_eq!(faults::passed(), REWRITE[..=at]);
+        faults::plan(None);
+
+        assert!(manager.is_poisoned());
+        assert!(is_poisoned(manager.checkpoint()) && is_poisoned(manager.commit_changes([])));
+        assert!(is_poisoned(manager.vacuum()) && is_poisoned(manager.draw_rowset_id()));
+        assert_eq!(faults::passed(), [] as [&str; 0], "no step was tried");
+        assert_eq!((manager.epoch(), Sets::now(&manager), manager.manifest_len()), (epoch, sets.clone(), length));
+        drop((manager.pin().expect("a pin"), version));
+
+        // The next ids of the new manifest are those drawn, of the old one those committed.
+        if again {
+            manager.reopen().expect("a reopen");
+        } else {
+            drop(manager);
+            manager = folder.open();
+        }
+        assert_eq!(Sets::now(&manager), sets);
+        assert_eq!(manager.next_ids().rowset.0, id.0 + if at == RENAME { 1 } else { 2 });
+        manager.commit_changes([]).expect("a commit");
+        manager.checkpoint().expect("a checkpoint");
+        tries += 1;
+    }
+    println!("failed checkpoints: {tries} from the rename on, each followed by a reopen");
 }
 
 #[test]

@@ -251,6 +251,11 @@ fn writes_to_a_full_disk() {
     let mut tries = 0;
     for room in 0..24 {
         let before = Sets::now(&manager);
+        // No room for a rewritten manifest: the old one stands, and the store goes on.
+        limit_files(room);
+        assert_eq!(io_kind(manager.checkpoint()), Some(ErrorKind::FileTooLarge));
+        limit_files(u64::MAX);
+        assert!(!manager.is_poisoned() && !manager.path().join("manifest.tmp").exists());
         let id = manager.draw_rowset_id().expect("an id");
         let append = format!("B\nA,0,{id}\nE\n").len() as u64;
         limit_files(manager.manifest_len() as u64 + room);
@@ -273,7 +278,7 @@ fn writes_to_a_full_disk() {
             manager.commit_changes([EpochOp::delete_rowset(table, id)]).expect("a commit");
         }
     }
-    println!("full disk: {tries} appends cut short");
+    println!("full disk: {tries} appends and 24 checkpoints cut short");
 }
 
 #[test]

@@ -44,12 +44,15 @@ fn found(folder: &Folder) -> u32 {
     changes
 }
 
-// An opening and three changes.
+// An opening and three changes, and a checkpoint before the last, with a pin that outlasts it.
 fn run(folder: &std::path::Path) {
     let manager = VersionManager::open(folder).expect("an opening").manager;
-    for _ in 0..3 {
+    let _version = manager.pin().expect("a pin");
+    for _ in 0..2 {
         change(&manager).expect("a change");
     }
+    manager.checkpoint().expect("a checkpoint");
+    change(&manager).expect("a change");
 }
 
 #[test]
@@ -98,8 +101,10 @@ fn changes_until_killed() {
     for turn in 1.. {
         let changes = change(&manager).expect("a change");
         writeln!(out, "changes {changes}").and_then(|()| out.flush()).expect("a line");
-        if turn % 5 == 0 {
+        if turn % 6 == 0 {
             manager.reopen().expect("a reopen");
+        } else if turn % 2 == 0 {
+            manager.checkpoint().expect("a checkpoint");
         }
     }
 }

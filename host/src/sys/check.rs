@@ -5,6 +5,8 @@ use crate::error::{StorageError, StorageResult};
 use std::sync::OnceLock;
 
 const TEXT: &[u8] = b"B\nN,41,42,43\nT,3,31,tides\nT,5,52,sea\nA,3,6\nA,3,7\nA,5,8\nV,3,6,11\nV,5,8,12\nE\n";
+// After the commit below.
+const REWRITTEN: &[u8] = b"B\nN,41,42,43\nT,3,31,tides\nT,5,52,sea\nA,3,6\nA,3,7\nA,3,9\nV,3,6,11\nV,3,9,13\nE\n";
 
 /// Judged once in a process, before its first store is opened.
 pub fn check() -> StorageResult<()> {
@@ -60,6 +62,11 @@ fn differs() -> Option<&'static str> {
         c.manager.rowsets.added[..4] => [1, 1, 2, 1], c.manager.rowsets.deleted[..4] => [0, 0, 0, 2],
         c.manager.vectors.vectors[..3] => [11, 13, 12], c.manager.vectors.added[..3] => [1, 2, 1],
         c.manager.vectors.deleted[..3] => [0, 0, 2]);
+    let k = checkpoint(&c.manager, &mut out);
+    same!("a checkpoint", k.answer.number => 0, k.answer.count => 1, k.answer.values[0] => REWRITTEN.len() as u64,
+        out[..REWRITTEN.len()] => *REWRITTEN, k.manager.manifest => REWRITTEN.len(), k.manager.epoch => 2,
+        k.manager.tables.locked[..2] => [0, 1], k.manager.rowsets.deleted[..4] => [0, 0, 0, 2],
+        k.manager.vectors.deleted[..3] => [0, 0, 2]);
     let twice = pin(&c.manager, &pinned.book);
     same!("two pins", twice.book.count => 2, twice.book.items[1] => Pin { epoch: 2, count: 1 });
     let off = unpin(&c.manager, &twice.book, 1);
@@ -71,8 +78,22 @@ fn differs() -> Option<&'static str> {
 
 #[cfg(test)]
 mod tests {
+    use super::*;
+
     #[test]
     fn the_archive_lays_out_its_structs_as_this_crate_does() {
-        assert_eq!(super::differs(), None);
+        assert_eq!(differs(), None);
+    }
+
+    // The manager of a store is never at epoch 0, and lends enough.
+    #[test]
+    fn a_checkpoint_at_epoch_0_and_one_lent_too_little() {
+        let manager = fresh().manager;
+        let mut out = [7; 12];
+        let refused = checkpoint(&manager, &mut out[..11]);
+        assert_eq!((refused.answer.number, refused.manager.manifest, out), (9, 0, [7; 12]));
+        let done = checkpoint(&manager, &mut out);
+        assert_eq!((done.answer.number, done.answer.values[0], &out), (0, 12, b"B\nN,0,0,0\nE\n"));
+        assert_eq!((done.manager.epoch, done.manager.manifest), (0, 12));
     }
 }

@@ -41,6 +41,7 @@ extern "C" {
         out: *mut u8,
         room: usize,
     ) -> Handed;
+    fn seqapti_checkpoint(m: Manager, out: *mut u8, room: usize) -> Handed;
     #[rustfmt::skip]
     fn seqapti_vacuum(m: Manager, b: PinBook, t: *mut u32, tn: usize, r: *mut u32, rn: usize) -> Handed;
     #[rustfmt::skip]
@@ -143,6 +144,10 @@ pub fn compact(m: &Manager, table: u32, new: Option<u32>, taken: &[u32], out: &m
     unsafe {
         seqapti_compact(*m, table, new.is_some(), new.unwrap_or(0), taken.as_ptr(), taken.len(), out.as_mut_ptr(), out.len())
     }
+}
+
+pub fn checkpoint(m: &Manager, out: &mut [u8]) -> Handed {
+    unsafe { seqapti_checkpoint(*m, out.as_mut_ptr(), out.len()) }
 }
 
 #[rustfmt::skip]

@@ -14,7 +14,7 @@ pub struct Model {
     pub waiting_vectors: BTreeSet<(u32, (u32, u32, u64))>,
     pub pins: BTreeMap<u32, u32>,
     pub next: (u32, u32, u64),
-    // As the manifest says: ids that were drawn and never committed are drawn again after a reopen.
+    // As the manifest says: ids that were drawn since the last checkpoint and never committed are drawn again after a reopen.
     pub on_disk: (u32, u32, u64),
     pub length: usize,
 }
@@ -184,6 +184,19 @@ impl Model {
         }
         self.pins.remove(&epoch);
         (epoch != self.epoch).then(|| self.ready().len())
+    }
+
+    /// The rewritten manifest.
+    pub fn checkpoint(&mut self) -> String {
+        let (sets, next) = (&self.sets, &self.next);
+        let tables = sets.tables.iter().map(|(t, (shape, name))| format!("T,{t},{shape},{name}\n"));
+        let pairs = sets.pairs.iter().map(|(t, r)| format!("A,{t},{r}\n"));
+        let vectors = sets.vectors.iter().map(|(t, r, v)| format!("V,{t},{r},{v}\n"));
+        let lines: String = tables.chain(pairs).chain(vectors).collect();
+        let text = format!("B\nN,{},{},{}\n{lines}E\n", next.0, next.1, next.2);
+        self.on_disk = self.next;
+        self.length = text.len();
+        text
     }
 
     pub fn reopen(&mut self, length: usize) {

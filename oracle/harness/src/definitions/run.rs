@@ -72,7 +72,7 @@ pub fn group(count: u64, ids: NextId) -> NextId {
     next_id(ids.rowset, wrapping(u128::from(ids.dv) + u128::from(count)))
 }
 
-/// Locks are not the version manager's.
+/// The original is not called: locks are not the version manager's, and it has no checkpoint.
 pub fn rests(g: Engine) -> Engine {
     landed(g.running.version.clone(), g.running.next, g)
 }
