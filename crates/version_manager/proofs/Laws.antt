@@ -39,56 +39,59 @@ entries-up : (e : ℕ) (ns ms : List ℕ) (l : List Entry) → Rises ns ms → a
 entries-up e ns ms l r t =
     all-allOf (within e ms) l (all-map l (of-within e ms) (within-up e e ns ms (omega arith) r l (all-map l (within-of e ns) (allOf-all (within e ns) l t))))
 
+-- what 29 asks of a state, its counts aside
+record Passes (s : State) : Type 0 where
+  manifest : s .manifest ≤ longestManifest
+  names : allOf (λ x. isName (x .name)) (s .tables) ≡ true
+  ordered : Ordered s
+  below : allOf (λ x. ltb (x .table) (s .nextTable)) (s .tables) ≡ true
+  pairs : allOf (within (s .epoch) (s .nextTable ∷ s .nextRowset ∷ [])) (s .pairs) ≡ true
+  vectors : allOf (within (s .epoch) (s .nextTable ∷ s .nextRowset ∷ s .nextVector ∷ [])) (s .vectors) ≡ true
+  whole : leftBehind (s .epoch) s ≡ false
+
+-- a manager that stands for such a state
+handed-sound : (n : VersionManagerInner) (s : State) → Hands n s → Passes s → badInner n ≡ false
+handed-sound n s k p =
+    let q = subst Passes (sym (k .state)) p in
+    of-sound n
+    (record { fits = k .fits; manifest = q .manifest; names = q .names; ordered = q .ordered; below = q .below; pairs = q .pairs; vectors = q .vectors; whole = q .whole })
+
 -- next ids of rowsets and vectors that rise leave a manager that passes 29 passing it
 raised-sound : (m n : VersionManagerInner) (r v : ℕ) → stateOf m .nextRowset ≤ r → stateOf m .nextVector ≤ v
     → badInner m ≡ false → Hands n (withNext (stateOf m) (stateOf m .nextTable) r v) → badInner n ≡ false
 raised-sound m n r v hr hv b k =
     let s = sound-of m b in
-    let q = sym (k .state) in
     let t = stateOf m in
-    of-sound n
+    handed-sound n (withNext t (t .nextTable) r v) k
     (record {
-      fits = k .fits;
-      manifest = subst (λ (u : State). u .manifest ≤ longestManifest) q (s .manifest);
-      names = subst (λ (u : State). allOf (λ x. isName (x .name)) (u .tables) ≡ true) q (s .names);
-      ordered = subst Ordered q (record { tables = s .ordered .tables; pairs = s .ordered .pairs; vectors = s .ordered .vectors });
-      below = subst (λ (u : State). allOf (λ x. ltb (x .table) (u .nextTable)) (u .tables) ≡ true) q (s .below);
-      pairs = subst (λ (u : State). allOf (within (u .epoch) (u .nextTable ∷ u .nextRowset ∷ [])) (u .pairs) ≡ true) q (entries-up (t .epoch) (t .nextTable ∷ t .nextRowset ∷ []) (t .nextTable ∷ r ∷ []) (t .pairs) (omega arith, (hr, tt)) (s .pairs));
-      vectors = subst (λ (u : State). allOf (within (u .epoch) (u .nextTable ∷ u .nextRowset ∷ u .nextVector ∷ [])) (u .vectors) ≡ true) q (entries-up (t .epoch) (t .nextTable ∷ t .nextRowset ∷ t .nextVector ∷ []) (t .nextTable ∷ r ∷ v ∷ []) (t .vectors) (omega arith, (hr, (hv, tt))) (s .vectors));
-      whole = subst (λ (u : State). leftBehind (u .epoch) u ≡ false) q (s .whole);
+      manifest = s .manifest;
+      names = s .names;
+      ordered = record { tables = s .ordered .tables; pairs = s .ordered .pairs; vectors = s .ordered .vectors };
+      below = s .below;
+      pairs = entries-up (t .epoch) (t .nextTable ∷ t .nextRowset ∷ []) (t .nextTable ∷ r ∷ []) (t .pairs) (omega arith, (hr, tt)) (s .pairs);
+      vectors = entries-up (t .epoch) (t .nextTable ∷ t .nextRowset ∷ t .nextVector ∷ []) (t .nextTable ∷ r ∷ v ∷ []) (t .vectors) (omega arith, (hr, (hv, tt))) (s .vectors);
+      whole = s .whole;
     })
 
 -- and so does a manifest of another length that is within the limit
 rewritten-sound : (m n : VersionManagerInner) → length (rewrittenOf (stateOf m)) ≤ longestManifest → badInner m ≡ false → Hands n (withRewritten (stateOf m)) → badInner n ≡ false
 rewritten-sound m n h b k =
     let s = sound-of m b in
-    let q = sym (k .state) in
-    of-sound n
+    handed-sound n (withRewritten (stateOf m)) k
     (record {
-      fits = k .fits;
-      manifest = subst (λ (u : State). u .manifest ≤ longestManifest) q h;
-      names = subst (λ (u : State). allOf (λ x. isName (x .name)) (u .tables) ≡ true) q (s .names);
-      ordered = subst Ordered q (record { tables = s .ordered .tables; pairs = s .ordered .pairs; vectors = s .ordered .vectors });
-      below = subst (λ (u : State). allOf (λ x. ltb (x .table) (u .nextTable)) (u .tables) ≡ true) q (s .below);
-      pairs = subst (λ (u : State). allOf (within (u .epoch) (u .nextTable ∷ u .nextRowset ∷ [])) (u .pairs) ≡ true) q (s .pairs);
-      vectors = subst (λ (u : State). allOf (within (u .epoch) (u .nextTable ∷ u .nextRowset ∷ u .nextVector ∷ [])) (u .vectors) ≡ true) q (s .vectors);
-      whole = subst (λ (u : State). leftBehind (u .epoch) u ≡ false) q (s .whole);
+      manifest = h;
+      names = s .names;
+      ordered = record { tables = s .ordered .tables; pairs = s .ordered .pairs; vectors = s .ordered .vectors };
+      below = s .below;
+      pairs = s .pairs;
+      vectors = s .vectors;
+      whole = s .whole;
     })
 
 start-sound : (n : VersionManagerInner) → Hands n start → badInner n ≡ false
 start-sound n k =
-    let q = sym (k .state) in
-    of-sound n
-    (record {
-      fits = k .fits;
-      manifest = subst (λ (u : State). u .manifest ≤ longestManifest) q (omega arith);
-      names = subst (λ (u : State). allOf (λ x. isName (x .name)) (u .tables) ≡ true) q refl;
-      ordered = subst Ordered q (record { tables = refl; pairs = refl; vectors = refl });
-      below = subst (λ (u : State). allOf (λ x. ltb (x .table) (u .nextTable)) (u .tables) ≡ true) q refl;
-      pairs = subst (λ (u : State). allOf (within (u .epoch) (u .nextTable ∷ u .nextRowset ∷ [])) (u .pairs) ≡ true) q refl;
-      vectors = subst (λ (u : State). allOf (within (u .epoch) (u .nextTable ∷ u .nextRowset ∷ u .nextVector ∷ [])) (u .vectors) ≡ true) q refl;
-      whole = subst (λ (u : State). leftBehind (u .epoch) u ≡ false) q refl;
-    })
+    handed-sound n start k
+    (record { manifest = omega arith; names = refl; ordered = record { tables = refl; pairs = refl; vectors = refl }; below = refl; pairs = refl; vectors = refl; whole = refl })
 
 handed-back : (d : Verdict) (m n : VersionManager) (s : State) → d ≡ Accepted → HandsBack d m s n → Hands (n .inner) s
 handed-back Accepted m n s e h = h
