@@ -141,29 +141,31 @@ append-alike : (bs : List Operation) (j : ℕ) (so to : List ℕ) (s : State) (f
 append-alike bs zero so to s f g m n = rw (nothing-on so, nothing-on to) (alike-same (finished s))
 append-alike bs (suc zero) so to s f g m n = rw (unmarked so, unmarked to) (alike-same (finished s))
 append-alike bs (suc (suc j)) so to s f g m n =
+    let ls = map lineOf (lines (take j (frameOf bs))) in
+    let c = carried s none (m + 1) in
+    let d = carried s none (n + 1) in
     rw (marked-read so (take j (frameOf bs)) (carried s f m), marked-read to (take j (frameOf bs)) (carried s g n))
-    (ends-alike _ _ (said-alike (map lineOf (lines (take j (frameOf bs)))) (carried s none (m + 1)) (carried s none (n + 1)) (record { state = refl; frame = tt })))
+    (ends-alike (saidRead ls c) (saidRead ls d) (said-alike ls c d (record { state = refl; frame = tt })))
 
-pub passed : (src : List ℕ) (os : List Operation) (k : ℕ) (bs : List Operation) (j : ℕ)
-    → allOf wellFormed os ≡ true → length os ≤ mostOperations → k < length (appendOf os)
-    → Alike _≡_ (linesReplayed (lines (src ++ (take k (appendOf os) ++ take j (appendOf bs))))) (linesReplayed (lines (src ++ take j (appendOf bs))))
-passed src os k bs j w few h = rw (read-over src (p ++ a), read-over src a) (go (linesRead (lines src) atStart))
-  where
-    abbrev p : List ℕ
-    p = take k (appendOf os)
+module _ (src : List ℕ) (os : List Operation) (k : ℕ) (bs : List Operation) (j : ℕ) (w : allOf wellFormed os ≡ true) (few : length os ≤ mostOperations) (h : k < length (appendOf os)) where
+  abbrev p : List ℕ
+  p = take k (appendOf os)
 
-    abbrev a : List ℕ
-    a = take j (appendOf bs)
+  abbrev a : List ℕ
+  a = take j (appendOf bs)
 
-    abbrev so : List ℕ
-    so = restOn [] src
+  abbrev so : List ℕ
+  so = restOn [] src
 
-    both-said : saidOn so (p ++ a) ≡ saidOn so p ++ saidOn (restOn so p) a
-    both-said = ap (map lineOf) (lines-on-append so p a) ∙ map-append lineOf (linesOn so p) (linesOn (restOn so p) a)
+  both-said : saidOn so (p ++ a) ≡ saidOn so p ++ saidOn (restOn so p) a
+  both-said = ap (map lineOf) (lines-on-append so p a) ∙ map-append lineOf (linesOn so p) (linesOn (restOn so p) a)
 
-    go : (x : Result Carried) → Alike _≡_ (andThen (andThen x (saidRead (saidOn so (p ++ a)))) atEnd) (andThen (andThen x (saidRead (saidOn so a))) atEnd)
-    go (refused r) = refl
-    go (given c) =
-        let r = cut-read os w few k h so (c .state) (c .frame) (c .line) in
-        rw (both-said, said-append (saidOn so p) (saidOn (restOn so p) a) c, r .2)
-        (append-alike bs j (restOn so p) so (c .state) (r .0) (c .frame) (r .1) (c .line))
+  over : (x : Result Carried) → Alike _≡_ (andThen (andThen x (saidRead (saidOn so (p ++ a)))) atEnd) (andThen (andThen x (saidRead (saidOn so a))) atEnd)
+  over (refused r) = refl
+  over (given c) =
+      let r = cut-read os w few k h so (c .state) (c .frame) (c .line) in
+      rw (both-said, said-append (saidOn so p) (saidOn (restOn so p) a) c, r .2)
+      (append-alike bs j (restOn so p) so (c .state) (r .0) (c .frame) (r .1) (c .line))
+
+  pub passed : Alike _≡_ (linesReplayed (lines (src ++ (p ++ a)))) (linesReplayed (lines (src ++ a)))
+  passed = rw (read-over src (p ++ a), read-over src a) (over (linesRead (lines src) atStart))
