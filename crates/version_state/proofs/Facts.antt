@@ -86,24 +86,9 @@ of-sound m s =
 pub too-long : (m : VersionManagerInner) → longestManifest < m .manifest → true ≡ badInner m
 too-long m h = by-cases (countsFit m) (λ e. rw (e, lt-ltb longestManifest (m .manifest) h)) (λ e. rw e)
 
+-- no bytes more
 pub lengthened-none : (m : VersionManagerInner) → badInner (lengthened 0 m) ≡ badInner m
 lengthened-none m = let e : m .manifest + 0 ≡ m .manifest = omega arith in rw e
-
--- fewer bytes more are no worse
-pub lengthened-sound : (m : VersionManagerInner) (n k : ℕ) → k ≤ n → badInner (lengthened n m) ≡ false → badInner (lengthened k m) ≡ false
-lengthened-sound m n k h b =
-    let s = sound-of (lengthened n m) b in
-    of-sound (lengthened k m)
-    (record {
-      fits = record { tables = s .fits .tables; rowsets = s .fits .rowsets; vectors = s .fits .vectors };
-      manifest = omega (arith, s .manifest, h);
-      names = s .names;
-      ordered = record { tables = s .ordered .tables; pairs = s .ordered .pairs; vectors = s .ordered .vectors };
-      below = s .below;
-      pairs = s .pairs;
-      vectors = s .vectors;
-      whole = s .whole;
-    })
 
 -- the counts of a state that is within the limits
 pub fit-within : (m : VersionManagerInner) → beyondLimits m ≡ false → Fit m
