@@ -128,7 +128,9 @@ const _: () = {
     assert!(offset_of!(State, next) == 8 && offset_of!(State, tables) == 24);
     assert!(offset_of!(State, rowsets) == 752 && offset_of!(State, vectors) == 4856);
     assert!(offset_of!(State, manifest) == 11008 && size_of::<State>() == 11016);
-    assert!(offset_of!(Manager, kept) == 11016 && offset_of!(Manager, append) == 22032 && size_of::<Manager>() == 22040);
+    assert!(
+        offset_of!(Manager, kept) == 11016 && offset_of!(Manager, append) == 22032 && size_of::<Manager>() == 22040
+    );
     assert!(size_of::<Pin>() == 8 && size_of::<PinBook>() == 520);
     assert!(size_of::<Answer>() == 48 && offset_of!(Answer, values) == 24);
     assert!(size_of::<Handed>() == 22088 && size_of::<Booked>() == 568 && size_of::<Begun>() == 22608);
