@@ -90,6 +90,13 @@ pub fn calls(rows: &mut Rows) {
             );
         }
         let book = kept(PinBook::none());
+        let pinned = port::pin(after_commit, *book).book;
+        pin(
+            rows,
+            format!("pin, 1 pinned, {held} held, after a commit"),
+            after_commit,
+            pinned,
+        );
         handing(
             rows,
             format!("report, {held} held"),
@@ -99,6 +106,8 @@ pub fn calls(rows: &mut Rows) {
         );
         for pinned in [1, MOST_PINNED] {
             let (m, book) = pinned_epochs(held, pinned);
+            // nothing kept
+            let m = port::draw_rowset(m).manager;
             pin(rows, format!("pin, {pinned} pinned, {held} held"), m, book);
             unpin(
                 rows,
