@@ -258,7 +258,8 @@ pub fn parse(classes: &[u8; 256], s: &[u8]) -> Parsed
     if s.len() == 0 {
         return refused();
     }
-    if text::is_mark(classes, s[s.len() - 1]) {
+    let last = s.len() - 1;
+    if text::is_mark(classes, s[last]) {
         return plain(ManifestOperation::Torn);
     }
     match s[0] {

@@ -13,8 +13,8 @@ returns : tie.Need-returns
 unfolding lineOf lineBy
 returns c = rw (empty-torn (c .before .before .before .args .s .now) (c .before .if1 .taken), empty-first (c .before .before .before .args .s .now) (c .before .if1 .taken)) (c .refused .ensures)
 
-sub-is-mark : tie.Need-sub-is-mark
-sub-is-mark c = search needs
+sub-last : tie.Need-sub-last
+sub-last c = search needs
 
 shared-slice-read-is-mark : tie.Need-shared-slice-read-is-mark
 shared-slice-read-is-mark c = search needs
@@ -108,7 +108,7 @@ parse-spec =
     (tie.spec
     refused-requires
     returns
-    sub-is-mark
+    sub-last
     shared-slice-read-is-mark
     is-mark-requires
     plain-requires
