@@ -33,12 +33,13 @@ struct Both {
 }
 
 // Every number that these calls may answer, in the order in which they are judged.
-const MET: [(&str, &[u32]); 8] = [
+const MET: [(&str, &[u32]); 9] = [
     ("group", &[29, 2, 8, 26, 9, 0]),
     ("create", &[29, 2, 15, 20, 21, 23, 26, 9, 0]),
     ("drop", &[29, 2, 11, 20, 23, 9, 0]),
     ("compact", &[29, 2, 6, 11, 12, 14, 16, 20, 22, 23, 27, 9, 0]),
     ("checkpoint", &[29, 9, 0]),
+    ("report", &[29, 28, 31, 0]),
     ("lock", &[29, 2, 11, 25, 0]),
     ("unlock", &[29, 2, 11, 27, 0]),
     ("select", &[29, 2, 8, 11, 9, 0]),
@@ -61,21 +62,31 @@ impl Both {
     // An operation on ids that are held, mostly, or are not.
     fn operation(&mut self) -> String {
         let r = &mut self.random;
-        let vectors = &self.bound.vectors;
+        let vectors = &self.bound.inner.vectors;
         let i = r.below(1 + vectors.count as u64) as usize % 256;
         let (t, s, v) = (vectors.tables[i], vectors.rowsets[i], vectors.vectors[i]);
-        let rowsets = &self.bound.rowsets;
+        let rowsets = &self.bound.inner.rowsets;
         let j = r.below(1 + rowsets.count as u64) as usize % 256;
         let (pt, ps) = (rowsets.tables[j], rowsets.rowsets[j]);
         match r.below(100) {
-            0..8 => format!("T,{},7,t{}", self.bound.next.table, r.below(40)),
+            0..8 => format!("T,{},7,t{}", self.bound.inner.next.table, r.below(40)),
             8 => format!("X,{}", r.below(20)),
             9..55 => format!("A,{},{}", r.below(4), r.below(710)),
             55..82 => format!("V,{pt},{ps},{}", r.below(3010)),
             82..86 => format!("W,{t},{s},{v}"),
             86..88 => format!("D,{pt},{ps}"),
             88 => format!("D,{},{}", r.below(4), r.below(700)),
-            89 => ["N,1,1,1", "A,0", "A,00,1", "", "B", "T,0,0,Slots"][r.below(6) as usize].into(),
+            89 => [
+                "N,1,1,1",
+                "A,0",
+                "A,00,1",
+                "",
+                "B",
+                "T,0,0,Slots",
+                "!",
+                "X,0!",
+            ][r.below(8) as usize]
+                .into(),
             _ => format!("W,{t},{s},{v}\nD,{t},{s}"),
         }
     }
@@ -106,7 +117,11 @@ impl Both {
     }
 
     fn show(&mut self) {
-        let epoch = self.bound.epoch.saturating_sub(self.random.below(4) as u32);
+        let epoch = self
+            .bound
+            .inner
+            .epoch
+            .saturating_sub(self.random.below(4) as u32);
         let (mut t, mut s) = ([0; 256], [0; 256]);
         let (mut u, mut w) = ([0; 256], [0; 256]);
         let p = port::show_pairs(self.port, self.book, epoch, &mut t, &mut s);
@@ -118,6 +133,7 @@ impl Both {
     fn pins(&mut self) {
         let epoch = self
             .bound
+            .inner
             .epoch
             .saturating_sub(self.random.below(20) as u32);
         let (m, n, book) = (self.port, self.bound, self.book);
@@ -142,6 +158,11 @@ impl Both {
                 s += "\n";
             }
             s += if self.random.one_in(9) { "" } else { "E\n" };
+            s += match self.random.below(9) {
+                0..4 => "!\n",
+                4 => "A,0!\n",
+                _ => "",
+            };
         }
         let (mut x, mut y) = (vec![0u8; 18625], vec![0u8; 18625]);
         let p = port::bootstrap(s.as_bytes(), &mut x);
@@ -157,7 +178,7 @@ impl Both {
 
     // A table that is live, mostly, or is not, or is no id.
     fn table(&mut self) -> u32 {
-        let (r, live) = (&mut self.random, &self.bound.tables);
+        let (r, live) = (&mut self.random, &self.bound.inner.tables);
         match r.below(20) {
             0 => u32::MAX,
             1 => r.below(20) as u32,
@@ -200,7 +221,7 @@ impl Both {
 
     // A drop of one of the tables that the operations are of is put back.
     fn drop(&mut self) {
-        let kept = (self.port, self.bound);
+        let before = (self.port, self.bound);
         let (table, room) = (self.table(), self.room(500));
         let (mut x, mut y) = (vec![0u8; room], vec![0u8; room]);
         let p = port::drop(self.port, table, &mut x);
@@ -208,13 +229,13 @@ impl Both {
         self.handed("drop", p, b);
         assert!(x == y, "drop: appends differ");
         if table < 4 {
-            (self.port, self.bound) = kept;
+            (self.port, self.bound) = before;
         }
     }
 
     // The rowsets of a table that the current epoch shows.
     fn shown(&self, table: u32) -> Vec<u32> {
-        let (s, epoch) = (&self.bound.rowsets, self.bound.epoch);
+        let (s, epoch) = (&self.bound.inner.rowsets, self.bound.inner.epoch);
         (0..s.count.min(256))
             .filter(|i| s.tables[*i] == table && s.added[*i] <= epoch && s.deleted[*i] == 0)
             .map(|i| s.rowsets[i])
@@ -276,6 +297,33 @@ impl Both {
         assert!(x == y, "checkpoint: rewritten manifests differ");
     }
 
+    // Of all bytes that may have landed, and of more. Some books are none, and some have the commit's own epoch pinned.
+    fn report(&mut self) {
+        let append = self.bound.append as u64;
+        let landed = match self.random.below(8) {
+            0 => append,
+            1 => u64::MAX - self.random.below(70000),
+            _ => self.random.below(append.max(1)),
+        };
+        let mut book = self.book;
+        match self.random.below(9) {
+            0 => book.count = self.random.below(66) as usize,
+            1 => book = bound::pin(self.bound, book).book,
+            _ => {
+                let pins = &book.items[..book.count];
+                let current = pins.last().map(|p| p.epoch) == Some(self.bound.inner.epoch);
+                book.count -= current as usize;
+            }
+        }
+        let p = port::report(self.port, book, landed as usize);
+        let b = bound::report(self.bound, book, landed as usize);
+        // No pin may be above the epoch that is handed back.
+        if p.answer.number == 0 {
+            self.book = book;
+        }
+        self.handed("report", p, b);
+    }
+
     fn select(&mut self) {
         let table = self.table();
         let shown = self.shown(table).len();
@@ -326,20 +374,24 @@ impl Both {
     // A number that some refusal looks at, changed on both sides.
     fn strain(&mut self) {
         let (r, m) = (&mut self.random, &mut self.bound);
-        match r.below(8) {
-            0 | 1 => m.epoch = u32::MAX,
-            2 => m.next.table = u32::MAX,
-            3 | 4 => m.next.vector = u64::MAX - r.below(9),
-            5 => m.next.rowset = r.below(700) as u32,
-            _ => m.manifest = 65536 - r.below(50) as usize,
+        match r.below(10) {
+            0 if m.append > 0 => m.kept.manifest = 65536 - r.below(50) as usize,
+            1 if m.append > 0 => m.append = 1 + r.below(70000) as usize,
+            0..4 => m.inner.epoch = u32::MAX,
+            4 => m.inner.next.table = u32::MAX,
+            5 | 6 => m.inner.next.vector = u64::MAX - r.below(9),
+            7 => m.inner.next.rowset = r.below(700) as u32,
+            _ => m.inner.manifest = 65536 - r.below(50) as usize,
         }
-        let m = self.bound;
-        (self.port.epoch, self.port.next, self.port.manifest) = (m.epoch, m.next, m.manifest);
+        let (p, m) = (&mut self.port, self.bound);
+        let s = m.inner;
+        (p.inner.epoch, p.inner.next, p.inner.manifest) = (s.epoch, s.next, s.manifest);
+        (p.kept.manifest, p.append) = (m.kept.manifest, m.append);
     }
 
     // A call of tables, locks or handles, or a checkpoint. Some are on a manager with a number changed, and it is put back then.
     fn tables(&mut self) {
-        let kept = (self.port, self.bound);
+        let before = (self.port, self.bound);
         let strained = self.random.one_in(3);
         if strained {
             self.strain();
@@ -354,7 +406,7 @@ impl Both {
             _ => self.group(),
         }
         if strained {
-            (self.port, self.bound) = kept;
+            (self.port, self.bound) = before;
         }
     }
 
@@ -368,20 +420,34 @@ impl Both {
             }};
         }
         let r = &mut self.random;
-        match r.below(10) {
-            0 => set!(epoch, n.epoch.saturating_sub(r.below(3) as u32)),
-            1 => set!(next.table, r.below(6) as u32),
-            2 => set!(next.rowset, 600 + r.below(100) as u32),
-            3 => set!(next.vector, 2900 + r.below(100)),
-            4 => set!(manifest, 65535 + r.below(3) as usize),
-            5 => set!(tables.count, n.tables.count.saturating_sub(1)),
-            6 => set!(rowsets.count, n.rowsets.count.saturating_sub(1)),
+        match r.below(18) {
+            0 => set!(inner.epoch, n.inner.epoch.saturating_sub(r.below(3) as u32)),
+            1 => set!(inner.next.table, r.below(6) as u32),
+            2 => set!(inner.next.rowset, 600 + r.below(100) as u32),
+            3 => set!(inner.next.vector, 2900 + r.below(100)),
+            4 => set!(inner.manifest, 65535 + r.below(3) as usize),
+            5 => set!(inner.tables.count, n.inner.tables.count.saturating_sub(1)),
+            6 => set!(inner.rowsets.count, n.inner.rowsets.count.saturating_sub(1)),
+            // what is kept is judged where there is any
+            10 => set!(kept.epoch, n.kept.epoch.saturating_sub(r.below(3) as u32)),
+            11 => set!(kept.next.table, r.below(6) as u32),
+            12 => set!(kept.next.rowset, 600 + r.below(100) as u32),
+            13 => set!(kept.next.vector, 2900 + r.below(100)),
+            14 => set!(
+                kept.manifest,
+                65536 - n.append.min(65536) + r.below(3) as usize
+            ),
+            15 => set!(kept.tables.count, n.kept.tables.count.saturating_sub(1)),
+            16 => set!(kept.rowsets.count, n.kept.rowsets.count.saturating_sub(1)),
+            17 if n.append > 0 => set!(append, usize::MAX - r.below(70000) as usize),
             7 => book.count = r.below(66) as usize,
             8 => book.items[r.below(4) as usize].count = 0,
             _ => book.items[r.below(4) as usize].epoch = r.below(9) as u32,
         }
         let (p, b) = (port::pin(m, book), bound::pin(n, book));
         self.said("spoilt", p.answer, b.answer);
+        let (p, b) = (port::report(m, book, 0), bound::report(n, book, 0));
+        self.said("report", p.answer, b.answer);
     }
 
     fn records(&mut self) {
@@ -446,6 +512,7 @@ pub fn some(calls: usize) {
                 bound::draw_rowset(s.bound),
             ),
             14 => s.records(),
+            15..18 => s.report(),
             40.. => s.tables(),
             _ => s.commit(),
         }

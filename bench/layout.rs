@@ -47,13 +47,22 @@ pub struct NextIds {
 
 #[repr(C)]
 #[derive(Clone, Copy)]
-pub struct VersionManager {
+pub struct State {
     pub epoch: u32,
     pub next: NextIds,
     pub tables: Tables,
     pub rowsets: Rowsets,
     pub vectors: Vectors,
     pub manifest: usize,
+}
+
+// What stands, what stood before the last commit, and how many bytes that appended. Where they are 0, nothing is kept.
+#[repr(C)]
+#[derive(Clone, Copy)]
+pub struct VersionManager {
+    pub inner: State,
+    pub kept: State,
+    pub append: usize,
 }
 
 #[repr(C)]
@@ -143,8 +152,16 @@ impl Vectors {
 }
 
 impl VersionManager {
-    // What a caller can tell apart: the places past a count are nobody's.
+    // What a caller can tell apart: the places past a count are nobody's, and a kept state where there is none.
     pub fn same(&self, o: &VersionManager) -> bool {
+        self.inner.same(&o.inner)
+            && self.append == o.append
+            && (self.append == 0 || self.kept.same(&o.kept))
+    }
+}
+
+impl State {
+    fn same(&self, o: &State) -> bool {
         self.epoch == o.epoch
             && self.next == o.next
             && self.manifest == o.manifest

@@ -55,6 +55,7 @@ extern "C" {
         room: usize,
     ) -> Handed;
     fn seqapti_checkpoint(m: Manager, out: *mut u8, room: usize) -> Handed;
+    fn seqapti_report(m: Manager, b: PinBook, landed: usize) -> Handed;
     fn seqapti_vacuum(
         m: Manager,
         b: PinBook,
@@ -205,6 +206,11 @@ pub fn compact(m: Manager, table: u32, new: Option<u32>, taken: &[u32], out: &mu
 #[inline(always)]
 pub fn checkpoint(m: Manager, out: &mut [u8]) -> Handed {
     unsafe { seqapti_checkpoint(m, out.as_mut_ptr(), out.len()) }
+}
+
+#[inline(always)]
+pub fn report(m: Manager, b: PinBook, landed: usize) -> Handed {
+    unsafe { seqapti_report(m, b, landed) }
 }
 
 #[inline(always)]

@@ -71,15 +71,43 @@ pub fn calls(rows: &mut Rows) {
         }
     }
     for held in [0, 256] {
+        let m = reopened(&texts::held(held));
+        // what a commit keeps is judged by the next call, and goes or is replaced
+        let after_commit = committed(m, &[]);
+        commit(
+            rows,
+            format!("commit of 1, {held} held, after a commit"),
+            after_commit,
+            &texts::operations(1, held),
+        );
+        for (m, after) in [(m, ""), (after_commit, ", after a commit")] {
+            handing(
+                rows,
+                format!("draw, {held} held{after}"),
+                m,
+                port::draw_rowset,
+                |m| bound::draw_rowset(m),
+            );
+        }
+        let book = kept(PinBook::none());
+        let pinned = port::pin(after_commit, *book).book;
+        pin(
+            rows,
+            format!("pin, 1 pinned, {held} held, after a commit"),
+            after_commit,
+            pinned,
+        );
         handing(
             rows,
-            format!("draw, {held} held"),
-            reopened(&texts::held(held)),
-            port::draw_rowset,
-            |m| bound::draw_rowset(m),
+            format!("report, {held} held"),
+            after_commit,
+            move |m| port::report(m, *black_box(book), 3),
+            move |m| bound::report(m, *black_box(book), 3),
         );
         for pinned in [1, MOST_PINNED] {
             let (m, book) = pinned_epochs(held, pinned);
+            // nothing kept
+            let m = port::draw_rowset(m).manager;
             pin(rows, format!("pin, {pinned} pinned, {held} held"), m, book);
             unpin(
                 rows,
@@ -393,9 +421,9 @@ fn vacuum(rows: &mut Rows, name: String, m: port::Manager) {
 fn show(rows: &mut Rows, name: String, m: port::Manager) {
     let (m, c, book) = (kept(m), kept(m), kept(PinBook::none()));
     let (ts, rs) = (buffer::<u32>(MOST_HELD), buffer::<u32>(MOST_HELD));
-    let p = port::show_pairs(*m, *book, c.epoch, at(ts), at(rs));
+    let p = port::show_pairs(*m, *book, c.inner.epoch, at(ts), at(rs));
     let listed = (copied(ts), copied(rs));
-    let b = bound::show_pairs(*c, *book, c.epoch, at(ts), at(rs));
+    let b = bound::show_pairs(*c, *book, c.inner.epoch, at(ts), at(rs));
     equal(&name, p, b);
     assert!(listed == (copied(ts), copied(rs)), "{name}: lists differ");
     rows.add(
@@ -404,7 +432,7 @@ fn show(rows: &mut Rows, name: String, m: port::Manager) {
             black_box(port::show_pairs(
                 *black_box(m),
                 *black_box(book),
-                c.epoch,
+                c.inner.epoch,
                 at(ts),
                 at(rs),
             ));
@@ -413,7 +441,7 @@ fn show(rows: &mut Rows, name: String, m: port::Manager) {
             black_box(bound::show_pairs(
                 *black_box(c),
                 *black_box(book),
-                c.epoch,
+                c.inner.epoch,
                 at(ts),
                 at(rs),
             ));

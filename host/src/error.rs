@@ -15,7 +15,7 @@ macro_rules! refusals {
         }
 
         impl Refusal {
-            pub const ALL: [Refusal; 29] = [$(Refusal::$name,)*];
+            pub const ALL: [Refusal; 30] = [$(Refusal::$name,)*];
 
             pub fn from_number(number: u32) -> Option<Refusal> {
                 match number {
@@ -64,6 +64,7 @@ refusals! {
     27 LockNotHeld "The table's lock is not held.",
     28 BadPinBook "The pin book is none that the library hands out.",
     29 BadManager "The manager is none that the library hands out.",
+    31 NotReportable "There is no short write to report: all of the append landed, its epoch is pinned, or no commit came last.",
 }
 
 impl Refusal {
@@ -83,10 +84,14 @@ impl fmt::Display for Refusal {
 pub enum StorageError {
     /// Refused, with the place: a line from 1, an operation or a byte from 0, or 0 where there is none.
     Refused { refusal: Refusal, place: usize },
-    /// A file operation failed.
+    /// A file operation failed. Of a commit it is not known then whether it landed, and every change is refused with
+    /// [`Poisoned`](StorageError::Poisoned) until a reopen has found out.
     Io { what: &'static str, path: PathBuf, source: io::Error },
-    /// An append failed, so that the manifest may end in a part of it, or the manifest could not be replaced, so that the
-    /// old or the new one may stand: nothing is changed before a reopen.
+    /// The manifest took fewer bytes of a commit than it has, as on a full disk. The commit was not made and never will be;
+    /// the store goes on as before it.
+    NotCommitted { landed: usize, length: usize, path: PathBuf, source: io::Error },
+    /// It is not known how much of an append landed, or whether the manifest was replaced: nothing is changed before a
+    /// reopen.
     Poisoned,
     /// The store's lock file is held: by another process, by another manager, or by a pin or a table's lock that outlived its manager.
     InUse { path: PathBuf },
@@ -133,6 +138,11 @@ impl fmt::Display for StorageError {
             StorageError::Io { what, path, source } => {
                 write!(f, "cannot {what} {}: {source}", path.display())
             }
+            StorageError::NotCommitted { landed, length, path, source } => write!(
+                f,
+                "not committed: {landed} of {length} bytes could be appended to {}: {source}",
+                path.display()
+            ),
             StorageError::Poisoned => f.write_str(
                 "the manifest could not be appended to or replaced; nothing is changed before the store is reopened",
             ),
@@ -156,7 +166,7 @@ impl fmt::Display for StorageError {
 impl std::error::Error for StorageError {
     fn source(&self) -> Option<&(dyn std::error::Error + 'static)> {
         match self {
-            StorageError::Io { source, .. } => Some(source),
+            StorageError::Io { source, .. } | StorageError::NotCommitted { source, .. } => Some(source),
             _ => None,
         }
     }

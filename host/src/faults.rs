@@ -22,7 +22,7 @@ pub struct Plan {
 
 #[derive(Default)]
 struct State {
-    plan: Option<Plan>,
+    plans: Vec<Plan>,
     passed: Vec<&'static str>,
 }
 
@@ -31,8 +31,9 @@ thread_local! {
 }
 
 /// Forgets the steps passed so far.
-pub fn plan(plan: Option<Plan>) {
-    STATE.with_borrow_mut(|s| *s = State { plan, passed: Vec::new() });
+pub fn plan(plans: impl IntoIterator<Item = Plan>) {
+    let plans = plans.into_iter().collect();
+    STATE.with_borrow_mut(|s| *s = State { plans, passed: Vec::new() });
 }
 
 /// The steps since the last plan.
@@ -43,7 +44,7 @@ pub fn passed() -> Vec<&'static str> {
 fn due(name: &'static str) -> Option<Plan> {
     STATE.with_borrow_mut(|s| {
         s.passed.push(name);
-        s.plan.filter(|p| p.at + 1 == s.passed.len())
+        s.plans.iter().copied().find(|p| p.at + 1 == s.passed.len())
     })
 }
 

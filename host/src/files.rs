@@ -3,7 +3,7 @@ use crate::error::{StorageError, StorageResult};
 use crate::faults;
 use crate::ids::{RowsetId, TableId, VectorId};
 use std::fs::{self, File, TryLockError};
-use std::io::{self, Read};
+use std::io::{self, Read, Seek, SeekFrom};
 use std::path::{Path, PathBuf};
 
 pub const MANIFEST_FILE_NAME: &str = "manifest";
@@ -144,22 +144,42 @@ pub enum Manifest {
     Memory(Vec<u8>),
 }
 
+/// An append that failed.
+pub struct Failed {
+    /// How many of its bytes are on disk, fewer than all. None where that is not known.
+    pub landed: Option<usize>,
+    pub path: PathBuf,
+    pub source: io::Error,
+}
+
 impl Manifest {
-    /// On disk when it returns. After an error the file may end in any part of the bytes.
-    pub fn append(&mut self, bytes: &[u8]) -> StorageResult<()> {
+    /// Appends to a manifest of this length. On disk when it returns.
+    pub fn append(&mut self, length: usize, bytes: &[u8]) -> Result<(), Failed> {
         match self {
             Manifest::Memory(all) => all.extend_from_slice(bytes),
             Manifest::File { path, file } => {
-                let mut landed = || -> io::Result<()> {
-                    faults::write("append", file, bytes)?;
-                    faults::step("sync append")?;
-                    file.sync_data()
-                };
-                landed().map_err(StorageError::io("append to", path))?;
+                if let Err(source) = faults::write("append", file, bytes) {
+                    let landed = landed(file, length, bytes.len()).ok().flatten();
+                    return Err(Failed { landed, path: path.clone(), source });
+                }
+                // All bytes are written: where the sync fails, nobody knows which of them are on disk.
+                let synced = faults::step("sync append").and_then(|()| file.sync_data());
+                synced.map_err(|source| Failed { landed: None, path: path.clone(), source })?;
             }
         }
         Ok(())
     }
+}
+
+// After a write that failed: by how much the file has grown, if by less than all. The next append goes to its end. What is
+// reported is what is on disk, so it is synced before.
+fn landed(file: &mut File, length: usize, all: usize) -> io::Result<Option<usize>> {
+    faults::step("find end")?;
+    let end = file.seek(SeekFrom::End(0))?;
+    let landed = end.checked_sub(length as u64).filter(|n| *n < all as u64);
+    faults::step("sync landed")?;
+    file.sync_data()?;
+    Ok(landed.map(|n| n as usize))
 }
 
 pub fn rowset_name(table: TableId, rowset: RowsetId) -> String {

@@ -1,7 +1,7 @@
 //! The version manager: the library's manager and the manifest file, kept together behind one lock.
 use crate::delete_vector::{DeleteVector, GroupedDeletes, LONGEST_RECORD, MOST_RECORDS};
 use crate::error::{Refusal, StorageError, StorageResult};
-use crate::files::{self, Folder, Manifest};
+use crate::files::{self, Failed, Folder, Manifest};
 use crate::ids::{RowsetId, SecondaryRowHandler, TableId, VectorId};
 use crate::not_live::NotLive;
 use crate::ops::EpochOp;
@@ -17,10 +17,12 @@ use std::sync::{Arc, Condvar, Mutex, MutexGuard, PoisonError};
 pub(crate) const LONGEST_REWRITTEN: usize = 18_625;
 /// No append is longer, since no manifest is.
 const LONGEST_MANIFEST: usize = 65_536;
-/// `B`, one `T` line and `E`, with numbers and a name as long as they come.
-const LONGEST_CREATE: usize = 4 + 57;
-/// `B`, an `A` or `X` line, a `W` and a `D` line for all that may be held, and `E`.
-const LONGEST_TABLE_CHANGE: usize = 4 + 24 + sys::MOST_HELD * (45 + 24);
+/// The lines `!`, `B` and `E` of every append.
+const FRAME: usize = 6;
+/// One `T` line, with numbers and a name as long as they come.
+const LONGEST_CREATE: usize = FRAME + 57;
+/// An `A` or `X` line, and a `W` and a `D` line for all that may be held.
+const LONGEST_TABLE_CHANGE: usize = FRAME + 24 + sys::MOST_HELD * (45 + 24);
 
 /// A vacuum is due: the last pin of an epoch that is not the current one is gone.
 #[derive(Clone, Copy, Debug, PartialEq, Eq)]
@@ -76,7 +78,7 @@ struct Inner {
     manager: Box<sys::Manager>,
     book: sys::PinBook,
     manifest: Manifest,
-    // Set before a change reaches the disk and cleared when it is there.
+    // Set before a change reaches the disk, and cleared when it is known how much of it is there.
     poisoned: bool,
     // Counts the reopens.
     generation: u64,
@@ -117,16 +119,28 @@ impl Inner {
         Ok(values)
     }
 
-    // A change that is no change before its append is on disk.
+    // A change that is no change before its append is on disk. Where less than all of it is, the manager that would have
+    // followed is told so and hands back the state before, whose manifest ends in what landed.
     fn land(&mut self, handed: sys::Handed, out: &[u8]) -> StorageResult<[u64; 3]> {
         let values = accepted(handed.answer)?;
         let append = handed_out(&handed.answer, out)?;
         self.poisoned = true;
-        self.manifest.append(append)?;
-        *self.manager = handed.manager;
-        self.snapshot = None;
-        self.poisoned = false;
-        Ok(values)
+        match self.manifest.append(self.manager.inner.manifest, append) {
+            Ok(()) => {
+                *self.manager = handed.manager;
+                self.snapshot = None;
+                self.poisoned = false;
+                Ok(values)
+            }
+            Err(Failed { landed, path, source }) => match landed {
+                // Nobody has seen the new epoch, so nobody has pinned it, and the report is not refused.
+                Some(landed) if self.adopt(sys::report(&handed.manager, &self.book, landed)).is_ok() => {
+                    self.poisoned = false;
+                    Err(StorageError::NotCommitted { landed, length: append.len(), path, source })
+                }
+                _ => Err(StorageError::io("append to", &path)(source)),
+            },
+        }
     }
 
     // A rewritten manifest of the same sets. While it is only written beside the old one, a failure changes nothing.
@@ -312,10 +326,14 @@ impl VersionManager {
     }
 
     /// Commits changes and returns the new epoch. All of them are on disk then, or none has happened.
+    ///
+    /// Where the disk does not take all of it, as where it is full, the commit is not made
+    /// ([`StorageError::NotCommitted`]) and the store goes on: the same commit may be made again when there is room. So with
+    /// every call that commits. Where it is not known what is on disk ([`StorageError::Io`]), a reopen finds out.
     pub fn commit_changes(&self, ops: impl AsRef<[EpochOp]>) -> StorageResult<u32> {
         let lines = EpochOp::lines(ops.as_ref());
         // Where the frame would be longer than any manifest, 23 comes before 9.
-        let room = (lines.len() + 4).min(LONGEST_MANIFEST);
+        let room = (lines.len() + FRAME).min(LONGEST_MANIFEST);
         let values = self.change(room, |m, out| sys::commit(m, &lines, out))?;
         Ok(values[0] as u32)
     }
@@ -475,7 +493,7 @@ impl VersionManager {
 
     /// The current epoch.
     pub fn epoch(&self) -> u32 {
-        self.inner().manager.epoch
+        self.inner().manager.inner.epoch
     }
 
     /// What the current epoch shows, without a pin: a vacuum may let it go.
@@ -489,7 +507,7 @@ impl VersionManager {
     }
 
     pub fn next_ids(&self) -> NextIds {
-        let next = self.inner().manager.next;
+        let next = self.inner().manager.inner.next;
         NextIds { table: TableId(next.table), rowset: RowsetId(next.rowset), dv: VectorId(next.vector) }
     }
 
@@ -502,10 +520,11 @@ impl VersionManager {
     /// How long the manifest is. A commit that would take it past 65,536 bytes is refused by
     /// [`Refusal::ManifestFull`]; a [`checkpoint`](VersionManager::checkpoint) makes it short.
     pub fn manifest_len(&self) -> usize {
-        self.inner().manager.manifest
+        self.inner().manager.inner.manifest
     }
 
-    /// Whether an append failed, or the manifest could not be replaced, so that every change is refused before a reopen.
+    /// Whether it is unknown what the manifest holds, since an append could not be synced or the manifest not replaced: every
+    /// change is then refused before a reopen.
     pub fn is_poisoned(&self) -> bool {
         self.inner().poisoned
     }
@@ -533,7 +552,7 @@ impl std::fmt::Debug for VersionManager {
 }
 
 fn held_dvs(manager: &sys::Manager) -> impl Iterator<Item = (TableId, RowsetId, VectorId)> + '_ {
-    let v = &manager.vectors;
+    let v = &manager.inner.vectors;
     let held = v.count.min(sys::MOST_HELD);
     (0..held).map(|i| (TableId(v.tables[i]), RowsetId(v.rowsets[i]), VectorId(v.vectors[i])))
 }

@@ -21,7 +21,7 @@ impl Reading {
         let mut rewritten = vec![0; LONGEST_REWRITTEN];
         let begun = sys::bootstrap(manifest, &mut rewritten);
         rewritten.truncate(accepted(begun.answer)?[0] as usize);
-        let next = begun.manager.next;
+        let next = begun.manager.inner.next;
         Ok(Reading {
             snapshot: Snapshot::of(&begun.manager, &begun.book)?,
             next: NextIds { table: TableId(next.table), rowset: RowsetId(next.rowset), dv: VectorId(next.vector) },

@@ -62,10 +62,10 @@ impl Snapshot {
     /// What the current epoch shows.
     pub(crate) fn of(manager: &sys::Manager, book: &sys::PinBook) -> StorageResult<Snapshot> {
         let (mut t, mut r, mut v) = ([0; sys::MOST_HELD], [0; sys::MOST_HELD], [0; sys::MOST_HELD]);
-        let pairs = accepted(sys::show_pairs(manager, book, manager.epoch, &mut t, &mut r))?[0] as usize;
+        let pairs = accepted(sys::show_pairs(manager, book, manager.inner.epoch, &mut t, &mut r))?[0] as usize;
         let rowset_tables = t[..pairs].iter().copied().map(TableId).collect();
         let rowsets = r[..pairs].iter().copied().map(RowsetId).collect();
-        let shown = sys::show_vectors(manager, book, manager.epoch, &mut t, &mut r, &mut v);
+        let shown = sys::show_vectors(manager, book, manager.inner.epoch, &mut t, &mut r, &mut v);
         let vectors = accepted(shown)?[0] as usize;
         Ok(Snapshot {
             tables: tables_of(manager, book)?,
@@ -84,7 +84,7 @@ fn tables_of(manager: &sys::Manager, book: &sys::PinBook) -> StorageResult<Vec<T
         lengths: [0; sys::MOST_TABLES],
         names: [0; sys::MOST_TABLES * sys::LONGEST_NAME],
     };
-    let count = accepted(sys::show_tables(manager, book, manager.epoch, &mut s))?[0] as usize;
+    let count = accepted(sys::show_tables(manager, book, manager.inner.epoch, &mut s))?[0] as usize;
     // Each name has room for the longest.
     let named = s.names.chunks(sys::LONGEST_NAME).zip(s.lengths);
     let tables = named.take(count).enumerate().map(|(i, (name, length))| Table {

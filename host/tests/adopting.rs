@@ -1,7 +1,8 @@
 //! A small engine of booking rows, written as docs/ADOPTING.md says: no booking is ever shown twice or lost, and no file goes
-//! while a pin shows it.
+//! while a pin shows it, also where the disk is full at times.
 mod common;
 use common::*;
+use seqapti::faults::{self, Fault, Plan};
 use seqapti::*;
 use std::collections::{BTreeSet, HashMap};
 use std::fs;
@@ -85,12 +86,27 @@ impl Engine {
         });
     }
 
-    fn insert(&self, rows: &[u32]) -> StorageResult<()> {
+    // Before the commit that adds it: a reader may pin the new epoch at once.
+    fn put(&self, rows: &[u32]) -> StorageResult<RowsetId> {
         let r = self.version.draw_rowset_id()?;
         write_rowset(&self.version.rowset_path(self.table, r), rows);
         self.pool.rowsets.lock().expect("no panic").insert((self.table, r), Arc::new(rows.to_vec()));
-        self.version.commit_changes([EpochOp::add_rowset(self.table, r)])?;
-        Ok(())
+        Ok(r)
+    }
+
+    // Where that commit was not made for certain.
+    fn take_out(&self, r: RowsetId) {
+        if self.version.is_poisoned() {
+            return;
+        }
+        self.pool.rowsets.lock().expect("no panic").remove(&(self.table, r));
+        fs::remove_dir_all(self.version.rowset_path(self.table, r)).expect("a folder to remove");
+    }
+
+    fn insert(&self, rows: &[u32]) -> StorageResult<()> {
+        let r = self.put(rows)?;
+        let told = self.version.commit_changes([EpochOp::add_rowset(self.table, r)]);
+        told.map(|_| ()).inspect_err(|_| self.take_out(r))
     }
 
     // The rows that a pin shows, with their handlers.
@@ -143,15 +159,10 @@ impl Engine {
             .collect();
         let new = match merged.is_empty() {
             true => None,
-            false => {
-                let r = self.version.draw_rowset_id()?;
-                write_rowset(&self.version.rowset_path(self.table, r), &merged);
-                self.pool.rowsets.lock().expect("no panic").insert((self.table, r), Arc::new(merged));
-                Some(r)
-            }
+            false => Some(self.put(&merged)?),
         };
-        self.version.compact(&lock, new, &selected)?;
-        Ok(true)
+        let told = self.version.compact(&lock, new, &selected);
+        told.map(|_| true).inspect_err(|_| new.into_iter().for_each(|r| self.take_out(r)))
     }
 
     // Before the manifest is full. Nothing is closed for it, and readers keep their pins.
@@ -202,7 +213,7 @@ fn bookings_are_counted_once() {
     let mut random = Random(3);
     let (mut lowest, mut next) = (0, 0);
     let (boards, mut compactions, mut vacuumed, mut full) = (AtomicUsize::new(0), 0, 0, 0);
-    let mut checkpoints = 0;
+    let (mut checkpoints, mut short) = (0, 0);
     for _ in 0..12 {
         let engine = Engine::open(&folder.store());
         let pin = engine.version.pin().expect("a pin");
@@ -221,7 +232,12 @@ fn bookings_are_counted_once() {
                 });
             }
             for _ in 0..150 {
-                let told = match random.below(10) {
+                // The first step of an insert or a compaction that the disk sees is its append.
+                let call = random.below(10);
+                let landed = random.below(12) as usize;
+                let full_disk = !(5..8).contains(&call) && random.one_in(5);
+                faults::plan(full_disk.then_some(Plan { at: 0, fault: Fault::Error, landed }));
+                let told = match call {
                     0..5 => {
                         let rows: Vec<u32> = (next..next + 1 + random.below(30) as u32).collect();
                         engine.insert(&rows).map(|()| next += rows.len() as u32)
@@ -232,8 +248,10 @@ fn bookings_are_counted_once() {
                     }
                     _ => engine.compact(1000).map(|done| compactions += usize::from(done)),
                 };
+                faults::plan(None);
                 match told {
                     Err(e) if e.refusal() == Some(Refusal::HeldFull) => full += 1,
+                    Err(StorageError::NotCommitted { .. }) => short += 1,
                     told => told.expect("a change"),
                 }
                 // What waits is held, pins or none.
@@ -250,6 +268,6 @@ fn bookings_are_counted_once() {
     }
     let boards = boards.load(Ordering::Relaxed);
     println!(
-        "bookings: {next} booked, {boards} boards read, {compactions} compactions, {vacuumed} rowsets vacuumed, {full} times full, {checkpoints} checkpoints, 12 openings"
+        "bookings: {next} booked, {boards} boards read, {compactions} compactions, {vacuumed} rowsets vacuumed, {full} times full, {short} short writes, {checkpoints} checkpoints, 12 openings"
     );
 }

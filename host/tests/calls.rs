@@ -29,8 +29,8 @@ const SLOTS: TableId = TableId(0);
 
 #[test]
 fn refusals_have_numbers_and_sentences() {
-    for (i, refusal) in Refusal::ALL.into_iter().enumerate() {
-        assert_eq!(refusal.number() as usize, i + 1);
+    assert!(Refusal::ALL.iter().map(|r| r.number()).eq((1..30).chain([31])));
+    for refusal in Refusal::ALL {
         assert_eq!(Refusal::from_number(refusal.number()), Some(refusal));
         assert!(refusal.sentence().ends_with('.'));
     }
@@ -301,7 +301,7 @@ fn checkpoints_of_a_new_store_and_twice_in_a_row() {
     assert_eq!((checkpoint(), checkpoint()), (text.into(), text.into()));
     manager.commit_changes([delete(0, 0)]).expect("a commit");
     let appended = std::fs::read(folder.manifest()).expect("the manifest");
-    assert_eq!(appended, format!("{text}B\nD,0,0\nE\n").as_bytes());
+    assert_eq!(appended, format!("{text}!\nB\nD,0,0\nE\n").as_bytes());
 }
 
 #[test]
@@ -426,7 +426,7 @@ fn the_longest_appends_have_room() {
     let before = manager.manifest_len();
     assert_eq!(before, text.len());
     manager.drop_table(table).expect("a drop");
-    assert_eq!(manager.manifest_len() - before, 4 + 13 + 256 * (45 + 24));
+    assert_eq!(manager.manifest_len() - before, 6 + 13 + 256 * (45 + 24));
     drop(manager);
 
     folder.write_manifest(text.as_bytes());
@@ -434,7 +434,7 @@ fn the_longest_appends_have_room() {
     let taken: Vec<RowsetId> = (0..256).rev().map(|i| RowsetId(big - i)).collect();
     let lock = manager.lock_table(table).expect("a lock");
     manager.compact(&lock, None, &taken).expect("a compaction");
-    assert_eq!(manager.manifest_len() - before, 4 + 256 * (45 + 24));
+    assert_eq!(manager.manifest_len() - before, 6 + 256 * (45 + 24));
     assert_eq!(number(manager.create_table("more", 0)), (26, 0));
     assert_eq!(number(manager.draw_rowset_id()), (26, 0));
     assert_eq!(number(manager.draw_dv_id()), (26, 0));

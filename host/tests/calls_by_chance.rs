@@ -1,14 +1,17 @@
-//! Calls by chance against a small model: alone, and with threads that pin and read while one writes.
+//! Calls by chance against a small model: alone, and with threads that pin and read while one writes. Some appends come short.
 mod common;
 #[path = "common/model.rs"]
 mod model;
 use common::*;
 use model::Model;
+use seqapti::faults::{self, Fault, Plan};
 use seqapti::*;
 use std::collections::{BTreeMap, HashMap};
 use std::sync::atomic::{AtomicBool, AtomicU64, AtomicUsize, Ordering};
 use std::sync::mpsc::Receiver;
 use std::sync::{Arc, Mutex, RwLock};
+
+const SHORT: u32 = 1000;
 
 struct Writer {
     manager: Arc<VersionManager>,
@@ -18,6 +21,8 @@ struct Writer {
     growing: bool,
     // A call was refused by 23, and no checkpoint has come since.
     full: bool,
+    // How many bytes landed of the append that came short, if the last change did.
+    short: Option<usize>,
     // How often each call answered each number.
     numbers: BTreeMap<(&'static str, u32), usize>,
 }
@@ -26,12 +31,26 @@ impl Writer {
     fn new(manager: Arc<VersionManager>, seed: u64) -> Writer {
         let mut model = Model::default();
         model.reopen(manager.manifest_len());
-        Writer { manager, model, random: Random(seed), growing: false, full: false, numbers: BTreeMap::new() }
+        Writer {
+            manager,
+            model,
+            random: Random(seed),
+            growing: false,
+            full: false,
+            short: None,
+            numbers: BTreeMap::new(),
+        }
     }
 
     fn said<T>(&mut self, call: &'static str, told: StorageResult<T>, expected: Result<(), u32>) -> Option<T> {
         let number = match &told {
             Ok(_) => 0,
+            // Only where it would have been accepted, and counted as a number of its own.
+            Err(StorageError::NotCommitted { landed, .. }) => {
+                self.short = Some(*landed);
+                *self.numbers.entry((call, SHORT)).or_default() += 1;
+                0
+            }
             Err(e) => e.number().unwrap_or_else(|| panic!("{call}: {e}")),
         };
         assert_eq!(number, expected.err().unwrap_or(0), "{call}");
@@ -107,14 +126,25 @@ impl Writer {
         *self.numbers.entry(("draw", 0)).or_default() += 1;
     }
 
+    // The append of the next change, which is its first step, comes short now and then.
+    fn plan(&mut self, after: &Model) {
+        let append = (after.length - self.model.length) as u64;
+        let short = append > 0 && self.random.one_in(9);
+        let landed = if short { self.random.below(append) as usize } else { 0 };
+        faults::plan(short.then_some(Plan { at: 0, fault: Fault::Error, landed }));
+    }
+
     // One of the calls that commit, announced to the readers before it is made.
     fn change(&mut self, announce: &dyn Fn(&Model)) {
         let mut after = self.model.clone();
+        let (before, length) = (self.model.epoch, self.model.length);
+        self.short = None;
         match self.random.below(40) {
             0 => {
                 let name = format!("t{}", self.random.below(30));
                 let expected = after.create(&name, 5);
                 announce(&after);
+                self.plan(&after);
                 let told = self.manager.create_table(&name, 5);
                 if let Some(id) = self.said("create", told, expected) {
                     assert_eq!(id.0, self.model.next.0);
@@ -124,6 +154,7 @@ impl Writer {
                 let table = self.table();
                 let expected = after.drop_table(table);
                 announce(&after);
+                self.plan(&after);
                 let told = self.manager.drop_table(TableId(table));
                 self.said("drop", told, expected);
             }
@@ -132,13 +163,21 @@ impl Writer {
                 let ops = self.operations();
                 let expected = after.commit(&ops);
                 announce(&after);
+                self.plan(&after);
                 let told = self.manager.commit_changes(&ops);
                 self.said("commit", told, expected);
             }
         }
+        faults::plan(None);
         if self.manager.epoch() == after.epoch {
             self.model = after;
         }
+        if let Some(landed) = self.short {
+            // As before it, but for the bytes that landed.
+            assert_eq!(self.manager.epoch(), before);
+            self.model.length = length + landed;
+        }
+        assert!(!self.manager.is_poisoned());
         assert_eq!(self.manager.epoch(), self.model.epoch);
         assert_eq!(self.manager.manifest_len(), self.model.length);
     }
@@ -182,6 +221,7 @@ impl Writer {
         let numbers: Vec<u32> = taken.iter().map(|r| r.0).collect();
         let expected = after.compact(table, new.map(|r| r.0), &numbers);
         announce(after);
+        self.plan(after);
         let told = self.manager.compact(&lock, new, &taken);
         self.said("compact", told, expected);
     }
@@ -242,7 +282,7 @@ fn alone() {
         }
     }
     println!("alone: {} calls; {:?}", w.numbers.values().sum::<usize>(), w.numbers);
-    for number in [0, 2, 11, 12, 14, 15, 16, 17, 22, 23] {
+    for number in [SHORT, 0, 2, 11, 12, 14, 15, 16, 17, 22, 23] {
         assert!(w.numbers.contains_key(&("commit", number)), "{number} was not met");
     }
 }

@@ -257,26 +257,46 @@ fn writes_to_a_full_disk() {
         limit_files(u64::MAX);
         assert!(!manager.is_poisoned() && !manager.path().join("manifest.tmp").exists());
         let id = manager.draw_rowset_id().expect("an id");
-        let append = format!("B\nA,0,{id}\nE\n").len() as u64;
-        limit_files(manager.manifest_len() as u64 + room);
+        let append = format!("!\nB\nA,0,{id}\nE\n").len();
+        let length = manager.manifest_len();
+        limit_files(length as u64 + room);
         let told = manager.commit_changes([add(0, id)]);
-        if room < append {
-            assert_eq!(io_kind(told), Some(ErrorKind::FileTooLarge), "room for {room}");
-            assert!(matches!(manager.commit_changes([]), Err(StorageError::Poisoned)));
-            assert_eq!(Sets::now(&manager), before);
-            // No room for the rewritten manifest either: the old one stands, and the store stays poisoned.
+        if (room as usize) < append {
+            let short = match told {
+                Err(StorageError::NotCommitted { landed, length, source, .. }) => (landed, length, source.kind()),
+                other => panic!("room for {room}: {other:?}"),
+            };
+            assert_eq!(short, (room as usize, append, ErrorKind::FileTooLarge));
+            assert!(!manager.is_poisoned());
+            assert_eq!((Sets::now(&manager), manager.manifest_len()), (before.clone(), length + room as usize));
+            // The disk is still full: no byte of the next append lands, pins and reads go on, and a checkpoint has no room.
+            let told = manager.commit_changes([add(0, id)]);
+            assert!(matches!(told, Err(StorageError::NotCommitted { landed: 0, .. })));
+            drop(manager.pin().expect("a pin"));
+            manager.find_vacuum().expect("a vacuum");
             limit_files(room);
-            assert!(io_kind(manager.reopen()).is_some());
-            assert!(manager.is_poisoned());
+            assert_eq!(io_kind(manager.checkpoint()), Some(ErrorKind::FileTooLarge));
+            assert!(!manager.is_poisoned());
+            // There is room again. The same commit is made, behind what landed.
             limit_files(u64::MAX);
-            manager.reopen().expect("a reopen");
-            assert_eq!(Sets::now(&manager), before);
+            manager.commit_changes([add(0, id)]).expect("a commit");
+            assert_eq!(manager.manifest_len(), length + room as usize + append);
+            assert_eq!(
+                fs::metadata(manager.path().join(MANIFEST_FILE_NAME)).expect("a file").len() as usize,
+                manager.manifest_len()
+            );
             tries += 1;
         } else {
             told.expect("room enough");
-            limit_files(u64::MAX);
-            manager.commit_changes([EpochOp::delete_rowset(table, id)]).expect("a commit");
         }
+        limit_files(u64::MAX);
+        let shown = Sets::now(&manager);
+        assert_eq!(shown.pairs.difference(&before.pairs).collect::<Vec<_>>(), [&(0, id.0)]);
+        if room % 2 == 0 {
+            manager.reopen().expect("a reopen");
+            assert_eq!(Sets::now(&manager), shown);
+        }
+        manager.commit_changes([EpochOp::delete_rowset(table, id)]).expect("a commit");
     }
     println!("full disk: {tries} appends and 24 checkpoints cut short");
 }
@@ -290,7 +310,7 @@ fn a_full_disk() {
     assert!(ended.status.success(), "{said}");
     print!("{}", said.lines().filter(|l| l.contains("full disk")).fold(String::new(), |all, l| all + l + "\n"));
     let shown = Sets::now(&folder.open());
-    assert_eq!(shown.tables.len(), 1);
+    assert_eq!((shown.tables.len(), shown.pairs.len()), (1, 0));
 }
 
 #[test]

@@ -1,4 +1,5 @@
-//! The process ends between any two steps of an append or a rewrite; what was committed is found, and nothing else.
+//! The process ends between any two steps of an append or a rewrite, also while and after an append comes short; what was committed is
+//! found, and nothing else.
 mod common;
 use common::*;
 use seqapti::faults::{self, Fault, Plan};
@@ -15,7 +16,13 @@ fn change(manager: &VersionManager) -> StorageResult<u32> {
     if id.0 >= KEPT {
         ops.push(delete(0, id.0 - KEPT));
     }
-    manager.commit_changes(&ops)?;
+    // Made again where the disk did not take it.
+    while let Err(e) = manager.commit_changes(&ops) {
+        match e {
+            StorageError::NotCommitted { .. } => {}
+            other => return Err(other),
+        }
+    }
     manager.find_vacuum()?;
     Ok(id.0 + 1)
 }
@@ -44,7 +51,14 @@ fn found(folder: &Folder) -> u32 {
     changes
 }
 
-// An opening and three changes, and a checkpoint before the last, with a pin that outlasts it.
+// An opening and three changes, and a checkpoint before the last, with a pin that outlasts it. The appends at these steps come
+// short: the second change's and, twice, the third's.
+const SHORT: [Plan; 3] = [short(7, 9), short(17, 0), short(20, 16)];
+
+const fn short(at: usize, landed: usize) -> Plan {
+    Plan { at, fault: Fault::Error, landed }
+}
+
 fn run(folder: &std::path::Path) {
     let manager = VersionManager::open(folder).expect("an opening").manager;
     let _version = manager.pin().expect("a pin");
@@ -59,7 +73,8 @@ fn run(folder: &std::path::Path) {
 #[ignore = "run by another test, in a process of its own"]
 fn ends_at_a_step() {
     let number = |name| variable(name).parse().expect("a number");
-    faults::plan(Some(Plan { at: number("AT"), fault: Fault::Abort, landed: number("LANDED") }));
+    let end = Plan { at: number("AT"), fault: Fault::Abort, landed: number("LANDED") };
+    faults::plan([end].into_iter().chain(SHORT));
     run(variable("STORE").as_ref());
 }
 
@@ -67,9 +82,10 @@ fn ends_at_a_step() {
 fn ended_at_each_step() {
     let dry = Folder::on_disk("dry");
     begin(&dry, 12);
-    faults::plan(None);
+    faults::plan(SHORT);
     run(&dry.store());
     let steps = faults::passed();
+    assert_eq!(steps.iter().filter(|s| **s == "sync landed").count(), SHORT.len());
     let mut runs = 0;
     for (at, step) in steps.iter().enumerate() {
         let is_write = step.contains("write") || *step == "append";
@@ -99,7 +115,11 @@ fn changes_until_killed() {
     let manager = VersionManager::open(variable("STORE")).expect("an opening").manager;
     let mut out = std::io::stdout();
     for turn in 1.. {
+        // The change's first step is its append. One of four comes short, of each length in turn.
+        let landed = turn / 4 % 20;
+        faults::plan((turn % 4 == 0).then_some(short(0, landed)));
         let changes = change(&manager).expect("a change");
+        faults::plan(None);
         writeln!(out, "changes {changes}").and_then(|()| out.flush()).expect("a line");
         if turn % 6 == 0 {
             manager.reopen().expect("a reopen");

@@ -32,6 +32,8 @@ fn refused() -> Vec<(String, u32, usize, &'static str)> {
         (format!("{GOOD}B\nA,0,03\nE\n"), 2, 13, "leading zero"),
         ("\n".into(), 2, 1, "is empty"),
         ("B\r\n".into(), 2, 1, "none of B E T X A D V W N"),
+        ("!B\n".into(), 2, 1, "none of B E T X A D V W N"),
+        ("B\nA,0\n!\n".into(), 2, 2, "has 1 fields after A, which has 2"),
         ("B,\n".into(), 2, 1, "which has none"),
         ("A,1\n".into(), 2, 1, "has 1 fields after A, which has 2"),
         ("A,0,4294967295\n".into(), 2, 1, "above 4294967294"),

@@ -59,14 +59,14 @@ table 0 `slots`, shape 7: 2 rowsets
   rowset 4
 last rewrite: lines 1 to 9, +2 tables, +4 rowsets
 3 frames since
-  frame 1, lines 10 to 12: +1 vector
+  frame 1, lines 11 to 13: +1 vector
     V,0,0,0
-  frame 2, lines 13 to 18: +1 -2 rowsets, -1 vector
+  frame 2, lines 15 to 20: +1 -2 rowsets, -1 vector
     A,0,4
     W,0,0,0
     D,0,0
     D,0,1
-  frame 3, lines 19 to 22: -1 table, -1 rowset
+  frame 3, lines 22 to 25: -1 table, -1 rowset
     X,1
     D,1,2
 not live: 0_0, which nothing committed names
@@ -108,7 +108,7 @@ fn what_is_passed_over_and_dropped_is_listed() {
 fn a_torn_tail_at_every_byte() {
     let place = Place::new("torn");
     let whole = "B\nN,1,2,0\nT,0,7,slots\nA,0,0\nA,0,1\nE\n";
-    let last = "B\nA,0,2\nV,0,2,0\nD,0,0\nD,0,1\nE\n";
+    let last = "!\nB\nA,0,2\nV,0,2,0\nD,0,0\nD,0,1\nE\n";
     let old = "\"rowsets\":[{\"table\":0,\"rowset\":0},{\"table\":0,\"rowset\":1}]";
     let new = "\"rowsets\":[{\"table\":0,\"rowset\":2}]";
     for cut in 0..=last.len() {
@@ -127,15 +127,100 @@ fn a_torn_tail_at_every_byte() {
         let tail = between(&json.out, "\"tail\":", ",\"not_live\"");
         assert!(tail.starts_with(&format!("{{\"from_byte\":{},\"bytes\":{cut},", whole.len())), "{tail}");
         let lines = last[..cut].matches('\n').count();
-        assert_eq!(tail.matches("\"line\":").count(), lines.saturating_sub(1), "{cut} {tail}");
+        assert_eq!(tail.matches("\"line\":").count(), lines.saturating_sub(2), "{cut} {tail}");
         let in_a_line = !last[..cut].ends_with('\n');
         assert!(tail.contains(&format!("\"in_a_line\":{in_a_line}")), "{cut} {tail}");
-        assert_eq!(words.out.matches("  would ").count(), lines.saturating_sub(1));
+        assert_eq!(words.out.matches("  would ").count(), lines.saturating_sub(2));
         assert_eq!(words.out.contains("ends in a line: "), in_a_line);
         if cut == last.len() - 1 {
             assert!(words.out.contains("one newline short of its end"), "{}", words.out);
         }
+        if cut == 2 {
+            assert!(words.out.contains("the first line of an append, and no frame"), "{}", words.out);
+        }
     }
+}
+
+// The same, and the store went on behind it: what landed is passed over, and named.
+#[test]
+fn a_short_append_at_every_byte() {
+    let place = Place::new("short");
+    let whole = "B\nN,1,3,0\nT,0,7,slots\nA,0,0\nA,0,1\nE\n";
+    let append = "!\nB\nA,0,2\nD,0,0\nD,0,1\nE\n";
+    let next = "!\nB\nD,0,1\nE\n";
+    for cut in 0..append.len() {
+        let landed = &append[..cut];
+        let path = place.file("manifest", format!("{whole}{landed}{next}"));
+        let json = on("inspect", &path, &["--json"]);
+        assert_eq!(json.code, 0);
+        assert!(json.out.contains("\"rowsets\":[{\"table\":0,\"rowset\":0}]"), "{cut} {}", json.out);
+        assert!(json.out.contains("\"tail\":null"), "{cut} {}", json.out);
+        let words = on("inspect", &path, &[]).out;
+        let check = on("check", &path, &[]).out;
+        let as_json = on("check", &path, &["--json"]).out;
+        assert!(
+            as_json.contains(&format!("\"short_appends\":{},\"short_bytes\":{cut},", usize::from(cut > 0))),
+            "{as_json}"
+        );
+        assert!(as_json.contains("\"torn_bytes\":0"), "{as_json}");
+        if cut == 0 {
+            assert!(!words.contains("passed over") && !check.contains("passed over"), "{words}{check}");
+            continue;
+        }
+        let (bytes, first) = (if cut == 1 { "1 byte".into() } else { format!("{cut} bytes") }, 7);
+        let last = 6 + landed.lines().count();
+        let named = format!("passed over: lines {first} to {last}, {bytes} of an append that came short: ");
+        assert_eq!(words.matches("passed over").count(), 1, "{words}");
+        assert!(words.contains(&named), "{named}{words}");
+        assert!(check.contains(&format!("  passed over: 1 append that came short, {bytes}\n")), "{check}");
+        let page = page_of(&place, format!("{whole}{landed}{next}"), 0);
+        assert!(page.contains("of an append that came short"));
+    }
+    // Some one after another, the last of them at the end of the file.
+    let text = format!("{whole}!\nB\nA,0!!\n!!\nB\nE\n{next}!\nB\nD");
+    let check = on("check", &place.file("manifest", text), &[]).out;
+    assert!(check.contains("passed over: 2 appends that came short, 11 bytes\n"), "{check}");
+    assert!(check.contains("torn tail: 5 bytes"), "{check}");
+}
+
+// A store whose disk was full at times, as its own calls left it.
+#[test]
+#[cfg(feature = "faults")]
+fn a_store_that_went_on_after_short_appends() {
+    use seqapti::faults::{plan, Fault, Plan};
+    let place = Place::new("went_on");
+    let path = place.at("store");
+    let m = VersionManager::open(&path).expect("an opening").manager;
+    m.create_table("slots", 7).expect("a table");
+    let mut bytes = 0;
+    for landed in 0..12 {
+        let id = m.draw_rowset_id().expect("an id");
+        plan([Plan { at: 0, fault: Fault::Error, landed }]);
+        let told = m.commit_changes([rowset(TableId(0), id)]);
+        plan(None);
+        assert!(matches!(told, Err(StorageError::NotCommitted { .. })));
+        bytes += landed;
+        if landed % 2 == 0 {
+            m.commit_changes([rowset(TableId(0), id)]).expect("a commit");
+        }
+        let check = on("check", &path, &["--json"]);
+        valid(&m, &check);
+    }
+    let check = on("check", &path, &[]);
+    // After the last of them nothing was written.
+    let (short, torn) = (10, 11);
+    assert!(
+        check.out.contains(&format!("passed over: {short} appends that came short, {} bytes\n", bytes - torn)),
+        "{}",
+        check.out
+    );
+    assert!(check.out.contains(&format!("torn tail: {torn} bytes")), "{}", check.out);
+}
+
+#[cfg(feature = "faults")]
+fn valid(m: &VersionManager, check: &tool::Ran) {
+    assert_eq!((check.code, check.err.as_str()), (0, ""));
+    assert!(check.out.contains(&format!("\"opens\":true,\"bytes\":{},", m.manifest_len())), "{}", check.out);
 }
 
 struct Random(u64);
@@ -161,9 +246,14 @@ fn any_line(random: &mut Random) -> String {
         47..=52 => format!("V,{t},{r},{v}"),
         53..=56 => format!("W,{t},{r},{v}"),
         57 => format!("N,{t},{r},{v}"),
-        58 => format!("N,{},{},{}", u32::MAX, u32::MAX, u64::MAX),
+        58 => match random.below(4) {
+            0 => format!("N,{},{},{}", u32::MAX, u32::MAX, u64::MAX),
+            1 => format!("A,{t}!"),
+            2 => "!!".into(),
+            _ => "!".into(),
+        },
         _ if random.below(12) == 0 => {
-            ["", "A,0", "A,0,01", "Z", "A,0,4294967295", "T,0,0,A"][random.below(6) as usize].into()
+            ["", "A,0", "A,0,01", "Z", "A,0,4294967295", "T,0,0,A", "!A", "B!E"][random.below(8) as usize].into()
         }
         _ => format!("A,{t},{}", u32::MAX - 1),
     }

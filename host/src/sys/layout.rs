@@ -49,13 +49,23 @@ pub struct NextIds {
 
 #[repr(C)]
 #[derive(Clone, Copy)]
-pub struct Manager {
+pub struct State {
     pub epoch: u32,
     pub next: NextIds,
     pub tables: Tables,
     pub rowsets: Rowsets,
     pub vectors: Vectors,
     pub manifest: usize,
+}
+
+/// What stands, and what stood before the last commit as long as a short write of it may be reported: where `append`, the
+/// commit's length, is 0, nothing is kept.
+#[repr(C)]
+#[derive(Clone, Copy)]
+pub struct Manager {
+    pub inner: State,
+    pub kept: State,
+    pub append: usize,
 }
 
 #[repr(C)]
@@ -115,12 +125,15 @@ const _: () = {
     assert!(size_of::<Tables>() == 728 && offset_of!(Tables, locked) == 704 && offset_of!(Tables, count) == 720);
     assert!(size_of::<Rowsets>() == 4104 && offset_of!(Rowsets, count) == 4096);
     assert!(size_of::<Vectors>() == 6152 && offset_of!(Vectors, vectors) == 2048 && offset_of!(Vectors, added) == 4096);
-    assert!(offset_of!(Manager, next) == 8 && offset_of!(Manager, tables) == 24);
-    assert!(offset_of!(Manager, rowsets) == 752 && offset_of!(Manager, vectors) == 4856);
-    assert!(offset_of!(Manager, manifest) == 11008 && size_of::<Manager>() == 11016);
+    assert!(offset_of!(State, next) == 8 && offset_of!(State, tables) == 24);
+    assert!(offset_of!(State, rowsets) == 752 && offset_of!(State, vectors) == 4856);
+    assert!(offset_of!(State, manifest) == 11008 && size_of::<State>() == 11016);
+    assert!(
+        offset_of!(Manager, kept) == 11016 && offset_of!(Manager, append) == 22032 && size_of::<Manager>() == 22040
+    );
     assert!(size_of::<Pin>() == 8 && size_of::<PinBook>() == 520);
     assert!(size_of::<Answer>() == 48 && offset_of!(Answer, values) == 24);
-    assert!(size_of::<Handed>() == 11064 && size_of::<Booked>() == 568 && size_of::<Begun>() == 11584);
+    assert!(size_of::<Handed>() == 22088 && size_of::<Booked>() == 568 && size_of::<Begun>() == 22608);
 };
 
 impl Tables {

@@ -42,6 +42,7 @@ extern "C" {
         room: usize,
     ) -> Handed;
     fn seqapti_checkpoint(m: Manager, out: *mut u8, room: usize) -> Handed;
+    fn seqapti_report(m: Manager, b: PinBook, landed: usize) -> Handed;
     #[rustfmt::skip]
     fn seqapti_vacuum(m: Manager, b: PinBook, t: *mut u32, tn: usize, r: *mut u32, rn: usize) -> Handed;
     #[rustfmt::skip]
@@ -148,6 +149,10 @@ pub fn compact(m: &Manager, table: u32, new: Option<u32>, taken: &[u32], out: &m
 
 pub fn checkpoint(m: &Manager, out: &mut [u8]) -> Handed {
     unsafe { seqapti_checkpoint(*m, out.as_mut_ptr(), out.len()) }
+}
+
+pub fn report(m: &Manager, b: &PinBook, landed: usize) -> Handed {
+    unsafe { seqapti_report(*m, *b, landed) }
 }
 
 #[rustfmt::skip]

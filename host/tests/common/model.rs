@@ -47,7 +47,7 @@ impl Model {
     }
 
     fn append(&mut self, ops: &[EpochOp]) -> Verdict {
-        self.length += 4 + ops.iter().map(|op| op.line().len() + 1).sum::<usize>();
+        self.length += 6 + ops.iter().map(|op| op.line().len() + 1).sum::<usize>();
         refuse_if(self.length > 65_536, 23)
     }
 

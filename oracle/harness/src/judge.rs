@@ -85,15 +85,17 @@ impl Answers<'_> {
         }
     }
 
-    /// What was appended since the file was made; in a frame of a drop the order of lines may differ.
+    /// What was appended since the file was made, but for the `!` before each frame; in a frame of a drop the order of
+    /// lines may differ.
     fn file(&self) -> Option<&'static str> {
         let text = self.port.splitn(3, ',').nth(2).unwrap_or("").replace("\\n", "\n");
         let text = if text == "-" { String::new() } else { text };
         let original = self.original.split_once(',').map_or("", |f| f.1).replace("\\n", "\n");
         let Some(appended) = text.get(self.made..) else { return Some("unknown") };
+        let Some(appended) = without_marks(appended) else { return Some("unknown") };
         match appended == original {
             true => None,
-            false if sorted_frames(appended) == sorted_frames(&original) => Some("drop-lines"),
+            false if sorted_frames(&appended) == sorted_frames(&original) => Some("drop-lines"),
             false => Some("unknown"),
         }
     }
@@ -164,6 +166,11 @@ fn record(row: u32) -> Vec<u8> {
     }
     body.insert(0, body.len() as u8);
     body
+}
+
+/// The frames, if each has its `!` before it.
+fn without_marks(text: &str) -> Option<String> {
+    text.split_inclusive("E\n").map(|frame| frame.strip_prefix("!\n")).collect()
 }
 
 fn sorted_frames(text: &str) -> Vec<Vec<&str>> {

@@ -1,4 +1,4 @@
-//! Texts of manifests that no commit has to have written: second `B`s, orphans, torn tails, lines outside a frame.
+//! Texts of manifests that no commit has to have written: second `B`s, orphans, torn lines and tails, lines outside a frame.
 use std::collections::{BTreeMap, BTreeSet};
 
 use crate::random::Random;
@@ -68,6 +68,14 @@ impl Text<'_> {
         format!("A,{table},{rowset}")
     }
 
+    /// Behind what came short, if anything did.
+    fn append(&mut self) {
+        let torn = ["!", "!", "!", "!", "B!", "A,0!", "A,0,1!", "!!", "E!"];
+        let line = self.random.pick(&torn).unwrap();
+        self.lines.push(line.into());
+        self.frame();
+    }
+
     fn frame(&mut self) {
         self.lines.push("B".into());
         for _ in 0..self.random.below(9) {
@@ -103,7 +111,7 @@ impl Text<'_> {
     }
 }
 
-const BAD_LINES: [&str; 12] = [
+const BAD_LINES: [&str; 14] = [
     "",
     "B,",
     "EE",
@@ -116,6 +124,8 @@ const BAD_LINES: [&str; 12] = [
     "Q",
     " B",
     "N,1,2",
+    "!B",
+    "A,0!,1",
 ];
 const BAD_FRAMES: [&str; 5] = [
     "B\nX,99\nE",
@@ -129,14 +139,18 @@ const BAD_FRAMES: [&str; 5] = [
 pub fn any(random: &mut Random) -> String {
     let mut text = Text { random, lines: vec![], tables: BTreeMap::new(), pairs: BTreeSet::new() };
     for _ in 0..text.random.between(1, 7) {
-        match text.random.below(10) {
+        match text.random.below(12) {
             0 | 1 => text.torn_frame(),
             2 => text.outside(),
+            3..7 => text.append(),
             _ => text.frame(),
         }
         // what comes outside a frame must not stand in a torn one
         if text.lines.last().is_some_and(|line| line != "E") && text.random.percent(70) {
-            text.frame();
+            match text.random.percent(50) {
+                true => text.frame(),
+                false => text.append(),
+            }
         }
     }
     let Text { random, mut lines, .. } = text;

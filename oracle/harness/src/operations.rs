@@ -205,7 +205,7 @@ fn wrong(random: &mut Random, model: &Model) -> String {
     let taken = model.tables.values().next().cloned().unwrap_or("slots".into());
     let next_table = model.next_table;
     let waiting = random.pick(&model.waiting_pairs).map_or((table, rowset), |w| w.1);
-    match random.below(22) {
+    match random.below(24) {
         0 => format!("A,{next_table},{rowset}"),
         1 => format!("A,{table},{next_rowset}"),
         2 => format!("A,{table},{rowset}"),
@@ -227,6 +227,8 @@ fn wrong(random: &mut Random, model: &Model) -> String {
         18 => format!("A,{table},0{rowset}"),
         19 => format!("A,{table}"),
         20 => format!("V,{table},{rowset},18446744073709551615"),
+        21 => "!".into(),
+        22 => format!("X,{table}!"),
         _ => "bogus".into(),
     }
 }

@@ -57,6 +57,12 @@ pub fn text(lines: &[String]) -> String {
     lines.iter().map(|line| format!("{line}\n")).collect()
 }
 
+/// The port's file where each frame was appended: a line `!` stands before it.
+pub fn appended(lines: &[String]) -> String {
+    let mark = |line: &String| if line == "B" { "!\n" } else { "" };
+    lines.iter().map(|line| format!("{}{line}\n", mark(line))).collect()
+}
+
 /// One rowset after another added, and the oldest deleted once 100 of them are live.
 fn turnover() -> impl Iterator<Item = String> {
     (0usize..).flat_map(|i| {
@@ -69,8 +75,8 @@ fn turnover() -> impl Iterator<Item = String> {
 pub fn commits(length: usize) -> Vec<String> {
     let mut lines: Vec<String> = ["B", "T,0,7,slots", "E"].map(String::from).into();
     let mut ops = turnover();
-    let frame = 4 + 10 * "A,0,10000\n".len();
-    let mut room = length - text(&lines).len();
+    let frame = 6 + 10 * "A,0,10000\n".len();
+    let mut room = length - appended(&lines).len();
     while room >= frame {
         lines.push("B".into());
         lines.extend(ops.by_ref().take(10));

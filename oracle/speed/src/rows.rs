@@ -194,7 +194,7 @@ impl Bench {
         }
         let Sides { port, original, port_dir, original_dir } = self.sides();
         let lines = histories::commits(length);
-        let text = kept(histories::text(&lines).into_bytes());
+        let text = kept(histories::appended(&lines).into_bytes());
         let json = kept(drive::manifest_of(&lines));
         [port_dir, original_dir].into_iter().for_each(|dir| put_live_files(dir, &lines));
 

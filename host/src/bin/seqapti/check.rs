@@ -62,6 +62,16 @@ impl Judged {
         ))
     }
 
+    /// What came short in the middle of the file is no fault: the store went on behind it.
+    pub fn short_words(&self) -> Option<String> {
+        match self.frames.short() {
+            (0, _) => None,
+            (n, bytes) => {
+                Some(format!("passed over: {} that came short, {}", plural(n, "append"), plural(bytes, "byte")))
+            }
+        }
+    }
+
     pub fn tail_words(&self) -> Option<String> {
         let tail = self.frames.tail.as_ref()?;
         Some(format!(
@@ -88,10 +98,11 @@ fn words(judged: &Judged) -> String {
             let counts = [shown.tables().len(), shown.rowsets().count(), shown.dvs().count()];
             let names = ["table", "rowset", "vector"];
             let held: Vec<String> = counts.iter().zip(names).map(|(n, name)| plural(*n, name)).collect();
+            let short = judged.short_words().map_or(String::new(), |words| format!("  {words}\n"));
             let tail = judged.tail_words().map_or(String::new(), |words| format!("  {words}\n"));
             let warning = judged.warning().map_or(String::new(), |words| format!("  warning: {words}\n"));
             let size = judged.size();
-            format!("{path}: opens\n  {size}; {}\n{tail}{warning}", held.join(", "))
+            format!("{path}: opens\n  {size}; {}\n{short}{tail}{warning}", held.join(", "))
         }
     }
 }
@@ -101,6 +112,8 @@ fn json(judged: &Judged) -> Value {
         ("path", text(judged.source.path.display())),
         ("opens", Value::Bool(judged.verdict.is_ok())),
         ("bytes", number(judged.source.length)),
+        ("short_appends", number(judged.frames.short().0)),
+        ("short_bytes", number(judged.frames.short().1)),
         ("torn_bytes", number(judged.frames.tail.as_ref().map_or(0, |tail| tail.bytes))),
         ("warning", judged.warning().map_or(Value::Null, text)),
         ("refusal", judged.verdict.as_ref().err().map_or(Value::Null, Explained::json)),

@@ -37,6 +37,8 @@ pub enum Ignored {
     End { line: usize },
     /// A frame that another `B` cut short.
     CutShort(Frame),
+    /// An append that came short, up to the `!` of the next one.
+    Short(Frame),
 }
 
 /// What stands after the last frame that ended.
@@ -73,7 +75,7 @@ pub struct Frames {
 impl Frames {
     pub fn read(manifest: &[u8]) -> Frames {
         let mut read = Frames::default();
-        let mut open: Option<Frame> = None;
+        let mut open = Open::default();
         let mut at = 0;
         while let Some(length) = manifest[at..].iter().position(|b| *b == b'\n') {
             read.lines += 1;
@@ -88,19 +90,20 @@ impl Frames {
             }
             at = next;
         }
-        read.tail = tail(open, at, &manifest[at..]);
+        read.tail = open.tail(at, &manifest[at..]);
         read
     }
 
-    fn take(&mut self, open: &mut Option<Frame>, parsed: Line, line: usize, bytes: Range<usize>) {
-        match (parsed, open.as_mut()) {
+    fn take(&mut self, open: &mut Open, parsed: Line, line: usize, bytes: Range<usize>) {
+        match (parsed, open.frame.as_mut()) {
             (Line::Begin, _) => {
                 let begun = Frame { ops: Vec::new(), lines: line..line + 1, bytes };
-                self.ignored.extend(open.replace(begun).map(Ignored::CutShort));
+                self.ignored.extend(open.frame.replace(begun).map(Ignored::CutShort));
             }
             (Line::End, Some(frame)) => {
                 (frame.lines.end, frame.bytes.end) = (line + 1, bytes.end);
-                self.frames.extend(open.take());
+                self.frames.extend(open.frame.take());
+                open.append = None;
             }
             (Line::End, None) => self.ignored.push(Ignored::End { line }),
             (Line::Op(op), Some(frame)) => {
@@ -108,7 +111,17 @@ impl Frames {
                 frame.ops.push(Placed { line, op });
             }
             (Line::Op(op), None) => self.ignored.push(Ignored::Outside(Placed { line, op })),
+            (Line::Torn, _) => self.ignored.extend(open.cut(line, bytes).map(Ignored::Short)),
         }
+    }
+
+    /// How many appends came short and had others written behind them, and the bytes that they left.
+    pub fn short(&self) -> (usize, usize) {
+        let short = self.ignored.iter().filter_map(|ignored| match ignored {
+            Ignored::Short(frame) => Some(frame.bytes.len()),
+            _ => None,
+        });
+        short.fold((0, 0), |(n, bytes), more| (n + 1, bytes + more))
     }
 
     /// The frame of the rewritten manifest, which stands first, and those that came since.
@@ -120,15 +133,36 @@ impl Frames {
     }
 }
 
-fn tail(open: Option<Frame>, at: usize, rest: &[u8]) -> Option<Tail> {
-    let rest = rest.to_vec();
-    match open {
-        Some(frame) => {
-            let bytes = at + rest.len() - frame.bytes.start;
-            Some(Tail { from: frame.bytes.start, bytes, begun: true, ops: frame.ops, rest })
-        }
-        None if rest.is_empty() => None,
-        None => Some(Tail { from: at, bytes: rest.len(), begun: false, ops: Vec::new(), rest }),
+/// What has begun and not ended.
+#[derive(Default)]
+struct Open {
+    /// The line and the byte of the last append's `!`.
+    append: Option<(usize, usize)>,
+    frame: Option<Frame>,
+}
+
+impl Open {
+    // The first line and byte of what would be left unfinished if nothing more came of it.
+    fn from(&self) -> Option<(usize, usize)> {
+        self.append.or(self.frame.as_ref().map(|frame| (frame.lines.start, frame.bytes.start)))
+    }
+
+    // A line that ends in `!`: the next append begins with this byte, and what stood before it came short.
+    fn cut(&mut self, line: usize, bytes: Range<usize>) -> Option<Frame> {
+        let next = bytes.end - 2;
+        let (first, from) = self.from().unwrap_or((line, bytes.start));
+        let ops = self.frame.take().map_or(Vec::new(), |frame| frame.ops);
+        self.append = Some((line, next));
+        let last = line + usize::from(next > bytes.start);
+        (from < next).then_some(Frame { ops, lines: first..last, bytes: from..next })
+    }
+
+    fn tail(self, at: usize, rest: &[u8]) -> Option<Tail> {
+        let end = at + rest.len();
+        let from = self.from().map_or(at, |(_, byte)| byte);
+        let begun = self.frame.is_some();
+        let ops = self.frame.map_or(Vec::new(), |frame| frame.ops);
+        (from < end).then(|| Tail { from, bytes: end - from, begun, ops, rest: rest.to_vec() })
     }
 }
 
@@ -145,7 +179,8 @@ impl Tail {
             (true, true) if self.rest == b"E" => format!("a frame with {lines}, one newline short of its end"),
             (true, true) => format!("a frame with {lines}, cut off in a line"),
             (true, false) => format!("a frame with {lines}, cut off between lines"),
-            (false, _) => "the first bytes of a line, in no frame".into(),
+            (false, true) => "the first bytes of a line, in no frame".into(),
+            (false, false) => "the first line of an append, and no frame".into(),
         }
     }
 }

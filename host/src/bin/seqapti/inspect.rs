@@ -123,6 +123,10 @@ pub fn ignored_words(ignored: &Ignored) -> String {
         Ignored::CutShort(frame) => {
             format!("lines {}, a frame that another B cut short: {}", lines(frame), frame.tally().words())
         }
+        Ignored::Short(frame) => {
+            let landed = plural(frame.bytes.len(), "byte");
+            format!("lines {}, {landed} of an append that came short: {}", lines(frame), frame.tally().words())
+        }
     }
 }
 

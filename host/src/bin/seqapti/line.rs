@@ -20,12 +20,17 @@ pub enum Line {
     Begin,
     End,
     Op(Op),
+    /// Every append begins with `!`. What an earlier one left unfinished stands before it, on the same line.
+    Torn,
 }
 
 pub const LONGEST_NAME: usize = 32;
 
 /// Reads a line without its newline. The error is what is wrong with it, as the end of "line 3 ...".
 pub fn parse(line: &[u8]) -> Result<Line, String> {
+    if line.last() == Some(&b'!') {
+        return Ok(Line::Torn);
+    }
     let fields: Vec<&[u8]> = line.split(|b| *b == b',').collect();
     let (letter, rest) = match fields.split_first() {
         Some((letter, rest)) if !letter.is_empty() => (*letter, rest),

@@ -69,7 +69,8 @@ impl Follower {
         }
     }
 
-    /// So many of the port's bytes have landed, of the original's values as many as whole lines.
+    /// So many of the port's bytes have landed, of the original's values as many as whole lines of the frame. The `!`
+    /// before it is no value.
     fn cut(&mut self, landed: usize) {
         let (before, os) = match &self.append {
             Append::Nothing => return,
@@ -77,7 +78,7 @@ impl Follower {
             Append::Frame(before, os) => (before, os),
         };
         let text: String = frame(os).iter().map(|value| line_of(value) + "\n").collect();
-        let landed_text = &text[..landed.min(text.len())];
+        let landed_text = &text[..landed.saturating_sub("!\n".len()).min(text.len())];
         let (missing, whole) = (text.len() - landed_text.len(), landed_text.matches('\n').count());
         self.engine.torn = run::torn_by(os, missing, whole, before.clone());
         self.half = self.literal && !landed_text.is_empty() && !landed_text.ends_with('\n');

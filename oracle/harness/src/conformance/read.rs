@@ -104,7 +104,7 @@ pub fn file_of(answer: &str) -> Option<File> {
     Some(File { values, half })
 }
 
-/// Whether the driver can read all whole lines of a text that is to be written; `N` lines are no values.
+/// Whether the driver can read all whole lines of a text that is to be written; `N` lines and torn ones are no values.
 pub fn is_readable(text: &str) -> bool {
     let (whole, _) = text.rsplit_once("\\n").unwrap_or(("", text));
     let readable = |line: &str| match line.strip_prefix("N,") {
@@ -112,7 +112,7 @@ pub fn is_readable(text: &str) -> bool {
             let f: Vec<&str> = next.split(',').collect();
             f.len() > 2 && f[..2].iter().all(|n| n.parse::<u32>().is_ok()) && f[2].parse::<u64>().is_ok()
         }
-        None => value_of(line).is_some(),
+        None => line.ends_with('!') || value_of(line).is_some(),
     };
     whole.is_empty() && !text.starts_with("\\n") || whole.split("\\n").all(readable)
 }

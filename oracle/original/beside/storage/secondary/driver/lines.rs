@@ -34,7 +34,7 @@ pub fn next_of(line: &str) -> Option<Next> {
     (f[0] == "N").then(|| Next { table: number(&f, 1), rowset: number(&f, 2), vector: number(&f, 3) })
 }
 
-/// The original's value of a line; `N` has none.
+/// The original's value of a line; `N` and the `!` of an append have none.
 pub fn value_of(line: &str) -> Option<ManifestOperation> {
     let f: Vec<&str> = line.split(',').collect();
     let table_id = || table_ref(number(&f, 1));
@@ -65,7 +65,7 @@ pub fn value_of(line: &str) -> Option<ManifestOperation> {
             rowset_id: rowset_id(),
             dv_id: dv_id(),
         }),
-        "N" => return None,
+        "N" | "!" => return None,
         _ => panic!("no line of a manifest: {line:?}"),
     })
 }
@@ -90,9 +90,21 @@ pub fn line_of(value: &ManifestOperation) -> String {
     }
 }
 
+/// Half of a value, for what is no part of a line we know.
+pub const HALF_A_VALUE: &[u8] = b"{\"AddRow";
+
+/// Whether an append came short in this line, before the `!` of the next one.
+pub fn is_cut_short(line: &str) -> bool {
+    line.len() > 1 && line.ends_with('!')
+}
+
+/// The original's file of these lines. The half of a line is half a value.
 pub fn json_of(lines: &[String]) -> Vec<u8> {
-    let values = lines.iter().filter_map(|line| value_of(line));
-    values.flat_map(|value| serde_json::to_vec(&value).unwrap()).collect()
+    let value = |line: &String| match is_cut_short(line) {
+        true => HALF_A_VALUE.to_vec(),
+        false => value_of(line).map_or(vec![], |value| serde_json::to_vec(&value).unwrap()),
+    };
+    lines.iter().flat_map(value).collect()
 }
 
 /// The values of a file that holds whole ones.

@@ -4,14 +4,14 @@ use std::collections::BTreeSet;
 
 use serde::de::IgnoredAny;
 
-use super::lines::{Next, json_of, next_of};
+use super::lines::{HALF_A_VALUE, Next, is_cut_short, json_of, next_of};
 
 pub const TORN_TAIL: &str = "torn-tail";
 pub const SECOND_BEGIN: &str = "second-begin";
 pub const ORPHAN_VECTOR: &str = "orphan-vector";
 
-/// Half of a value, for bytes after the last newline that are no part of a line we know.
-const HALF_A_VALUE: &[u8] = b"{\"AddRow";
+/// The line that every append of the port begins with. The original has no value for it.
+const MARK: &str = "!\n";
 
 #[derive(Default)]
 pub struct File {
@@ -37,7 +37,7 @@ pub fn file_of_text(text: &str) -> File {
     file
 }
 
-/// What a second `B` drops is left out, and `N` lines of ended frames are noted.
+/// What a second `B` or a line that ends in `!` drops is left out, and `N` lines of ended frames are noted.
 fn without_torn_frames(lines: Vec<String>, file: &mut File) -> Vec<String> {
     let mut kept = vec![];
     let mut frame: Option<Vec<String>> = None;
@@ -46,6 +46,14 @@ fn without_torn_frames(lines: Vec<String>, file: &mut File) -> Vec<String> {
             ("B", _) => {
                 if frame.replace(vec![line]).is_some_and(|held| held.len() > 1) {
                     file.reasons.push(SECOND_BEGIN);
+                }
+            }
+            (torn, _) if torn.ends_with('!') => {
+                if frame.take().is_some_and(|held| held.len() > 1) {
+                    file.reasons.push(SECOND_BEGIN);
+                }
+                if is_cut_short(torn) {
+                    file.reasons.push(TORN_TAIL);
                 }
             }
             ("E", _) => {
@@ -103,10 +111,10 @@ fn apply(line: &str, live: &mut BTreeSet<String>) {
 }
 
 /// An append that landed in part: what stood before it, its values, its frame as the port's lines, and how many of the
-/// port's bytes landed. As many values are there as lines; one more in half if a line is.
+/// port's bytes landed, the `!` among them. As many values are there as lines of the frame; one more in half if a line is.
 pub fn file_of_cut(before: &[u8], values: &[u8], frame: &[String], landed: usize) -> File {
     let text: String = frame.iter().map(|line| format!("{line}\n")).collect();
-    let text = &text[..landed.min(text.len())];
+    let text = &text[..landed.saturating_sub(MARK.len()).min(text.len())];
     let ends = ends_of_values(values);
     let whole = text.matches('\n').count();
     let settled = [before, &values[..ends[whole]]].concat();
