@@ -25,8 +25,8 @@ use Rattle.version_manager.specs.Managers.{heldBy, HandsBack}
 use Rattle.version_manager.specs.Checkpoint.{checkpointVerdict}
 use Rattle.version_manager.proofs.Laws.{checkpoint-laws}
 use Rattle.plain_record.specs.Calls.{asCheckpoint}
-use Rattle.plain_record.specs.Plain.{Plain, Record, recorded, turn}
-use Rattle.plain_record.specs.Run.{port, World, world, isAccepted, value, replaced, DidCheckpoint}
+use Rattle.plain_record.specs.Plain.{Plain, gone, Record, recorded, turn}
+use Rattle.plain_record.specs.Run.{port, noAppend, World, world, isAccepted, value, replaced, DidCheckpoint}
 use Rattle.plain_record.proofs.Invariant.{Filed, Torn, Inv}
 use Rattle.plain_record.proofs.Landed.{landed}
 use Rattle.plain_record.proofs.CommitIds.{Rise, next-rise}
@@ -72,10 +72,10 @@ module _ (w : World) (t : Told) (l : List (List ℕ)) (v : World) (out : List �
   new-torn : Torn new p
   new-torn = landed new (withRewritten s) p (omega (arith, c .room)) (shows-now s (w .book) (w .file) p stood) filed
 
-  handed-on : verdict ≡ Accepted → Inv (replaced m (w .book) (w .file) new stale) (recorded p p (r .place + 1))
+  handed-on : verdict ≡ Accepted → Inv (replaced m (w .book) (w .file) new stale) (recorded p p gone (r .place + 1))
   handed-on q =
       let k = subst (λ (x : Verdict). HandsBack x (w .manager) (withRewritten s) m) q (d .says .manager) in
-      of-stands m (w .book) new (cond stale (w .file) new) p p (r .place + 1) (checkpoint-laws .sound (w .manager) out (d .result) (d .left) (d .says) q)
+      of-stands m (w .book) new (cond stale (w .file) new) noAppend p p gone (r .place + 1) (checkpoint-laws .sound (w .manager) out (d .result) (d .left) (d .says) q)
       (subst (λ (u : State). Stands u (w .book) new p) (sym (k .state)) stands)
       (replaced-torn (w .file) new p stale old-torn new-torn)
 
@@ -92,7 +92,7 @@ module _ (w : World) (t : Told) (l : List (List ℕ)) (v : World) (out : List �
   pub checkpoint-kept : (id : ℕ) → Inv v (turn (asCheckpoint (length out)) (isAccepted t) id r)
   checkpoint-kept id =
       subst (λ (u : World). Inv u (turn (asCheckpoint (length out)) (isAccepted t) id r)) (sym (d .after))
-      (by-verdict (λ a. Inv (cond a (replaced m (w .book) (w .file) (take (value 0 t) (d .left)) stale) (world m (w .book) (w .file) (w .torn))) (turn (asCheckpoint (length out)) a id r)) verdict (length new ∷ []) t tells
+      (by-verdict (λ a. Inv (cond a (replaced m (w .book) (w .file) (take (value 0 t) (d .left)) stale) (world m (w .book) (w .file) (w .torn) (w .last))) (turn (asCheckpoint (length out)) a id r)) verdict (length new ∷ []) t tells
       (λ q. rw (bytes q) (handed-on q))
       (λ j q. refused-stands w r m (w .book) (subst (λ (x : Verdict). HandsBack x (w .manager) (withRewritten s) m) q (d .says .manager)) refl i))
 

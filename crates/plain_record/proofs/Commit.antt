@@ -11,7 +11,6 @@ use Rattle.lists.specs.Written.{over}
 use Rattle.ids.specs.Answers.{Told, told, after}
 use Rattle.ids.specs.Results.{Result, refused, given}
 use Rattle.manifest.specs.Operations.{Operation}
-use Rattle.frames.specs.Frames.{frameOf}
 use Rattle.version_state.specs.State.{State, pairsAt, vectorsAt}
 use Rattle.pins.specs.Guards.{guardsOf, bound}
 use Rattle.pins.proofs.Bound.{bound-le, bound-rises}
@@ -40,7 +39,7 @@ use Rattle.version_manager.specs.Compact.{compactVerdict}
 use Rattle.plain_record.specs.Sets.{Sets, applyAll}
 use Rattle.plain_record.specs.Calls.{asCommit}
 use Rattle.plain_record.specs.Plain.{byEpochAndPair, deletions, await, setsAt, counted, idsOf, Record, counts, turn}
-use Rattle.plain_record.specs.Run.{port, World, world, isAccepted, value, afterCommit, DidCommit, DidCreate, DidDrop, DidCompact}
+use Rattle.plain_record.specs.Run.{port, append, World, world, isAccepted, value, afterCommit, DidCommit, DidCreate, DidDrop, DidCompact}
 use Rattle.plain_record.specs.Claim.{waitingIn, waitingOf, belowNext}
 use Rattle.plain_record.proofs.Invariant.{plainSets, Inv}
 use Rattle.plain_record.proofs.Refused.{refused-number}
@@ -114,7 +113,7 @@ module _ (w : World) (r : Record) (i : Inv w r) (z : ℕ) (os : List Operation) 
   plain-after : plainSets (heldBy n) ≡ applyAll os (r .whole .now)
   plain-after = ap (λ (e : ℕ). plainAt e (heldBy n)) epoch-after ∙ sets-after
 
-  commit-inv : (missing : ℕ) → Inv (world n (w .book) (w .file ++ frameOf os) (w .file ++ take (length (frameOf os) - missing) (frameOf os))) (counts os missing r)
+  commit-inv : (missing : ℕ) → Inv (world n (w .book) (w .file ++ appendOf os) (w .file ++ take (length (appendOf os) - missing) (appendOf os)) (append (w .file) (appendOf os))) (counts os missing r)
   commit-inv missing =
       let p = r .whole in
       let m = w .manager .inner in
@@ -135,17 +134,17 @@ module _ (w : World) (r : Record) (i : Inv w r) (z : ℕ) (os : List Operation) 
 -- A call that counts as a commit: it hands on the manager n and leaves its buffer as lent. It answers the id, at which the operations
 -- may look, and the length b of the append.
 module _ (w : World) (r : Record) (i : Inv w r) (made : ℕ → Sets → List Operation) (missing : ℕ) (t : Told) (b : ℕ) (n : VersionManager) (lent : List ℕ) where
-  pub accepted-kept : (z : ℕ) (os : List Operation) (out : List ℕ) (s : State) → isAccepted t ≡ true → b ≡ length (frameOf os) → made (value 0 t) (r .whole .now) ≡ os
-      → length os ≤ z → commitOf (heldBy (w .manager)) z os (length out) ≡ given s → Manages n s → lent ≡ over (frameOf os) out
+  pub accepted-kept : (z : ℕ) (os : List Operation) (out : List ℕ) (s : State) → isAccepted t ≡ true → b ≡ length (appendOf os) → made (value 0 t) (r .whole .now) ≡ os
+      → length os ≤ z → commitOf (heldBy (w .manager)) z os (length out) ≡ given s → Manages n s → lent ≡ over (appendOf os) out
       → Inv (afterCommit n t b lent missing w) (turn (asCommit made missing) (isAccepted t) (value 0 t) r)
   accepted-kept z os out s a e c few h k q =
-      let f = frameOf os in
+      let f = appendOf os in
       let x : take (length f) lent ≡ f = ap (take (length f)) q ∙ append-taken f out (length f) (omega arith) ∙ take-all (length f) f (omega arith) in
       let y : take (length f - missing) lent ≡ take (length f - missing) f = ap (take (length f - missing)) q ∙ append-taken f out (length f - missing) (omega arith) in
       rw (a, e, c, x, y) (commit-inv w r i z os few (length out) n s h k missing)
 
   pub refused-kept : isAccepted t ≡ false → n ≡ w .manager → Inv (afterCommit n t b lent missing w) (turn (asCommit made missing) (isAccepted t) (value 0 t) r)
-  refused-kept a q = rw a (inv-stays w (world n (w .book) (w .file) (w .torn)) r (r .place + 1) q refl refl refl i)
+  refused-kept a q = rw a (inv-stays w (world n (w .book) (w .file) (w .torn) (w .last)) r (r .place + 1) q refl refl refl i)
 
   -- one that is judged by rules of its own, and that the commit accepts where these pass
   pub made-kept : (x : Verdict) (os : List Operation) (vs out : List ℕ) → t ≡ told x vs → HandsBack x (w .manager) (committed os (heldBy (w .manager))) n → lent ≡ after x (over (appendOf os) out) out

@@ -58,7 +58,7 @@ use Rattle.show.specs.declared.ShowAnswer.the-variants.{Shown, Refused as NotSh
 use Rattle.storage.specs.declared.Reopened.{Reopened}
 use Rattle.storage.specs.declared.ReopenAnswer.the-variants.{Rewritten}
 use Rattle.plain_record.specs.Calls.{drawRowset, drawVector, lock, commit, create, drop, compact, pin, unpin, vacuum, checkpoint, reopen}
-use Rattle.plain_record.specs.Run.{Steps, World, world, Event, onward, afterCommit, afterCheckpoint, afterReopen, pairsIn, Starts, Link, Chain}
+use Rattle.plain_record.specs.Run.{Steps, noAppend, World, world, Event, onward, afterCommit, afterCheckpoint, afterReopen, pairsIn, Starts, Link, Chain}
 use Rattle.plain_record.specs.Claim.{Claim, Holds}
 use Rattle.plain_record.specs.Shows.{ShowsTables, ShowsPairs}
 
@@ -141,7 +141,7 @@ abbrev pub first : Opened
 first = record { manager = holding 0 0 0 noTables noPairs 0; book = unpinned }
 
 abbrev pub begun : World
-begun = world (first .manager) unpinned [] []
+begun = world (first .manager) unpinned [] [] noAppend
 
 -- Accepted calls. A commit, a checkpoint and a reopen are lent what they then write, a vacuum a place in each slice.
 abbrev telling : List ℕ → Told
@@ -187,7 +187,7 @@ draws = drawsOn begun (drawn .manager) 0
 
 abbrev pub drawsVector : Event
 drawsVector =
-    record { before = draws .after; call = drawVector; told = telling (0 ∷ []); listed = []; after = world (drawnVector .manager) unpinned [] [] }
+    record { before = draws .after; call = drawVector; told = telling (0 ∷ []); listed = []; after = world (drawnVector .manager) unpinned [] [] noAppend }
 
 abbrev pub commits : World → List Operation → VersionManager → ℕ → ℕ → List ℕ → ℕ → Event
 commits w os m e n out missing =

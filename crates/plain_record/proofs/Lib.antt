@@ -30,3 +30,4 @@ pub mod WrongTables
 pub mod Wrong
 pub mod Story
 pub mod Either
+pub mod ShortWrite

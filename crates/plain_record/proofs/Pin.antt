@@ -65,7 +65,7 @@ module _ (w : World) (r : Record) (t : Told) (l : List (List ℕ)) (v : World) (
   pin-kept id =
       let p = withPins (onePin (epochOf (r .whole)) (r .whole .pinned)) (r .whole) in
       onward-kept asPin id w r (w .manager) (d .book) (pinVerdict (w .manager) (w .book)) (epoch ∷ []) t v i (d .after) (d .told ∙ d .says .answer)
-      (λ a. accepted-stands (w .manager) (d .book) (w .file) (heldBy (w .manager)) p (r .place + 1) (i .sound) refl (stands-pinned (subst After a (d .says .book))))
+      (λ a. accepted-stands (w .manager) (d .book) (w .file) (w .last) (heldBy (w .manager)) p (r .former) (r .place + 1) (i .sound) refl (stands-pinned (subst After a (d .says .book))))
       (λ k a. (refl, subst After a (d .says .book)))
 
   pub pin-answers : isAccepted t ≡ true → value 0 t ≡ epochOf (r .whole)

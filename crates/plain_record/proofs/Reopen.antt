@@ -31,7 +31,7 @@ use Rattle.recovery.proofs.Again.{replay-room, replay-again}
 use Rattle.recovery.proofs.Appending.{holds-replayed}
 use Rattle.plain_record.specs.Sets.{Sets}
 use Rattle.plain_record.specs.Calls.{asReopen}
-use Rattle.plain_record.specs.Plain.{Plain, setsAt, kept, Record, recorded, turn}
+use Rattle.plain_record.specs.Plain.{Plain, setsAt, kept, gone, Record, recorded, turn}
 use Rattle.plain_record.specs.Run.{port, World, isAccepted, replaced, DidReopen}
 use Rattle.plain_record.specs.Claim.{waitingIn}
 use Rattle.plain_record.proofs.Invariant.{plainTable, Torn, Inv}
@@ -104,7 +104,7 @@ module _ (w : World) (r : Record) (i : Inv w r) (m : VersionManager) (b : PinBoo
   old-torn = record { state = s; replayed = t .replayed; sets = t .sets; next = t .next }
 
   pub handed-on : (stale : Bool) (place : ℕ) → Hands (m .inner) (withEpoch s (s .epoch) n) → Keeps b []
-      → Inv (replaced m b (w .torn) (rewrittenOf s) stale) (recorded (kept (r .torn)) (kept (r .torn)) place)
+      → Inv (replaced m b (w .torn) (rewrittenOf s) stale) (recorded (kept (r .torn)) (kept (r .torn)) gone place)
   handed-on stale place k e =
       let z = k .state in
       let one : m .inner .epoch ≡ 1 = ap (λ (u : State). u .epoch) z ∙ at-one (w .torn) s (t .replayed) in

@@ -11,10 +11,10 @@ use Rattle.version_manager.proofs.Laws.{draw-laws}
 use Rattle.replay.specs.Replay.{reopened}
 use Rattle.recovery.proofs.Appending.{empty-holds, holds-replayed}
 use Rattle.plain_record.specs.Sets.{Sets, none}
-use Rattle.plain_record.specs.Calls.{Call, drawRowset, drawVector, group, lock, unlock, commit, create, drop, compact, pin, unpin, vacuum, checkpoint, reopen, kindOf}
+use Rattle.plain_record.specs.Calls.{Call, drawRowset, drawVector, group, lock, unlock, commit, create, drop, compact, pin, unpin, vacuum, report, checkpoint, reopen, kindOf}
 use Rattle.plain_record.specs.Plain.{Record, atStart}
 use Rattle.plain_record.specs.Plain.{start as plain-start}
-use Rattle.plain_record.specs.Run.{World, world, Event, value, port, LinkBy, Starts}
+use Rattle.plain_record.specs.Run.{noAppend, World, world, Event, value, port, LinkBy, Starts}
 use Rattle.plain_record.specs.Claim.{waitingIn, Claim}
 use Rattle.plain_record.proofs.Invariant.{plainTable, Torn, Inv, Kept}
 use Rattle.plain_record.proofs.CommitShows.{shows-now}
@@ -32,7 +32,7 @@ use Rattle.plain_record.proofs.Through.{claimed}
 nothing-yet : Torn [] plain-start
 nothing-yet = record { state = withEpoch start reopened 0; replayed = holds-replayed [] (withEpoch start reopened 0) empty-holds (omega arith); sets = refl; next = refl }
 
-start-inv : (o : Opened) → FreshSays o → Inv (world (o .manager) (o .book) [] []) atStart
+start-inv : (o : Opened) → FreshSays o → Inv (world (o .manager) (o .book) [] [] noAppend) atStart
 start-inv o f =
     let z = f .manager .state in
     record {
@@ -79,6 +79,7 @@ turned (vacuum ts rs) e r i d =
       inv = vacuum-kept (e .before) r (e .told) (e .listed) (e .after) ts rs i d (value 0 (e .told));
       answer = vacuum-lists (e .before) r (e .told) (e .listed) (e .after) ts rs i d;
     }
+turned (report n) e r i d = absurd (d .says)
 turned (checkpoint out stale) e r i d =
     record {
       inv = checkpoint-kept (e .before) (e .told) (e .listed) (e .after) out stale r i d (value 0 (e .told));

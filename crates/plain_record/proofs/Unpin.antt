@@ -58,5 +58,5 @@ module _ (w : World) (r : Record) (t : Told) (l : List (List ℕ)) (v : World) (
   unpin-kept id =
       let p = withPins (oneLess e (r .whole .pinned)) (r .whole) in
       onward-kept (asUnpin e) id w r (w .manager) (d .book) (unpinVerdict (w .manager) e (w .book)) (flag (isDue (w .manager) e (w .book)) ∷ readyOf (d .answer) ∷ []) t v i (d .after) (d .told ∙ d .says .answer)
-      (λ a. accepted-stands (w .manager) (d .book) (w .file) (heldBy (w .manager)) p (r .place + 1) (i .sound) refl (stands-unpinned (is-held a) (subst After a (d .says .book))))
+      (λ a. accepted-stands (w .manager) (d .book) (w .file) (w .last) (heldBy (w .manager)) p (r .former) (r .place + 1) (i .sound) refl (stands-unpinned (is-held a) (subst After a (d .says .book))))
       (λ k a. (refl, subst After a (d .says .book)))

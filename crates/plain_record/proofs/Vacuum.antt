@@ -30,7 +30,7 @@ use Rattle.vacuum.proofs.Laws.{pairs-after, vectors-after, vacuum-sound}
 use Rattle.version_manager.specs.Managers.{heldBy, HandsBack}
 use Rattle.version_manager.specs.Vacuum.{vacuumVerdict}
 use Rattle.plain_record.specs.Calls.{asVacuum}
-use Rattle.plain_record.specs.Plain.{Waiting, byEpochAndPair, Plain, guardsIn, listed, swept, Record, turn}
+use Rattle.plain_record.specs.Plain.{Waiting, byEpochAndPair, Plain, guardsIn, listed, swept, gone, Record, turn}
 use Rattle.plain_record.specs.Run.{port, World, isAccepted, value, paired, pairsIn, listedIf, DidVacuum}
 use Rattle.plain_record.specs.Claim.{waitingIn, waitingOf, pairsOf}
 use Rattle.plain_record.proofs.Invariant.{Inv, guards-alike}
@@ -196,7 +196,7 @@ module _ (w : World) (r : Record) (t : Told) (l : List (List ℕ)) (v : World) (
   vacuum-kept id =
       onward-kept asVacuum id w r (d .result .manager) (w .book) verdict (length (listOf (heldBy (w .manager)) (w .book)) ∷ []) t v i (d .after) tells
       (λ a. let h = subst Handed a (d .says .manager) in
-      accepted-stands (d .result .manager) (w .book) (w .file) swept-state (swept (r .whole)) (r .place + 1)
+      accepted-stands (d .result .manager) (w .book) (w .file) (w .last) swept-state (swept (r .whole)) gone (r .place + 1)
       (vacuum-sound inner (d .result .manager .inner) to (bound-le (guardsOf (stateOf inner) (w .book))) (i .sound) h) (h .state) stands-swept)
       (λ k a. (subst Handed a (d .says .manager), refl))
 

@@ -54,7 +54,7 @@ lists-nothing claim =
     let w = commitTAD .after in
     let h =
     on-TAD S claim fresh-says draw-says says-TAD (vacuums w afterTAD 0 (5 ∷ []) (5 ∷ []) ∷ []) (refl, vacuumed S w afterTAD 0 (5 ∷ []) (5 ∷ []) nothing-says, tt) in
-    true≢false (sym (h .deletions .1 .0 refl refl .0 .0 refl .0 .1))
+    true≢false (sym (h .deletions .1 .0 refl refl refl .0 .0 refl .0 .1))
 
 -- a vacuum lists the deletion and keeps it, so that the next one lists it again
 listed-says : VacuumsTo 0 portBound nothing nothing afterTAD unpinned (5 ∷ []) (5 ∷ []) (listedBy afterTAD 1) (0 ∷ []) (0 ∷ [])
@@ -72,7 +72,7 @@ keeps-listed claim =
       vacuumed S w afterTAD 1 (0 ∷ []) (0 ∷ []) listed-says,
       (refl, vacuumed S (v .after) afterTAD 1 (0 ∷ []) (0 ∷ []) listed-says, tt),
     ) in
-    true≢false (h .deletions .1 .0 refl refl .0 .0 refl .1 .0 .1)
+    true≢false (h .deletions .1 .0 refl refl refl .0 .0 refl .1 .0 .1)
 
 -- a vacuum lists the deletion, lets it go and answers 2
 more-says : VacuumsTo 1 portBound portBound portBound afterTAD unpinned (5 ∷ []) (5 ∷ []) (listedBy sweptTAD 2) (0 ∷ []) (0 ∷ [])
@@ -129,7 +129,7 @@ keeps-own-epoch claim =
       pinned S (commitTAD .after) 1 once pin-says,
       (refl, vacuumed S (p .after) afterTAD 0 (5 ∷ []) (5 ∷ []) own-says, tt),
     ) in
-    true≢false (sym (h .deletions .1 .0 refl refl .0 .1 refl .1 .0 refl .0 .1))
+    true≢false (sym (h .deletions .1 .0 refl refl refl .0 .1 refl .1 .0 refl .0 .1))
 
 -- a pin answers the next epoch
 next-says : PinsNext afterTAD unpinned (Pinned 2) once

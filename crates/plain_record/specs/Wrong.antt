@@ -60,15 +60,15 @@ use Rattle.storage.specs.declared.Reopened.{Reopened}
 use Rattle.storage.specs.Reopen.{openedOf, reopenOf, reopenTold, ReopenIs, ReopenSays}
 use Rattle.plain_record.specs.Run.{Steps, port}
 use Rattle.plain_record.specs.Claim.{Claim}
-open Steps port using (lock, commit, create, drop, compact, pin, unpin, vacuum, checkpoint, reopen, showTables, showPairs, showVectors)
+open Steps port using (lock, commit, create, drop, compact, pin, unpin, vacuum, report, checkpoint, reopen, showTables, showPairs, showVectors)
 
 -- what may stand in the place of a call's contract
 abbrev pub Like : {A : Type 1} → A → Type 1
 Like {A} says = A
 
 -- the port with these calls in place of its own
-abbrev pub exchanged : Like lock → Like commit → Like create → Like drop → Like compact → Like pin → Like unpin → Like vacuum → Like checkpoint → Like reopen → Like showTables → Like showPairs → Like showVectors → Steps
-exchanged lock commit create drop compact pin unpin vacuum checkpoint reopen showTables showPairs showVectors =
+abbrev pub exchanged : Like lock → Like commit → Like create → Like drop → Like compact → Like pin → Like unpin → Like vacuum → Like report → Like checkpoint → Like reopen → Like showTables → Like showPairs → Like showVectors → Steps
+exchanged lock commit create drop compact pin unpin vacuum report checkpoint reopen showTables showPairs showVectors =
     record {
       fresh = port .fresh;
       drawRowset = port .drawRowset;
@@ -83,6 +83,7 @@ exchanged lock commit create drop compact pin unpin vacuum checkpoint reopen sho
       pin = pin;
       unpin = unpin;
       vacuum = vacuum;
+      report = report;
       checkpoint = checkpoint;
       reopen = reopen;
       showTables = showTables;
@@ -92,37 +93,40 @@ exchanged lock commit create drop compact pin unpin vacuum checkpoint reopen sho
 
 -- with one of them
 abbrev pub locking : Like lock → Steps
-locking f = exchanged f commit create drop compact pin unpin vacuum checkpoint reopen showTables showPairs showVectors
+locking f = exchanged f commit create drop compact pin unpin vacuum report checkpoint reopen showTables showPairs showVectors
 
 abbrev pub committing : Like commit → Steps
-committing f = exchanged lock f create drop compact pin unpin vacuum checkpoint reopen showTables showPairs showVectors
+committing f = exchanged lock f create drop compact pin unpin vacuum report checkpoint reopen showTables showPairs showVectors
 
 abbrev pub creating : Like create → Steps
-creating f = exchanged lock commit f drop compact pin unpin vacuum checkpoint reopen showTables showPairs showVectors
+creating f = exchanged lock commit f drop compact pin unpin vacuum report checkpoint reopen showTables showPairs showVectors
 
 abbrev pub dropping : Like drop → Steps
-dropping f = exchanged lock commit create f compact pin unpin vacuum checkpoint reopen showTables showPairs showVectors
+dropping f = exchanged lock commit create f compact pin unpin vacuum report checkpoint reopen showTables showPairs showVectors
 
 abbrev pub compacting : Like compact → Steps
-compacting f = exchanged lock commit create drop f pin unpin vacuum checkpoint reopen showTables showPairs showVectors
+compacting f = exchanged lock commit create drop f pin unpin vacuum report checkpoint reopen showTables showPairs showVectors
 
 abbrev pub pinning : Like pin → Steps
-pinning f = exchanged lock commit create drop compact f unpin vacuum checkpoint reopen showTables showPairs showVectors
+pinning f = exchanged lock commit create drop compact f unpin vacuum report checkpoint reopen showTables showPairs showVectors
 
 abbrev pub unpinning : Like unpin → Steps
-unpinning f = exchanged lock commit create drop compact pin f vacuum checkpoint reopen showTables showPairs showVectors
+unpinning f = exchanged lock commit create drop compact pin f vacuum report checkpoint reopen showTables showPairs showVectors
 
 abbrev pub vacuuming : Like vacuum → Steps
-vacuuming f = exchanged lock commit create drop compact pin unpin f checkpoint reopen showTables showPairs showVectors
+vacuuming f = exchanged lock commit create drop compact pin unpin f report checkpoint reopen showTables showPairs showVectors
+
+abbrev pub reporting : Like report → Steps
+reporting f = exchanged lock commit create drop compact pin unpin vacuum f checkpoint reopen showTables showPairs showVectors
 
 abbrev pub checkpointing : Like checkpoint → Steps
-checkpointing f = exchanged lock commit create drop compact pin unpin vacuum f reopen showTables showPairs showVectors
+checkpointing f = exchanged lock commit create drop compact pin unpin vacuum report f reopen showTables showPairs showVectors
 
 abbrev pub reopening : Like reopen → Steps
-reopening f = exchanged lock commit create drop compact pin unpin vacuum checkpoint f showTables showPairs showVectors
+reopening f = exchanged lock commit create drop compact pin unpin vacuum report checkpoint f showTables showPairs showVectors
 
 abbrev pub showing : Like showTables → Like showPairs → Like showVectors → Steps
-showing t s x = exchanged lock commit create drop compact pin unpin vacuum checkpoint reopen t s x
+showing t s x = exchanged lock commit create drop compact pin unpin vacuum report checkpoint reopen t s x
 
 -- an accepted lock forgets the pairs
 pub record LocksForgetting (m : VersionManager) (t : TableNo) (r : Locked) : Type 0 where
