@@ -1,7 +1,7 @@
--- Document 01's numbers and places of the refusals. Assumes nothing.
+-- The numbers and places of the refusals. Assumes nothing.
 use Prim.Native.Nat.{ℕ}
 use Rattle.ids.specs.declared.refusal.Refusal.{Refusal}
-use Rattle.ids.specs.declared.refusal.Refusal.the-variants.{ManifestTooLong, Malformed, TableConflict, OverLimit, RowsetWithoutTable, TooManyOperations, BadRecord, WrongCount, OutputTooShort, PinAtEpochZero, TableNotLive, PairNotShown, VectorNotShown, IdNotDrawn, NameTaken, StillHeld, LeftBehind, PinsFull, PinnedEpochsFull, EpochsFull, TablesFull, HeldFull, ManifestFull, EpochNotPinned, LockHeld, IdsUsedUp, LockNotHeld, BadPinBook, BadManager}
+use Rattle.ids.specs.declared.refusal.Refusal.the-variants.{ManifestTooLong, Malformed, TableConflict, OverLimit, RowsetWithoutTable, TooManyOperations, BadRecord, WrongCount, OutputTooShort, PinAtEpochZero, TableNotLive, PairNotShown, VectorNotShown, IdNotDrawn, NameTaken, StillHeld, LeftBehind, PinsFull, PinnedEpochsFull, EpochsFull, TablesFull, HeldFull, ManifestFull, EpochNotPinned, LockHeld, IdsUsedUp, LockNotHeld, BadPinBook, BadManager, NotReportable}
 
 abbrev pub numberOf : Refusal → ℕ
 numberOf ManifestTooLong = 1
@@ -33,6 +33,7 @@ numberOf IdsUsedUp = 26
 numberOf LockNotHeld = 27
 numberOf BadPinBook = 28
 numberOf BadManager = 29
+numberOf NotReportable = 31
 
 -- 0 where a refusal has no place
 abbrev pub placeOf : Refusal → ℕ
@@ -65,3 +66,4 @@ placeOf IdsUsedUp = 0
 placeOf LockNotHeld = 0
 placeOf BadPinBook = 0
 placeOf BadManager = 0
+placeOf NotReportable = 0

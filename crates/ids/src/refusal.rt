@@ -4,7 +4,7 @@ ghost use mathlib.Core.Bool.{true};
 ghost use Rattle.ids.specs.Refusals.{numberOf, placeOf};
 ghost use Rattle.ids.specs.Verdicts.{isAccepted};
 
-// Document 01's refusals by their numbers, each with its place where it has one.
+// The refusals of documents 01 and 02 by their numbers, each with its place where it has one.
 pub enum Refusal {
     // 1: manifest too long.
     ManifestTooLong,
@@ -64,6 +64,9 @@ pub enum Refusal {
     BadPinBook,
     // 29: a manager out of order or beyond its limits.
     BadManager,
+    // 31: a report of a short write that takes nothing back: as many bytes landed as were appended, no commit is kept, or the
+    // current epoch is pinned. Document 02 has no 30.
+    NotReportable,
 }
 
 impl Refusal {
@@ -100,6 +103,7 @@ impl Refusal {
             Refusal::LockNotHeld => 27,
             Refusal::BadPinBook => 28,
             Refusal::BadManager => 29,
+            Refusal::NotReportable => 31,
         }
     }
 
@@ -137,6 +141,7 @@ impl Refusal {
             Refusal::LockNotHeld => 0,
             Refusal::BadPinBook => 0,
             Refusal::BadManager => 0,
+            Refusal::NotReportable => 0,
         }
     }
 }

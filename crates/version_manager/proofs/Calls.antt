@@ -46,7 +46,8 @@ use Rattle.version_manager.specs.declared.Locked.{Locked}
 use Rattle.version_manager.specs.declared.Checkpointed.{Checkpointed}
 use Rattle.version_manager.specs.declared.CheckpointAnswer.the-variants as checkpointed
 use Rattle.version_manager.specs.declared.VacuumAnswer.the-variants as answer
-use Rattle.version_manager.specs.Managers.{heldBy, badManager, Manages, HandsBack}
+use Rattle.version_manager.specs.Managers.{heldBy, badManager, Follows, HandsBack}
+use Rattle.version_manager.proofs.Managers.{manages}
 use Rattle.version_manager.specs.Commit.{outcomeOf, commitTold, CommitEnds, CommitSays}
 use Rattle.version_manager.specs.Vacuum.{vacuumVerdict, VacuumSays}
 use Rattle.version_manager.specs.Lock.{lockVerdict, RelockSays}
@@ -61,10 +62,10 @@ module _ (m : VersionManager) (d : Done) (c : Columns) (r : Committed) where
       let q : k ≡ j = cc (i .0, e) in
       (t ∙ ap (λ (z : Refusal). told (Refused z) []) q, h, i .1)
 
-  pub commit-yes : d .verdict ≡ Accepted → ((s : State) → Hands (innerIn (d .held) c) s → Manages (r .manager) s) → commitTold (r .answer) ≡ told Accepted (d .held .epoch ∷ d .length ∷ [])
+  pub commit-yes : d .verdict ≡ Accepted → ((s : State) → Hands (innerIn (d .held) c) s → Follows (r .manager) s (heldBy m) (d .length)) → commitTold (r .answer) ≡ told Accepted (d .held .epoch ∷ d .length ∷ [])
       → (x : Result State) (os : List Operation) (out out′ : List ℕ) → CommitIs x os out d c out′ → CommitEnds x m os out r out′
   commit-yes e h t (given s) os out out′ i =
-      (t ∙ ap (λ (z : State). told Accepted (z .epoch ∷ d .length ∷ [])) (i .2 .state) ∙ ap (λ (n : ℕ). told Accepted (s .epoch ∷ n ∷ [])) (i .1), h s (i .2), i .3)
+      (t ∙ ap (λ (z : State). told Accepted (z .epoch ∷ d .length ∷ [])) (i .2 .state) ∙ ap (λ (n : ℕ). told Accepted (s .epoch ∷ n ∷ [])) (i .1), subst (λ (n : ℕ). Follows (r .manager) s (heldBy m) n) (i .1) (h s (i .2)), i .3)
   commit-yes e h t (refused j) os out out′ i = absurd (let z : _≡_ {A = ℕ} 0 1 = cc (i .0, e) in omega arith)
 
 -- a commit of a typed batch's lines is one of its operations
@@ -129,13 +130,13 @@ module _ (m : VersionManager) (b : PinBook) (ts rs : List ℕ) (v : Released) (t
           manager = subst (λ (d : Verdict). HandsBack d m (vacuumed (boundOf (heldBy m) b) (heldBy m)) (r .manager)) (sym e ∙ verdict-is) h;
         }
 
-    pub vacuum-yes : v .verdict ≡ Accepted → r .manager .inner ≡ v .inner → r .answer ≡ answer.Listed (v .count) → VacuumSays m b ts rs r ts′ rs′
+    pub vacuum-yes : v .verdict ≡ Accepted → (r .manager .inner ≡ v .inner) × (r .manager .append ≡ 0) → r .answer ≡ answer.Listed (v .count) → VacuumSays m b ts rs r ts′ rs′
     vacuum-yes e h a =
         record {
           answer = rw (a, i .count e) (sym (ap (λ (d : Verdict). told d (length (listOf (heldBy m) b) ∷ [])) e) ∙ says);
           tables = tables-are;
           rowsets = rowsets-are;
-          manager = subst (λ (d : Verdict). HandsBack d m (vacuumed (boundOf (heldBy m) b) (heldBy m)) (r .manager)) (sym e ∙ verdict-is) (rw h (i .inner e));
+          manager = subst (λ (d : Verdict). HandsBack d m (vacuumed (boundOf (heldBy m) b) (heldBy m)) (r .manager)) (sym e ∙ verdict-is) (manages (r .manager) (v .inner) _ h (i .inner e));
         }
 
 -- a lock of a manager that passed 29 taken or given back
@@ -154,11 +155,11 @@ module _ (m : VersionManager) (t : TableNo) (b : Bool) (v : Relocked) (g : badMa
           manager = subst (λ (d : Verdict). HandsBack d m (relocked (t .0) b (heldBy m)) (r .manager)) (sym e ∙ lock-verdict) h;
         }
 
-    pub lock-yes : v .verdict ≡ Accepted → r .manager .inner ≡ v .inner → RelockSays m t b r
+    pub lock-yes : v .verdict ≡ Accepted → (r .manager .inner ≡ v .inner) × (r .manager .append ≡ 0) → RelockSays m t b r
     lock-yes e h =
         record {
           answer = lock-told;
-          manager = subst (λ (d : Verdict). HandsBack d m (relocked (t .0) b (heldBy m)) (r .manager)) (sym e ∙ lock-verdict) (rw h (i .inner));
+          manager = subst (λ (d : Verdict). HandsBack d m (relocked (t .0) b (heldBy m)) (r .manager)) (sym e ∙ lock-verdict) (manages (r .manager) (v .inner) _ h (i .inner));
         }
 
 -- a checkpoint of a manager that passed 29
@@ -185,11 +186,11 @@ module _ (m : VersionManager) (out : List ℕ) (v : Rewrote) (out′ : List ℕ)
           room = λ b. i .within;
         }
 
-    pub checkpoint-yes : v .verdict ≡ Accepted → r .manager .inner ≡ v .inner → r .answer ≡ checkpointed.Rewritten (v .length) → CheckpointSays m out r out′
+    pub checkpoint-yes : v .verdict ≡ Accepted → (r .manager .inner ≡ v .inner) × (r .manager .append ≡ 0) → r .answer ≡ checkpointed.Rewritten (v .length) → CheckpointSays m out r out′
     checkpoint-yes e h a =
         record {
           answer = rw (a, i .counted) (sym (ap (λ (d : Verdict). told d (length written ∷ [])) e) ∙ checkpoint-says);
           bytes = checkpoint-bytes;
-          manager = subst (λ (d : Verdict). HandsBack d m (withRewritten (heldBy m)) (r .manager)) (sym e ∙ checkpoint-verdict) (rw h (i .inner e));
+          manager = subst (λ (d : Verdict). HandsBack d m (withRewritten (heldBy m)) (r .manager)) (sym e ∙ checkpoint-verdict) (manages (r .manager) (v .inner) _ h (i .inner e));
           room = λ b. i .within;
         }

@@ -15,17 +15,18 @@ use Rattle.version_manager.specs.declared.Committed.{Committed}
 use Rattle.version_manager.specs.Managers.{heldBy, badManager}
 use Rattle.version_manager.specs.Compact.{compactVerdict, CompactSays}
 use Rattle.version_manager.specs.CompactLaws.{CompactLaws}
+use Rattle.version_manager.proofs.Managers.{inner-passes}
 use Rattle.version_manager.proofs.TableLaws.{passed, made-sound}
 
 sound : (m : VersionManager) (t : ℕ) (new taken out : List ℕ) (r : Committed) (out′ : List ℕ) → Narrow (heldBy m) → length new ≤ 1
     → CompactSays m t new taken out r out′ → compactVerdict m t new taken (length out) ≡ Accepted → badManager (r .manager) ≡ false
 sound m t new taken out r out′ w few h e =
     let p = passed (badManager m) BadManager (compactRules (heldBy m) t new taken (length out)) e in
-    made-sound _ (compactedBy (heldBy m) t new taken) _ m out _ (r .manager) out′ h e (p .0) (made-laws .compact (m .inner) t new taken (length out) (p .0) w few (p .1) .accepts)
+    made-sound _ (compactedBy (heldBy m) t new taken) _ m out _ (r .manager) out′ h e (p .0) (made-laws .compact (m .inner) t new taken (length out) (inner-passes m (p .0)) w few (p .1) .accepts)
 
 pub compact-laws : CompactLaws
 compact-laws =
     record {
       sound = sound;
-      covered = λ m t new taken out r out′ w few h e. sound-of (r .manager .inner) (sound m t new taken out r out′ w few h e) .whole;
+      covered = λ m t new taken out r out′ w few h e. sound-of (r .manager .inner) (inner-passes (r .manager) (sound m t new taken out r out′ w few h e)) .whole;
     }

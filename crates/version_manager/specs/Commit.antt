@@ -16,7 +16,7 @@ use Rattle.version_manager.specs.declared.VersionManager.{VersionManager
 use Rattle.version_manager.specs.declared.CommitAnswer.{CommitAnswer}
 use Rattle.version_manager.specs.declared.CommitAnswer.the-variants as answer
 use Rattle.version_manager.specs.declared.Committed.{Committed}
-use Rattle.version_manager.specs.Managers.{heldBy, badManager, Manages}
+use Rattle.version_manager.specs.Managers.{heldBy, badManager, Follows}
 
 -- 29, and then the commit of n operations os
 abbrev pub outcomeOf : VersionManager → ℕ → List Operation → ℕ → Result State
@@ -30,7 +30,7 @@ commitTold (answer.Refused k) = told (Refused k) []
 abbrev pub CommitEnds : Result State → VersionManager → List Operation → List ℕ → Committed → List ℕ → Type 0
 CommitEnds (given s) m os out r out′ =
     (commitTold (r .answer) ≡ told Accepted (s .epoch ∷ length (appendOf os) ∷ []))
-    × Manages (r .manager) s
+    × Follows (r .manager) s (heldBy m) (length (appendOf os))
     × (out′ ≡ over (appendOf os) out)
 CommitEnds (refused k) m os out r out′ = (commitTold (r .answer) ≡ told (Refused k) []) × (r .manager ≡ m) × (out′ ≡ out)
 

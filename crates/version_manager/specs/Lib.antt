@@ -9,6 +9,7 @@ pub mod Drop
 pub mod Compact
 pub mod Checkpoint
 pub mod Vacuum
+pub mod Report
 pub mod Show
 pub mod Lock
 pub mod Select

@@ -37,16 +37,21 @@ ghost use Rattle.version_manager.specs.Drop.{DropSays};
 ghost use Rattle.version_manager.specs.Compact.{CompactSays};
 ghost use Rattle.version_manager.specs.Checkpoint.{CheckpointSays};
 ghost use Rattle.version_manager.specs.Vacuum.{VacuumSays};
+ghost use Rattle.version_manager.specs.Report.{ReportSays};
 ghost use Rattle.version_manager.specs.Show.{ShowTablesSays, ShowPairsSays, ShowVectorsSays};
 ghost use Rattle.version_manager.specs.Lock.{RelockSays, LockSays, UnlockSays};
 ghost use Rattle.version_manager.specs.Select.{SelectSays};
-ghost use Rattle.version_manager.specs.Laws.{DrawLaws, CheckpointLaws};
+ghost use Rattle.version_manager.specs.Laws.{DrawLaws, CheckpointLaws, CommitLaws, ReportLaws};
 ghost use Rattle.version_manager.specs.TableLaws.{TableLaws};
 ghost use Rattle.version_manager.specs.CompactLaws.{CompactLaws};
 
 #[repr(C)]
 pub struct VersionManager {
     pub inner: VersionManagerInner,
+    // The whole state before the last commit, for a report of a short write; without meaning where `append` is 0.
+    pub kept: VersionManagerInner,
+    // How many bytes that commit appended. Any accepted call but a commit makes it 0: nothing is kept.
+    pub append: usize,
 }
 
 // A manager, and the book that goes with it.
@@ -131,17 +136,43 @@ pub struct Checkpointed {
     pub answer: CheckpointAnswer,
 }
 
+pub enum ReportAnswer {
+    // The epoch that is current again, and the manifest's length.
+    TakenBack(u32, usize),
+    Refused(Refusal),
+}
+
+pub struct Reported {
+    pub manager: VersionManager,
+    pub answer: ReportAnswer,
+}
+
 // After a lock was taken or given back.
 pub struct Locked {
     pub manager: VersionManager,
     pub answer: Verdict,
 }
 
-// Every manager that is handed back is made here.
+// Every manager that is handed back is made here, but those of commits: nothing is kept.
 pub fn handed(inner: VersionManagerInner) -> VersionManager
-    ensures { λ r. ⌜ r .inner ≡ inner ⌝ }
+    ensures { λ r. ⌜ (r .inner ≡ inner) × (r .append ≡ 0) ⌝ }
 {
-    VersionManager { inner }
+    VersionManager {
+        inner,
+        kept: inner,
+        append: 0,
+    }
+}
+
+// And here those of commits.
+fn followed(inner: VersionManagerInner, kept: VersionManagerInner, append: usize) -> VersionManager
+    ensures { λ r. ⌜ (r .inner ≡ inner) × (r .kept ≡ kept) × (r .append ≡ append) ⌝ }
+{
+    VersionManager {
+        inner,
+        kept,
+        append,
+    }
 }
 
 // Room for one line.
@@ -151,9 +182,9 @@ fn buffer() -> [u8; LONGEST_LINE]
     [0u8; LONGEST_LINE]
 }
 
-// What fresh, draw, group, a checkpoint, create, drop and a compaction hand out passes 29.
+// What fresh, draw, group, a checkpoint, a commit, a report, create, drop and a compaction hand out passes 29.
 pub fn holds()
-    ensures { λ _. ⌜ DrawLaws × CheckpointLaws × TableLaws × CompactLaws ⌝ }
+    ensures { λ _. ⌜ DrawLaws × CheckpointLaws × CommitLaws × ReportLaws × TableLaws × CompactLaws ⌝ }
 {}
 
 impl VersionManager {
@@ -171,7 +202,15 @@ impl VersionManager {
         ensures { λ r. ⌜ r ≡ badManager self ⌝ }
     {
         let inner = self.inner;
-        inner.bad()
+        if inner.bad() {
+            return true;
+        }
+        let append = self.append;
+        if append == 0 {
+            return false;
+        }
+        let kept = self.kept;
+        kept.bad_with(append)
     }
 
     pub fn draw_rowset(self) -> DrawnRowset
@@ -394,14 +433,18 @@ impl VersionManager {
             deleted,
             count: held.vectors,
         };
-        let manager = handed(VersionManagerInner {
-            epoch: held.epoch,
-            next,
-            tables: live,
-            rowsets: pairs,
-            vectors: marks,
-            manifest: held.manifest,
-        });
+        let manager = followed(
+            VersionManagerInner {
+                epoch: held.epoch,
+                next,
+                tables: live,
+                rowsets: pairs,
+                vectors: marks,
+                manifest: held.manifest,
+            },
+            inner,
+            done.length,
+        );
         Committed {
             manager,
             answer: CommitAnswer::Appended(held.epoch, done.length),
@@ -433,6 +476,46 @@ impl VersionManager {
         Checkpointed {
             manager,
             answer: CheckpointAnswer::Rewritten(done.length),
+        }
+    }
+
+    // So many bytes of the last append landed, fewer than all: back to the state before that commit. The landed bytes stay in the
+    // manifest.
+    pub fn report(self, book: PinBook, landed: usize) -> Reported
+        ensures { λ r. ⌜ ReportSays self book landed r ⌝ }
+    {
+        if self.bad() {
+            return Reported {
+                manager: self,
+                answer: ReportAnswer::Refused(Refusal::BadManager),
+            };
+        }
+        let epoch = self.inner.epoch;
+        if book.bad(epoch) {
+            return Reported {
+                manager: self,
+                answer: ReportAnswer::Refused(Refusal::BadPinBook),
+            };
+        }
+        if self.append <= landed {
+            return Reported {
+                manager: self,
+                answer: ReportAnswer::Refused(Refusal::NotReportable),
+            };
+        }
+        if book.is_pinned(epoch) {
+            return Reported {
+                manager: self,
+                answer: ReportAnswer::Refused(Refusal::NotReportable),
+            };
+        }
+        let mut inner = self.kept;
+        let length = inner.manifest + landed;
+        inner.manifest = length;
+        let manager = handed(inner);
+        Reported {
+            manager,
+            answer: ReportAnswer::TakenBack(inner.epoch, length),
         }
     }
 

@@ -2,11 +2,12 @@
 use mathlib.Core.Path.{_≡_, sym, ap, ap₂, _∙_}
 use mathlib.Core.Bool.{Bool, true, false, not, _&&_, _||_}
 use mathlib.Core.List.{[], _∷_}
-use Prim.Native.Nat.{_≤_}
+use Prim.Native.Nat.{ℕ, _+_, _<_, _≤_}
+use native.Mathlib.Omega.{arith}
 use lib.Dec.{leb, ltb}
-use borrow.Author.Tests.{leb-true, le-leb, ltb-false, le-ltb, not-false}
+use borrow.Author.Tests.{leb-true, le-leb, ltb-false, le-ltb, lt-ltb, not-false}
 use Rattle.lists.specs.Keyed.{allOf, ascending, sorted}
-use Rattle.lists.proofs.Tests.{both, neither}
+use Rattle.lists.proofs.Tests.{by-cases, both, neither}
 use Rattle.text.specs.Name.{isName}
 use Rattle.snapshot.specs.Entries.{byIds, within}
 use Rattle.snapshot.specs.Tables.{byTable, nameAt}
@@ -17,7 +18,7 @@ use Rattle.snapshot.proofs.Entries.{ascending-ids}
 use Rattle.snapshot.proofs.TableRows.{ascending-tables, below-tables, names-tables}
 use Rattle.columns.specs.Rows.{rows, column, across, plain}
 use Rattle.version_state.specs.declared.VersionManagerInner.{VersionManagerInner}
-use Rattle.version_state.specs.State.{State, stateOf, countsFit, Fit}
+use Rattle.version_state.specs.State.{State, stateOf, lengthened, countsFit, Fit}
 use Rattle.ids.specs.Limits.{mostTables, mostHeld, longestManifest}
 use Rattle.version_state.specs.Sound.{leftBehind, beyondLimits, outOfOrder, aboveOwn, badInner}
 use Rattle.version_state.proofs.Walks.{rising-prefix}
@@ -80,6 +81,14 @@ sound-of m h =
 pub of-sound : (m : VersionManagerInner) → Sound m → badInner m ≡ false
 of-sound m s =
     rw (fit-counts m (s .fits), le-ltb longestManifest (m .manifest) (s .manifest), s .names, order-in (stateOf m) (s .ordered), s .below, s .pairs, s .vectors) (s .whole)
+
+-- a manifest that is too long
+pub too-long : (m : VersionManagerInner) → longestManifest < m .manifest → true ≡ badInner m
+too-long m h = by-cases (countsFit m) (λ e. rw (e, lt-ltb longestManifest (m .manifest) h)) (λ e. rw e)
+
+-- no bytes more
+pub lengthened-none : (m : VersionManagerInner) → badInner (lengthened 0 m) ≡ badInner m
+lengthened-none m = let e : m .manifest + 0 ≡ m .manifest = omega arith in rw e
 
 -- the counts of a state that is within the limits
 pub fit-within : (m : VersionManagerInner) → beyondLimits m ≡ false → Fit m

@@ -2,7 +2,7 @@
 use mathlib.Core.Path.{_≡_}
 use mathlib.Core.Bool.{Bool, _&&_}
 use mathlib.Core.List.{List, []}
-use Prim.Native.Nat.{ℕ, _≤_}
+use Prim.Native.Nat.{ℕ, _+_, _≤_}
 use lib.Dec.{leb}
 use Rattle.snapshot.specs.Entries.{Entry, shown}
 use Rattle.snapshot.specs.Tables.{TableEntry}
@@ -57,6 +57,10 @@ stateBy e n ts ps vs k =
 
 abbrev pub stateOf : VersionManagerInner → State
 stateOf m = stateBy (m .epoch) (m .next) (tablesOf (m .tables)) (rowsetsOf (m .rowsets)) (vectorsOf (m .vectors)) (m .manifest)
+
+-- the same with n bytes more in its manifest
+abbrev pub lengthened : ℕ → VersionManagerInner → VersionManagerInner
+lengthened n m = record { epoch = m .epoch; next = m .next; tables = m .tables; rowsets = m .rowsets; vectors = m .vectors; manifest = m .manifest + n }
 
 -- the counts of the arrays are within document 01's limits
 abbrev pub countsFit : VersionManagerInner → Bool

@@ -2,6 +2,7 @@
 use ids::RowsetNo;
 use ids::TableNo;
 use ids::VectorNo;
+use ids::limits::LONGEST_MANIFEST;
 use ids::limits::MOST_HELD;
 use ids::limits::MOST_TABLES;
 use ids::limits::NAME_BYTES;
@@ -18,7 +19,7 @@ ghost use mathlib.Core.List.{List};
 ghost use Prim.Native.Nat.{ℕ};
 ghost use lib.ListN.{length};
 ghost use Rattle.snapshot.specs.Tables.{nameBytes};
-ghost use Rattle.version_state.specs.State.{start, Hands};
+ghost use Rattle.version_state.specs.State.{start, lengthened, Hands};
 ghost use Rattle.version_state.specs.Columns.{columns, numbers, innerIn};
 ghost use Rattle.version_state.specs.Sound.{badInner};
 
@@ -156,6 +157,20 @@ impl VersionManagerInner {
     pub fn bad(self) -> bool
         ensures { λ r. ⌜ r ≡ badInner self ⌝ }
     {
+        self.bad_with(0)
+    }
+
+    // 29 with so many bytes more in the manifest. Each length is judged before the sum, which might wrap.
+    pub fn bad_with(self, bytes: usize) -> bool
+        ensures { λ r. ⌜ r ≡ badInner (lengthened bytes self) ⌝ }
+    {
+        if LONGEST_MANIFEST < bytes {
+            return true;
+        }
+        if LONGEST_MANIFEST < self.manifest {
+            return true;
+        }
+        let manifest = self.manifest + bytes;
         let next = self.next;
         bad(
             &self.tables.ids,
@@ -175,7 +190,7 @@ impl VersionManagerInner {
             self.vectors.count,
             self.epoch,
             next,
-            self.manifest,
+            manifest,
         )
     }
 }

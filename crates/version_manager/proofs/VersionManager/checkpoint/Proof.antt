@@ -3,6 +3,7 @@ use mathlib.Core.Path.{refl, sym, _∙_}
 use mathlib.Core.Bool.{true≢false}
 use Rattle.lists.proofs.Places.{known}
 use Rattle.version_state.proofs.Facts.{sound-of}
+use Rattle.version_manager.proofs.Managers.{inner-passes}
 use Rattle.version_manager.proofs.Calls.{checkpoint-no, checkpoint-yes}
 use Rattle.version_manager.proofs.VersionManager.checkpoint.Statement.{statement}
 use Rattle.version_manager.proofs.VersionManager.checkpoint.Tie as tie
@@ -17,7 +18,8 @@ returns c =
 
 rewrite-into-requires : tie.Need-rewrite-into-requires
 rewrite-into-requires c κs =
-    let f = sound-of (c .before .before .before .before .before .args .self .inner) (sym (c .before .before .before .bad .ensures) ∙ c .before .before .if1 .left) .fits in
+    let m = c .before .before .before .before .before .args .self in
+    let f = sound-of (m .inner) (inner-passes m (sym (c .before .before .before .bad .ensures) ∙ c .before .before .if1 .left)) .fits in
     record { tables = f .tables; rowsets = f .rowsets; vectors = f .vectors }
 
 enum-known-verdict : tie.Need-enum-known-verdict

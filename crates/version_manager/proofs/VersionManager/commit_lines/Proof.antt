@@ -10,6 +10,7 @@ use Rattle.version_state.specs.Columns.{columns}
 use Rattle.commit.specs.Commit.{commitOf}
 use Rattle.commit.specs.Lent.{operationsIn}
 use Rattle.commit.proofs.Calls.{ready-of}
+use Rattle.version_manager.proofs.Managers.{inner-passes, follows}
 use Rattle.version_manager.proofs.Calls.{commit-no, commit-yes}
 use Rattle.version_manager.proofs.VersionManager.commit_lines.Statement.{statement}
 use Rattle.version_manager.proofs.VersionManager.commit_lines.Tie as tie
@@ -38,7 +39,7 @@ commit-lines-requires c κs =
     let vectors : length (m .vectors .vectors) ≡ mostHeld = search (length-mapped, g .1 .1 .1 .1 .1 .1 .0 .1 .1 .1 .1 .0 .1 .0 .1) in
     let added : length (m .vectors .added) ≡ mostHeld = search (length-mapped, g .1 .1 .1 .1 .1 .1 .0 .1 .1 .1 .1 .1 .0 .1 .0 .1) in
     let deleted : length (m .vectors .deleted) ≡ mostHeld = search (length-mapped, g .1 .1 .1 .1 .1 .1 .0 .1 .1 .1 .1 .1 .1 .0 .1 .0 .1) in
-    ready-of m (sym (c .before .before .before .before .before .before .before .before .before .before .before .before .before .before .before .before .before .before .before .before .before .before .before .before .before .before .before .before .before .before .before .before .before .before .before .bad .ensures) ∙ c .before .before .before .before .before .before .before .before .before .before .before .before .before .before .before .before .before .before .before .before .before .before .before .before .before .before .before .before .before .before .before .before .before .before .if1 .left) (record { ids = ids; shapes = shapes; lengths = lengths; names = names; locked = locked }) (pairtables, (pairrowsets, (pairadded, (pairdeleted, (tables, (rowsets, (vectors, (added, (deleted, tt)))))))))
+    ready-of m (inner-passes (c .before .before .before .before .before .before .before .before .before .before .before .before .before .before .before .before .before .before .before .before .before .before .before .before .before .before .before .before .before .before .before .before .before .before .before .before .before .before .args .self) (sym (c .before .before .before .before .before .before .before .before .before .before .before .before .before .before .before .before .before .before .before .before .before .before .before .before .before .before .before .before .before .before .before .before .before .before .before .bad .ensures) ∙ c .before .before .before .before .before .before .before .before .before .before .before .before .before .before .before .before .before .before .before .before .before .before .before .before .before .before .before .before .before .before .before .before .before .before .if1 .left)) (record { ids = ids; shapes = shapes; lengths = lengths; names = names; locked = locked }) (pairtables, (pairrowsets, (pairadded, (pairdeleted, (tables, (rowsets, (vectors, (added, (deleted, tt)))))))))
 
 enum-known-verdict : tie.Need-enum-known-verdict
 enum-known-verdict c = search known
@@ -56,8 +57,8 @@ returns-2 c =
 enum-told : tie.Need-enum-told
 enum-told c = search known
 
-handed-requires : tie.Need-handed-requires
-handed-requires c κs = search known
+followed-requires : tie.Need-followed-requires
+followed-requires c κs = search known
 
 same-length-2 : tie.Need-same-length-2
 same-length-2 c = search known
@@ -67,7 +68,7 @@ returns-3 c =
     let a = c .before .before .before .before .before .before .before .before .before .before .before .before .before .before .before .before .before .before .before .before .before .before .before .before .before .before .before .before .before .before .before .before .before .before .before .before .before .before .before .before .before .before .before .before .before .before .args in
     let x = c .before .before .before .before .before .before .before .commit-lines in
     let b = sym (c .before .before .before .before .before .before .before .before .before .before .before .before .before .before .before .before .before .before .before .before .before .before .before .before .before .before .before .before .before .before .before .before .before .before .before .before .before .before .before .before .before .before .before .bad .ensures) ∙ c .before .before .before .before .before .before .before .before .before .before .before .before .before .before .before .before .before .before .before .before .before .before .before .before .before .before .before .before .before .before .before .before .before .before .before .before .before .before .before .before .before .before .if1 .left in
-    rw b (commit-yes (a .self) (x .result) (columns (x .last .0) (x .last .1 .0) (x .last .1 .1 .0) (x .last .1 .1 .1 .0) (x .last .1 .1 .1 .1 .0) (x .last .1 .1 .1 .1 .1 .0) (x .last .1 .1 .1 .1 .1 .1 .0) (x .last .1 .1 .1 .1 .1 .1 .1 .0) (x .last .1 .1 .1 .1 .1 .1 .1 .1 .0) (x .last .1 .1 .1 .1 .1 .1 .1 .1 .1 .0) (x .last .1 .1 .1 .1 .1 .1 .1 .1 .1 .1 .0) (x .last .1 .1 .1 .1 .1 .1 .1 .1 .1 .1 .1 .0) (x .last .1 .1 .1 .1 .1 .1 .1 .1 .1 .1 .1 .1 .0) (x .last .1 .1 .1 .1 .1 .1 .1 .1 .1 .1 .1 .1 .1 .0)) _ (c .before .before .before .enum-told .given .1) (λ s z. rw (c .handed .ensures) z) refl (commitOf (stateOf (a .self .inner)) (length (operationsIn (now (a .ops)))) (operationsIn (now (a .ops))) (length (now (a .out)))) (operationsIn (now (a .ops))) (now (a .out)) _ (x .ensures))
+    rw b (commit-yes (a .self) (x .result) (columns (x .last .0) (x .last .1 .0) (x .last .1 .1 .0) (x .last .1 .1 .1 .0) (x .last .1 .1 .1 .1 .0) (x .last .1 .1 .1 .1 .1 .0) (x .last .1 .1 .1 .1 .1 .1 .0) (x .last .1 .1 .1 .1 .1 .1 .1 .0) (x .last .1 .1 .1 .1 .1 .1 .1 .1 .0) (x .last .1 .1 .1 .1 .1 .1 .1 .1 .1 .0) (x .last .1 .1 .1 .1 .1 .1 .1 .1 .1 .1 .0) (x .last .1 .1 .1 .1 .1 .1 .1 .1 .1 .1 .1 .0) (x .last .1 .1 .1 .1 .1 .1 .1 .1 .1 .1 .1 .1 .0) (x .last .1 .1 .1 .1 .1 .1 .1 .1 .1 .1 .1 .1 .1 .0)) _ (c .before .before .before .enum-told .given .1) (λ s z. follows (a .self) _ _ s _ b (c .followed .ensures) z) refl (commitOf (stateOf (a .self .inner)) (length (operationsIn (now (a .ops)))) (operationsIn (now (a .ops))) (length (now (a .out)))) (operationsIn (now (a .ops))) (now (a .out)) _ (x .ensures))
 
 pub commit-lines-spec : {M : Type 1} → statement M
 commit-lines-spec =
@@ -80,6 +81,6 @@ commit-lines-spec =
     same-length
     returns-2
     enum-told
-    handed-requires
+    followed-requires
     same-length-2
     returns-3)

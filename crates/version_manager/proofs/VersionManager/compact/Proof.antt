@@ -11,6 +11,7 @@ use Rattle.compaction.proofs.Whole.{few-new}
 use Rattle.version_manager.specs.Managers.{heldBy}
 use Rattle.version_manager.proofs.Made.{made-within, made-ends, made-refused, made-accepted}
 use Rattle.lists.proofs.Places.{known}
+use Rattle.version_manager.proofs.Managers.{inner-passes}
 use Rattle.version_manager.proofs.VersionManager.compact.Statement.{statement}
 use Rattle.version_manager.proofs.VersionManager.compact.Tie as tie
 
@@ -27,7 +28,7 @@ slice-aggregate-compact : tie.Need-slice-aggregate-compact
 slice-aggregate-compact c = sym (c .before .buffer .ensures)
 
 compact-requires : tie.Need-compact-requires
-compact-requires c κs = (sym (c .before .before .before .before .bad .ensures) ∙ c .before .before .before .if1 .left, omega (arith, c .before .buffer .ensures))
+compact-requires c κs = (inner-passes (c .before .before .before .before .before .before .before .args .self) (sym (c .before .before .before .before .bad .ensures) ∙ c .before .before .before .if1 .left), omega (arith, c .before .buffer .ensures))
 
 enum-known-verdict : tie.Need-enum-known-verdict
 enum-known-verdict c = search known
@@ -62,7 +63,7 @@ returns-3 c =
     let b = sym (c .before .before .before .before .before .before .before .before .before .before .before .before .before .bad .ensures) ∙ c .before .before .before .before .before .before .before .before .before .before .before .before .if1 .left in
     let v = sym (c .before .before .before .before .before .before .before .before .compact .ensures .verdict) ∙ c .before .before .before .before .before .enum-told .given .1 in
     let wide : Narrow (heldBy (a .self)) = record { table = omega (arith, c .before .before .before .before .before .before .before .before .before .before .before .before .before .before .before .before .good .0 .1 .1 .0 .1 .1 .1 .0); rowset = omega (arith, c .before .before .before .before .before .before .before .before .before .before .before .before .before .before .before .before .good .0 .1 .1 .0 .1 .1 .1 .0); vector = omega (arith, c .before .before .before .before .before .before .before .before .before .before .before .before .before .before .before .before .good .0 .1 .1 .0 .1 .1 .1 .0) } in
-    let done = made-ends (compactedBy (heldBy (a .self)) (a .table .0) (newOf (a .new)) (a .taken .now)) _ _ _ (c .before .before .before .before .before .before .before .before .compact .ensures .written (c .before .before .before .before .before .enum-told .given .1)) (a .self) (now (a .out)) _ _ b (made-laws .compact (a .self .inner) (a .table .0) (newOf (a .new)) (a .taken .now) (length (now (a .out))) b wide (few-new (a .new)) v .accepts) (c .before .before .commit-lines .ensures) in
+    let done = made-ends (compactedBy (heldBy (a .self)) (a .table .0) (newOf (a .new)) (a .taken .now)) _ _ _ (c .before .before .before .before .before .before .before .before .compact .ensures .written (c .before .before .before .before .before .enum-told .given .1)) (a .self) (now (a .out)) _ _ b (made-laws .compact (a .self .inner) (a .table .0) (newOf (a .new)) (a .taken .now) (length (now (a .out))) (inner-passes (a .self) b) wide (few-new (a .new)) v .accepts) (c .before .before .commit-lines .ensures) in
     rw b (made-accepted _ (compactedBy (heldBy (a .self)) (a .table .0) (newOf (a .new)) (a .taken .now)) _ (a .self) (now (a .out)) _ _ (c .before .before .commit-lines .result) v (done .0) done)
 
 pub compact-spec : {M : Type 1} → statement M

@@ -5,6 +5,7 @@ use native.Mathlib.Omega.{arith}
 use denote.Ref.{now}
 use lib.ListN.{length, length-take}
 use Rattle.lists.proofs.Places.{known}
+use Rattle.version_manager.proofs.Managers.{inner-passes}
 use Rattle.ids.specs.Names.{nameOf}
 use Rattle.commit.specs.Commit.{appendOf}
 use Rattle.table.specs.Create.{createdBy}
@@ -27,7 +28,7 @@ slice-aggregate-create : tie.Need-slice-aggregate-create
 slice-aggregate-create c = sym (c .before .buffer .ensures)
 
 create-requires : tie.Need-create-requires
-create-requires c κs = (sym (c .before .before .before .before .before .bad .ensures) ∙ c .before .before .before .before .if1 .left, omega (arith, c .before .buffer .ensures))
+create-requires c κs = (inner-passes (c .before .before .before .before .before .before .before .args .self) (sym (c .before .before .before .before .before .bad .ensures) ∙ c .before .before .before .before .if1 .left), omega (arith, c .before .buffer .ensures))
 
 enum-known-verdict : tie.Need-enum-known-verdict
 enum-known-verdict c = search known
@@ -67,7 +68,7 @@ returns-3 c =
     let a = c .before .before .before .before .before .before .before .before .before .before .before .before .before .before .before .before .before .before .before .before .args in
     let b = sym (c .before .before .before .before .before .before .before .before .before .before .before .before .before .before .before .before .before .before .bad .ensures) ∙ c .before .before .before .before .before .before .before .before .before .before .before .before .before .before .before .before .before .if1 .left in
     let v = sym (c .before .before .before .before .before .before .before .before .before .before .before .before .create .ensures .verdict) ∙ c .before .before .before .before .before .before .before .before .before .enum-told .given .1 in
-    let done = made-ends (createdBy (heldBy (a .self)) (a .shape) (nameOf (a .name))) _ _ _ (c .before .before .before .before .before .before .before .before .before .before .before .before .create .ensures .written (c .before .before .before .before .before .before .before .before .before .enum-told .given .1)) (a .self) (now (a .out)) _ _ b (made-laws .create (a .self .inner) (a .shape) (nameOf (a .name)) (length (now (a .out))) b (omega (arith, c .before .before .before .before .before .before .before .before .before .before .before .before .before .before .before .before .before .before .before .before .fits .shape)) v) (c .before .before .before .before .before .before .commit-lines .ensures) in
+    let done = made-ends (createdBy (heldBy (a .self)) (a .shape) (nameOf (a .name))) _ _ _ (c .before .before .before .before .before .before .before .before .before .before .before .before .create .ensures .written (c .before .before .before .before .before .before .before .before .before .enum-told .given .1)) (a .self) (now (a .out)) _ _ b (made-laws .create (a .self .inner) (a .shape) (nameOf (a .name)) (length (now (a .out))) (inner-passes (a .self) b) (omega (arith, c .before .before .before .before .before .before .before .before .before .before .before .before .before .before .before .before .before .before .before .before .fits .shape)) v) (c .before .before .before .before .before .before .commit-lines .ensures) in
     rw b (made-accepted _ (createdBy (heldBy (a .self)) (a .shape) (nameOf (a .name))) _ (a .self) (now (a .out)) _ _ (c .before .before .before .before .before .before .commit-lines .result) v (told-appended (c .before .before .before .before .before .before .commit-lines .result .answer) (heldBy (a .self) .epoch + 1) (length (appendOf (createdBy (heldBy (a .self)) (a .shape) (nameOf (a .name))))) _ _ (heldBy (a .self) .nextTable) (c .before .answer .given .1) (done .0)) done)
 
 same-length-2 : tie.Need-same-length-2
@@ -78,7 +79,7 @@ returns-4 c =
     let a = c .before .before .before .before .before .before .before .before .before .before .before .before .before .before .before .before .before .before .before .before .args in
     let b = sym (c .before .before .before .before .before .before .before .before .before .before .before .before .before .before .before .before .before .before .bad .ensures) ∙ c .before .before .before .before .before .before .before .before .before .before .before .before .before .before .before .before .before .if1 .left in
     let v = sym (c .before .before .before .before .before .before .before .before .before .before .before .before .create .ensures .verdict) ∙ c .before .before .before .before .before .before .before .before .before .enum-told .given .1 in
-    let done = made-ends (createdBy (heldBy (a .self)) (a .shape) (nameOf (a .name))) _ _ _ (c .before .before .before .before .before .before .before .before .before .before .before .before .create .ensures .written (c .before .before .before .before .before .before .before .before .before .enum-told .given .1)) (a .self) (now (a .out)) _ _ b (made-laws .create (a .self .inner) (a .shape) (nameOf (a .name)) (length (now (a .out))) b (omega (arith, c .before .before .before .before .before .before .before .before .before .before .before .before .before .before .before .before .before .before .before .before .fits .shape)) v) (c .before .before .before .before .before .before .commit-lines .ensures) in
+    let done = made-ends (createdBy (heldBy (a .self)) (a .shape) (nameOf (a .name))) _ _ _ (c .before .before .before .before .before .before .before .before .before .before .before .before .create .ensures .written (c .before .before .before .before .before .before .before .before .before .enum-told .given .1)) (a .self) (now (a .out)) _ _ b (made-laws .create (a .self .inner) (a .shape) (nameOf (a .name)) (length (now (a .out))) (inner-passes (a .self) b) (omega (arith, c .before .before .before .before .before .before .before .before .before .before .before .before .before .before .before .before .before .before .before .before .fits .shape)) v) (c .before .before .before .before .before .before .commit-lines .ensures) in
     absurd (told-refused (c .before .before .before .before .before .before .commit-lines .result .answer) (heldBy (a .self) .epoch + 1) (length (appendOf (createdBy (heldBy (a .self)) (a .shape) (nameOf (a .name))))) _ (c .before .answer2 .given .1) (done .0))
 
 pub create-spec : {M : Type 1} → statement M

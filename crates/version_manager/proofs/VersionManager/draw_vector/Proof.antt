@@ -3,6 +3,7 @@ use mathlib.Core.Path.{refl, sym, _∙_}
 use borrow.Author.Tests.{le-leb, lt-leb}
 use Rattle.lists.proofs.Places.{known}
 use Rattle.version_state.proofs.Facts.{sound-of}
+use Rattle.version_manager.proofs.Managers.{inner-passes, manages}
 use Rattle.version_manager.proofs.VersionManager.draw_vector.Statement.{statement}
 use Rattle.version_manager.proofs.VersionManager.draw_vector.Tie as tie
 
@@ -25,8 +26,8 @@ returns-3 : tie.Need-returns-3
 returns-3 c =
     let b = sym (c .before .before .before .before .before .bad .ensures) ∙ c .before .before .before .before .if1 .left in
     let n = lt-leb _ _ (c .before .if2 .left) in
-    let f = sound-of (c .before .before .before .before .before .before .args .self .inner) b .fits in
-    record { answer = rw (b, n); manager = rw (b, n, c .handed .ensures) (record { fits = record { tables = f .tables; rowsets = f .rowsets; vectors = f .vectors }; state = refl }) }
+    let f = sound-of (c .before .before .before .before .before .before .args .self .inner) (inner-passes (c .before .before .before .before .before .before .args .self) b) .fits in
+    record { answer = rw (b, n); manager = rw (b, n) (manages _ _ _ (c .handed .ensures) (record { fits = record { tables = f .tables; rowsets = f .rowsets; vectors = f .vectors }; state = refl })) }
 
 pub draw-vector-spec : {M : Type 1} → statement M
 draw-vector-spec =

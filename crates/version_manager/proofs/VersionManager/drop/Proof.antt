@@ -4,6 +4,7 @@ use native.Mathlib.Omega.{arith}
 use denote.Ref.{now}
 use lib.ListN.{length, length-take}
 use Rattle.lists.proofs.Places.{known}
+use Rattle.version_manager.proofs.Managers.{inner-passes}
 use Rattle.table.specs.Drop.{droppedBy}
 use Rattle.version_state.specs.Widths.{Narrow}
 use Rattle.table.proofs.Laws.{made-laws}
@@ -25,7 +26,7 @@ slice-aggregate-drop : tie.Need-slice-aggregate-drop
 slice-aggregate-drop c = sym (c .before .buffer .ensures)
 
 drop-requires : tie.Need-drop-requires
-drop-requires c κs = (sym (c .before .before .before .before .bad .ensures) ∙ c .before .before .before .if1 .left, omega (arith, c .before .buffer .ensures))
+drop-requires c κs = (inner-passes (c .before .before .before .before .before .before .args .self) (sym (c .before .before .before .before .bad .ensures) ∙ c .before .before .before .if1 .left), omega (arith, c .before .buffer .ensures))
 
 enum-known-verdict : tie.Need-enum-known-verdict
 enum-known-verdict c = search known
@@ -60,7 +61,7 @@ returns-3 c =
     let b = sym (c .before .before .before .before .before .before .before .before .before .before .before .before .before .bad .ensures) ∙ c .before .before .before .before .before .before .before .before .before .before .before .before .if1 .left in
     let v = sym (c .before .before .before .before .before .before .before .before .drop .ensures .verdict) ∙ c .before .before .before .before .before .enum-told .given .1 in
     let wide : Narrow (heldBy (a .self)) = record { table = omega (arith, c .before .before .before .before .before .before .before .before .before .before .before .before .before .before .before .good .0 .1 .1 .0 .1 .1 .1 .0); rowset = omega (arith, c .before .before .before .before .before .before .before .before .before .before .before .before .before .before .before .good .0 .1 .1 .0 .1 .1 .1 .0); vector = omega (arith, c .before .before .before .before .before .before .before .before .before .before .before .before .before .before .before .good .0 .1 .1 .0 .1 .1 .1 .0) } in
-    let done = made-ends (droppedBy (heldBy (a .self)) (a .table .0)) _ _ _ (c .before .before .before .before .before .before .before .before .drop .ensures .written (c .before .before .before .before .before .enum-told .given .1)) (a .self) (now (a .out)) _ _ b (made-laws .drop (a .self .inner) (a .table .0) (length (now (a .out))) b wide v) (c .before .before .commit-lines .ensures) in
+    let done = made-ends (droppedBy (heldBy (a .self)) (a .table .0)) _ _ _ (c .before .before .before .before .before .before .before .before .drop .ensures .written (c .before .before .before .before .before .enum-told .given .1)) (a .self) (now (a .out)) _ _ b (made-laws .drop (a .self .inner) (a .table .0) (length (now (a .out))) (inner-passes (a .self) b) wide v) (c .before .before .commit-lines .ensures) in
     rw b (made-accepted _ (droppedBy (heldBy (a .self)) (a .table .0)) _ (a .self) (now (a .out)) _ _ (c .before .before .commit-lines .result) v (done .0) done)
 
 pub drop-spec : {M : Type 1} → statement M

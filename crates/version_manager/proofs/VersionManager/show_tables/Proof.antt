@@ -1,6 +1,7 @@
 -- `version_manager::VersionManager::show_tables` meets its contract. Assumes nothing.
 use mathlib.Core.Path.{sym, _∙_}
 use Rattle.lists.proofs.Places.{known}
+use Rattle.version_manager.proofs.Managers.{inner-passes}
 use Rattle.version_manager.proofs.VersionManager.show_tables.Statement.{statement}
 use Rattle.version_manager.proofs.VersionManager.show_tables.Tie as tie
 
@@ -11,7 +12,7 @@ returns : tie.Need-returns
 returns c = let b = sym (c .before .bad .ensures) ∙ c .if1 .taken in record { answer = rw b; ids = rw b; shapes = rw b; lengths = rw b; names = rw b }
 
 show-tables-requires : tie.Need-show-tables-requires
-show-tables-requires c κs = sym (c .before .before .before .before .before .before .bad .ensures) ∙ c .before .before .before .before .before .if1 .left
+show-tables-requires c κs = inner-passes (c .before .before .before .before .before .before .before .before .before .before .before .args .self) (sym (c .before .before .before .before .before .before .bad .ensures) ∙ c .before .before .before .before .before .if1 .left)
 
 same-length : tie.Need-same-length
 same-length c = search known

@@ -1,6 +1,7 @@
 -- `version_manager::VersionManager::show_vectors` meets its contract. Assumes nothing.
 use mathlib.Core.Path.{sym, _∙_}
 use Rattle.lists.proofs.Places.{known}
+use Rattle.version_manager.proofs.Managers.{inner-passes}
 use Rattle.version_manager.proofs.VersionManager.show_vectors.Statement.{statement}
 use Rattle.version_manager.proofs.VersionManager.show_vectors.Tie as tie
 
@@ -11,7 +12,7 @@ returns : tie.Need-returns
 returns c = let b = sym (c .before .bad .ensures) ∙ c .if1 .taken in record { answer = rw b; tables = rw b; rowsets = rw b; vectors = rw b }
 
 show-vectors-requires : tie.Need-show-vectors-requires
-show-vectors-requires c κs = sym (c .before .before .before .before .before .bad .ensures) ∙ c .before .before .before .before .if1 .left
+show-vectors-requires c κs = inner-passes (c .before .before .before .before .before .before .before .before .before .args .self) (sym (c .before .before .before .before .before .bad .ensures) ∙ c .before .before .before .before .if1 .left)
 
 same-length : tie.Need-same-length
 same-length c = search known

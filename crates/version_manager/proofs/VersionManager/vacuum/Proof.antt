@@ -1,6 +1,7 @@
 -- `version_manager::VersionManager::vacuum` meets its contract. Assumes nothing.
 use mathlib.Core.Path.{refl, sym, _∙_}
 use Rattle.lists.proofs.Places.{known}
+use Rattle.version_manager.proofs.Managers.{inner-passes}
 use Rattle.version_manager.proofs.Calls.{vacuum-no, vacuum-yes}
 use Rattle.version_manager.proofs.VersionManager.vacuum.Statement.{statement}
 use Rattle.version_manager.proofs.VersionManager.vacuum.Tie as tie
@@ -12,7 +13,7 @@ returns : tie.Need-returns
 returns c = let b = sym (c .before .bad .ensures) ∙ c .if1 .taken in record { answer = rw b; tables = rw b; rowsets = rw b; manager = rw b refl }
 
 vacuum-requires : tie.Need-vacuum-requires
-vacuum-requires c κs = sym (c .before .before .before .before .bad .ensures) ∙ c .before .before .before .if1 .left
+vacuum-requires c κs = inner-passes (c .before .before .before .before .before .before .before .args .self) (sym (c .before .before .before .before .bad .ensures) ∙ c .before .before .before .if1 .left)
 
 enum-known-verdict : tie.Need-enum-known-verdict
 enum-known-verdict c = search known

@@ -1,21 +1,15 @@
 -- `version_state::VersionManagerInner::bad` meets its contract. Assumes nothing.
-use mathlib.Core.Path.{_≡_}
-use lib.ListN.{length}
+use mathlib.Core.Path.{_∙_}
 use Rattle.lists.proofs.Places.{known}
-use Rattle.snapshot.specs.Tables.{nameBytes}
+use Rattle.version_state.proofs.Facts.{lengthened-none}
 use Rattle.version_state.proofs.VersionManagerInner.bad.Statement.{statement}
 use Rattle.version_state.proofs.VersionManagerInner.bad.Tie as tie
 
-whole : (s : tie.Start) → length (s .args .t1 .tables .names) ≡ nameBytes
-whole s = search known
-
-bad-requires : tie.Need-bad-requires
-bad-requires c κs = whole (c .before .before .before .before .before .before .before .before .before .before .before .before .before .before)
+bad-with-requires : tie.Need-bad-with-requires
+bad-with-requires c κs = search known
 
 returns : tie.Need-returns
-returns c =
-    let t = c .before .before .before .before .before .before .before .before .before .before .before .before .before .before .before .args .t1 .tables in
-    c .bad .ensures (t .shapes) (t .locked)
+returns c = c .bad-with .ensures ∙ lengthened-none (c .before .args .self)
 
 pub bad-spec : {M : Type 1} → statement M
-bad-spec = tie.close (tie.spec bad-requires returns)
+bad-spec = tie.close (tie.spec bad-with-requires returns)

@@ -90,6 +90,9 @@ enum-told-15 c = search needs
 enum-told-16 : tie.Need-enum-told-16
 enum-told-16 c = search needs
 
+enum-told-17 : tie.Need-enum-told-17
+enum-told-17 c = search needs
+
 returns : tie.Need-returns
 returns c = rw (c .enum-told .given .1)
 
@@ -177,6 +180,9 @@ returns-28 c = rw (c .enum-told15 .given .1)
 returns-29 : tie.Need-returns-29
 returns-29 c = rw (c .enum-told16 .given .1)
 
+returns-30 : tie.Need-returns-30
+returns-30 c = rw (c .enum-told17 .given .1)
+
 pub place-spec : {M : Type 1} → statement M
 place-spec =
     tie.close
@@ -210,6 +216,7 @@ place-spec =
     enum-told-14
     enum-told-15
     enum-told-16
+    enum-told-17
     returns
     returns-2
     returns-3
@@ -238,4 +245,5 @@ place-spec =
     returns-26
     returns-27
     returns-28
-    returns-29)
+    returns-29
+    returns-30)
