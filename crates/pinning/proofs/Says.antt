@@ -15,6 +15,7 @@ use Rattle.ids.specs.Verdicts.{Rule, _⇒_, judged, orElse}
 use Rattle.ids.proofs.Verdicts.{judged-append, none-judged}
 use Rattle.version_state.specs.State.{Fit}
 use Rattle.version_manager.specs.Managers.{heldBy, badManager}
+use Rattle.version_manager.proofs.Managers.{inner-passes}
 use Rattle.version_state.proofs.Facts.{sound-of}
 use Rattle.pins.specs.declared.PinBook.{PinBook}
 use Rattle.pins.specs.Book.{pinsOf, placeOn, mostPinned, mostPins, badBook, GoodBook, Keeps, hasPlace}
@@ -119,7 +120,7 @@ module _ (m : VersionManager) (b : PinBook) where
         let g = good-book (current m) b (h .1 .0) in
         let p = not-false (hasPlace (placeOn e) (pinsOf b)) (h .1 .1 .0) in
         record {
-          fits = sound-of (m .inner) (h .0) .fits;
+          fits = sound-of (m .inner) (inner-passes m (h .0)) .fits;
           good = g;
           pins = counted (current m) (placeOn e) (pinsOf b) (g .valid) p;
           place = place-had (placeOn e) (pinsOf b) p;

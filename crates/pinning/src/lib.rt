@@ -58,31 +58,10 @@ pub fn holds()
 fn judge(manager: VersionManager, book: PinBook) -> Verdict
     ensures { λ r. ⌜ r ≡ judged ((badManager manager ⇒ BadManager) ∷ (badBook (current manager) book ⇒ BadPinBook) ∷ []) ⌝ }
 {
-    let epoch = manager.inner.epoch;
-    let next = manager.inner.next;
-    if version_state::bad(
-        &manager.inner.tables.ids,
-        &manager.inner.tables.lengths,
-        &manager.inner.tables.names,
-        manager.inner.tables.count,
-        &manager.inner.rowsets.tables,
-        &manager.inner.rowsets.rowsets,
-        &manager.inner.rowsets.added,
-        &manager.inner.rowsets.deleted,
-        manager.inner.rowsets.count,
-        &manager.inner.vectors.tables,
-        &manager.inner.vectors.rowsets,
-        &manager.inner.vectors.vectors,
-        &manager.inner.vectors.added,
-        &manager.inner.vectors.deleted,
-        manager.inner.vectors.count,
-        epoch,
-        next,
-        manager.inner.manifest,
-    ) {
+    if manager.bad() {
         return Verdict::Refused(Refusal::BadManager);
     }
-    if book.bad(epoch) {
+    if book.bad(manager.inner.epoch) {
         return Verdict::Refused(Refusal::BadPinBook);
     }
     Verdict::Accepted

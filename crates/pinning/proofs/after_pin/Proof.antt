@@ -4,7 +4,7 @@ use native.Mathlib.Omega.{arith}
 use lib.ListN.{length}
 use Rattle.ids.specs.declared.refusal.Verdict.the-variants.{Accepted}
 use Rattle.ids.specs.Verdicts.{judged}
-use Rattle.lists.proofs.Places.{known}
+use Rattle.lists.proofs.Places.{known, length-mapped}
 use Rattle.lists.proofs.Views.{view-length}
 use Rattle.pins.specs.declared.PinBook.{PinBook}
 use Rattle.pins.specs.Book.{pinEntry, mostPinned}
@@ -32,7 +32,7 @@ rest : (d : tie.After-judge-pin) → pinVerdict (manager (came d)) (book (came d
 rest d =
     let e = came d in
     let g = two-passed (manager e) (book e) (two e) in
-    let full : length (book e .items) ≡ mostPinned = search known in
+    let full : length (book e .items) ≡ mostPinned = search (length-mapped, e .before .before .before .good .1 .0 .1 .1 .0 .1 .0 .1) in
     pin-late (manager e) (book e) _ (d .before .find .ensures .count) (view-length pinEntry (book e .items) (book e .count) (omega (arith, g .fits))) (two e) ∙ sym (d .judge-pin .ensures)
 
 abbrev after : tie.After-enum-told2 → tie.After-enum-told
