@@ -29,9 +29,8 @@ use Rattle.operations.specs.Steps.{stepOf, stepsOf}
 use Rattle.version_state.specs.Columns.{Columns, columns, stateIn, innerIn}
 use Rattle.operations.specs.Columns.{Sized, Ready, StepIs}
 use Rattle.operations.proofs.Keeps.{rising-vectors}
-use Rattle.frames.specs.Frames.{frameOf}
 use Rattle.commit.specs.declared.Done.{Done}
-use Rattle.commit.specs.Commit.{lastRules, finishOf, commitOf, CommitIs}
+use Rattle.commit.specs.Commit.{appendOf, lastRules, finishOf, commitOf, CommitIs}
 use Rattle.commit.proofs.Stepwise.{Halts, went, turn-off, turn-on}
 
 -- the numbers and the columns of a state
@@ -96,13 +95,13 @@ module _ (s : State) (n : ℕ) (os : List Operation) (room : ℕ) where
       ended-off t v q h = record { why = h .why; told = h .told; here = begun (given t) q ∙ h .here }
 
 -- the last tests, for an append of n bytes
-module _ (e : ℕ) (os : List Operation) (room : ℕ) (s : State) (n : ℕ) (w : n ≡ length (frameOf os)) (v : Verdict) (j : v ≡ judged (lastRules e s n room)) where
+module _ (e : ℕ) (os : List Operation) (room : ℕ) (s : State) (n : ℕ) (w : n ≡ length (appendOf os)) (v : Verdict) (j : v ≡ judged (lastRules e s n room)) where
   pub end-off : isAccepted v ≡ false → Halts (finishOf e os room s) v
   end-off a = go v refl
     where
       go : (x : Verdict) → v ≡ x → Halts (finishOf e os room s) v
       go Accepted q = absurd (true≢false (sym (ap isAccepted q) ∙ a))
-      go (Refused k) q = record { why = k; told = q; here = ap (λ (y : Verdict). onward y (given (withEpoch s e (s .manifest + length (frameOf os))))) (ap (λ (l : ℕ). judged (lastRules e s l room)) (sym w) ∙ sym j ∙ q) }
+      go (Refused k) q = record { why = k; told = q; here = ap (λ (y : Verdict). onward y (given (withEpoch s e (s .manifest + length (appendOf os))))) (ap (λ (l : ℕ). judged (lastRules e s l room)) (sym w) ∙ sym j ∙ q) }
 
   module _ (a : isAccepted v ≡ true) where
     passed : v ≡ Accepted
@@ -131,7 +130,7 @@ module _ {h : Held} {c : Columns} (y : Ready h c) where
 pub commit-off : (x : Result State) (os : List Operation) (out : List ℕ) (r : Done) (c : Columns) (out′ : List ℕ) → Halts x (r .verdict) → out′ ≡ out → CommitIs x os out r c out′
 commit-off x os out r c out′ h q = rw (h .here) (h .told, q)
 
-pub commit-on : (x : Result State) (os : List Operation) (out : List ℕ) (r : Done) (c : Columns) (out′ : List ℕ) (s : State) → x ≡ given s → r .verdict ≡ Accepted → r .length ≡ length (frameOf os) → Hands (innerIn (r .held) c) s → out′ ≡ over (frameOf os) out
+pub commit-on : (x : Result State) (os : List Operation) (out : List ℕ) (r : Done) (c : Columns) (out′ : List ℕ) (s : State) → x ≡ given s → r .verdict ≡ Accepted → r .length ≡ length (appendOf os) → Hands (innerIn (r .held) c) s → out′ ≡ over (appendOf os) out
     → CommitIs x os out r c out′
 commit-on x os out r c out′ s q v n h w = rw q (v, n, h, w)
 

@@ -15,12 +15,11 @@ use Rattle.operations.specs.declared.Stepped.{Stepped}
 use Rattle.operations.specs.Steps.{stepsOf}
 use Rattle.version_state.specs.Columns.{Columns, stateIn}
 use Rattle.operations.specs.Columns.{Ready, StepIs}
-use Rattle.frames.specs.Frames.{frameOf}
-use Rattle.commit.specs.Commit.{lastRules, commitOf}
+use Rattle.commit.specs.Commit.{appendOf, lastRules, commitOf}
 use Rattle.commit.specs.Lent.{operationsIn}
 use Rattle.commit.proofs.Stepwise.{Halts, went, halted, steps-manifest}
 use Rattle.commit.proofs.Calls.{begun, steps-off, ended-off, end-off, end-on, end-room}
-use Rattle.commit.proofs.Lent.{lentFrame, frame-lent, frame-size, frame-short}
+use Rattle.commit.proofs.Lent.{lentAppend, append-lent, append-size, append-short}
 
 module _ (s : List ℕ) (room : ℕ) (h : Held) (c : Columns) (few : length (operationsIn s) ≤ mostOperations) (early : h .epoch < lastEpoch) (r : Stepped) (d : Columns) (t : StepIs (stepsOf 0 (h .epoch + 1) (operationsIn s) (stateIn h c)) r d) where
   pub stepped-off : isAccepted (r .verdict) ≡ false → Halts (commitOf (stateIn h c) (length (operationsIn s)) (operationsIn s) room) (r .verdict)
@@ -36,26 +35,26 @@ module _ (s : List ℕ) (room : ℕ) (h : Held) (c : Columns) (few : length (ope
     pub stepped-manifest : h .manifest ≤ longestManifest → r .held .manifest ≤ longestManifest
     stepped-manifest w = rw (steps-manifest (h .epoch + 1) (operationsIn s) (stateIn h c) (stateIn (r .held) d) (done .0)) w
 
-    pub stepped-frame : frameOf (operationsIn s) ≡ lentFrame s
-    stepped-frame = frame-lent s (h .epoch + 1) (stateIn h c) (stateIn (r .held) d) (done .0)
+    pub stepped-append : appendOf (operationsIn s) ≡ lentAppend s
+    stepped-append = append-lent s (h .epoch + 1) (stateIn h c) (stateIn (r .held) d) (done .0)
 
-    pub stepped-size : length s + 4 ≡ length (frameOf (operationsIn s))
-    stepped-size = sym (ap length stepped-frame ∙ frame-size s)
+    pub stepped-size : length s + 6 ≡ length (appendOf (operationsIn s))
+    stepped-size = sym (ap length stepped-append ∙ append-size s)
 
-    pub stepped-short : length s + 4 ≤ longestManifest
-    stepped-short = rw stepped-size (frame-short (h .epoch + 1) (operationsIn s) (stateIn h c) (stateIn (r .held) d) few (done .0))
+    pub stepped-short : length s + 6 ≤ longestManifest
+    stepped-short = rw stepped-size (append-short (h .epoch + 1) (operationsIn s) (stateIn h c) (stateIn (r .held) d) few (done .0))
 
-    module _ (v : Verdict) (j : v ≡ judged (lastRules (h .epoch + 1) (stateIn (r .held) d) (length s + 4) room)) where
+    module _ (v : Verdict) (j : v ≡ judged (lastRules (h .epoch + 1) (stateIn (r .held) d) (length s + 6) room)) where
       pub ended : isAccepted v ≡ false → Halts (commitOf (stateIn h c) (length (operationsIn s)) (operationsIn s) room) v
       ended b =
           ended-off (stateIn h c) (length (operationsIn s)) (operationsIn s) room few early (stateIn (r .held) d) v (done .0)
-          (end-off (h .epoch + 1) (operationsIn s) room (stateIn (r .held) d) (length s + 4) stepped-size v j b)
+          (end-off (h .epoch + 1) (operationsIn s) room (stateIn (r .held) d) (length s + 6) stepped-size v j b)
 
       module _ (b : isAccepted v ≡ true) where
-        pub fits : (r .held .manifest + (length s + 4) ≤ longestManifest) × (length s + 4 ≤ room)
-        fits = end-room (h .epoch + 1) (operationsIn s) room (stateIn (r .held) d) (length s + 4) stepped-size v j b
+        pub fits : (r .held .manifest + (length s + 6) ≤ longestManifest) × (length s + 6 ≤ room)
+        fits = end-room (h .epoch + 1) (operationsIn s) room (stateIn (r .held) d) (length s + 6) stepped-size v j b
 
-        pub commits : (v ≡ Accepted) × (commitOf (stateIn h c) (length (operationsIn s)) (operationsIn s) room ≡ given (withEpoch (stateIn (r .held) d) (h .epoch + 1) (r .held .manifest + (length s + 4))))
+        pub commits : (v ≡ Accepted) × (commitOf (stateIn h c) (length (operationsIn s)) (operationsIn s) room ≡ given (withEpoch (stateIn (r .held) d) (h .epoch + 1) (r .held .manifest + (length s + 6))))
         commits =
-            let o = end-on (h .epoch + 1) (operationsIn s) room (stateIn (r .held) d) (length s + 4) stepped-size v j b in
+            let o = end-on (h .epoch + 1) (operationsIn s) room (stateIn (r .held) d) (length s + 6) stepped-size v j b in
             (o .0, begun (stateIn h c) (length (operationsIn s)) (operationsIn s) room few early (given (stateIn (r .held) d)) (done .0) ∙ o .1)

@@ -16,7 +16,7 @@ use Rattle.ids.specs.Results.{Result, refused, given, andThen}
 use Rattle.ids.proofs.Verdicts.{none-judged}
 use Rattle.text.specs.Class.{newline}
 use Rattle.manifest.specs.declared.reader.LineAt.the-variants as found
-use Rattle.manifest.specs.Operations.{Operation, nextIds, Line, begin, end, operation, bad, wellFormed}
+use Rattle.manifest.specs.Operations.{Operation, nextIds, Line, begin, end, torn, operation, bad, wellFormed}
 use Rattle.manifest.specs.Lines.{lineOf, textOf, lineText}
 use Rattle.manifest.specs.Split.{lines, linesOn, linesFrom, restOn, joined, lineAt}
 use Rattle.manifest.proofs.Fields.{drop-past}
@@ -26,7 +26,8 @@ use Rattle.manifest.proofs.Split.{joined-lines, rest-on-append, rest-ended, lin
 use Rattle.version_state.specs.State.{State}
 use Rattle.operations.specs.Judge.{opRules}
 use Rattle.operations.specs.Steps.{stepOf, stepsOf}
-use Rattle.frames.specs.Frames.{textsOf, frameOf}
+use Rattle.frames.specs.Frames.{textsOf}
+use Rattle.commit.specs.Commit.{appendOf}
 use Rattle.frames.proofs.Texts.{joined-append, frame-long, texts-cons}
 use Rattle.commit.specs.Lent.{operationSaid, unended, operationsIn}
 use Rattle.commit.proofs.Stepwise.{halt, step-given}
@@ -66,6 +67,7 @@ said-well l = go (lineOf l) refl
     go : (x : Line) → lineOf l ≡ x → wellFormed (operationSaid x) ≡ true
     go begin h = refl
     go end h = refl
+    go torn h = refl
     go (operation o) h = text-parse l o h .0
     go bad h = refl
 
@@ -117,6 +119,7 @@ whole-rest (b ∷ r) a = absurd (a .0 refl)
 whole-line : (x : Line) → Whole (operationSaid x) → x ≡ operation (operationSaid x)
 whole-line begin a = absurd (a refl)
 whole-line end a = absurd (a refl)
+whole-line torn a = absurd (a refl)
 whole-line (operation o) a = refl
 whole-line bad a = absurd (a refl)
 
@@ -124,29 +127,29 @@ texts : (ls : List (List ℕ)) → All Whole (map (λ l. operationSaid (lineOf l
 texts [] a = refl
 texts (l ∷ ls) a = ap₂ _∷_ (sym (text-parse l (operationSaid (lineOf l)) (whole-line (lineOf l) (a .0)) .1)) (texts ls (a .1))
 
--- the frame of operations that were lent as lines: `B`, the lent bytes, `E`
-abbrev pub lentFrame : List ℕ → List ℕ
-lentFrame s = 66 ∷ 10 ∷ (s ++ (69 ∷ 10 ∷ []))
+-- what is appended of operations that were lent as lines: `!`, `B`, the lent bytes, `E`
+abbrev pub lentAppend : List ℕ → List ℕ
+lentAppend s = 33 ∷ 10 ∷ 66 ∷ 10 ∷ (s ++ (69 ∷ 10 ∷ []))
 
-pub frame-lent : (s : List ℕ) (e : ℕ) (u t : State) → stepsOf 0 e (operationsIn s) u ≡ given t → frameOf (operationsIn s) ≡ lentFrame s
+pub append-lent : (s : List ℕ) (e : ℕ) (u t : State) → stepsOf 0 e (operationsIn s) u ≡ given t → appendOf (operationsIn s) ≡ lentAppend s
 unfolding operationsIn lines
-frame-lent s e u t h =
+append-lent s e u t h =
     let said = map (λ l. operationSaid (lineOf l)) (lines s) in
     let a = accepted-all Whole accepted-whole 0 e (said ++ unended (restOn [] s)) u t h in
     let r = whole-rest (restOn [] s) (all-last _ said (unended (restOn [] s)) a) in
     let whole : joined (lines s) ≡ s = sym (append-nil (joined (lines s))) ∙ (rw r at (joined-lines [] s)) in
-    rw (r, append-nil said) (ap (λ (x : List ℕ). 66 ∷ 10 ∷ x)
+    rw (r, append-nil said) (ap (λ (x : List ℕ). 33 ∷ 10 ∷ 66 ∷ 10 ∷ x)
     (joined-append (map textOf said) (lineText end ∷ []) ∙ ap (λ (x : List ℕ). x ++ (69 ∷ 10 ∷ [])) (ap joined (texts (lines s) (all-first _ said (unended (restOn [] s)) a)) ∙ whole)))
 
-pub frame-size : (s : List ℕ) → length (lentFrame s) ≡ length s + 4
-frame-size s = omega (arith, length-append s (69 ∷ 10 ∷ []))
+pub append-size : (s : List ℕ) → length (lentAppend s) ≡ length s + 6
+append-size s = omega (arith, length-append s (69 ∷ 10 ∷ []))
 
 -- operations that are accepted have short lines
 pub texts-short : (os : List Operation) → All (λ o. wellFormed o ≡ true) os → length (textsOf os) ≤ longestLine * length os
 texts-short [] a = omega arith
 texts-short (o ∷ os) a = omega (arith, texts-cons o os, text-room o (a .0), texts-short os (a .1))
 
-pub frame-short : (e : ℕ) (os : List Operation) (u t : State) → length os ≤ mostOperations → stepsOf 0 e os u ≡ given t → length (frameOf os) ≤ longestManifest
-frame-short e os u t few h =
+pub append-short : (e : ℕ) (os : List Operation) (u t : State) → length os ≤ mostOperations → stepsOf 0 e os u ≡ given t → length (appendOf os) ≤ longestManifest
+append-short e os u t few h =
     let a = accepted-all (λ o. wellFormed o ≡ true) (λ i e o s j. not-false _ (none-judged (opRules i e o s) j .0)) 0 e os u t h in
     omega (arith, frame-long os, texts-short os a)

@@ -33,8 +33,7 @@ use Rattle.version_state.specs.Sets.{nextOf}
 use Rattle.operations.specs.Effect.{marked, asEntry, raised, applied}
 use Rattle.operations.specs.Judge.{opRules, isLive, isShown}
 use Rattle.operations.specs.Steps.{stepsOf}
-use Rattle.frames.specs.Frames.{frameOf}
-use Rattle.commit.specs.Commit.{firstRules, lastRules, finishOf, commitOf}
+use Rattle.commit.specs.Commit.{appendOf, firstRules, lastRules, finishOf, commitOf}
 use Rattle.operations.proofs.Edits.{Adds, adds-map, all-edited, all-marked, rises, well-table}
 use Rattle.operations.proofs.Keeps.{Below, below-applied, ordered-applied}
 use Rattle.commit.proofs.Stepwise.{halt, steps-keep}
@@ -123,9 +122,9 @@ pub record Accepts (s : State) (n : ℕ) (os : List Operation) (room : ℕ) (u :
   pub done : State
   pub steps : stepsOf 0 (s .epoch + 1) os s ≡ given done
   pub whole : leftBehind (s .epoch + 1) done ≡ false
-  pub fits : done .manifest + length (frameOf os) ≤ longestManifest
-  pub lent : length (frameOf os) ≤ room
-  pub state : withEpoch done (s .epoch + 1) (done .manifest + length (frameOf os)) ≡ u
+  pub fits : done .manifest + length (appendOf os) ≤ longestManifest
+  pub lent : length (appendOf os) ≤ room
+  pub state : withEpoch done (s .epoch + 1) (done .manifest + length (appendOf os)) ≡ u
 
 pub onward-given : (v : Verdict) (x : Result State) (s : State) → onward v x ≡ given s → (v ≡ Accepted) × (x ≡ given s)
 onward-given Accepted x s h = (refl, h)
@@ -142,17 +141,17 @@ accepts s n os room u h =
     let f = none-judged (firstRules s n) (x .0) in
     let y = then-given (stepsOf 0 e os s) (finishOf e os room) u (x .1) in
     let t = y .0 in
-    let z = onward-given (judged (lastRules e t (length (frameOf os)) room)) (given (withEpoch t e (t .manifest + length (frameOf os)))) u (y .2) in
-    let g = none-judged (lastRules e t (length (frameOf os)) room) (z .0) in
-    let q : withEpoch t e (t .manifest + length (frameOf os)) ≡ u = cc (z .1) in
+    let z = onward-given (judged (lastRules e t (length (appendOf os)) room)) (given (withEpoch t e (t .manifest + length (appendOf os)))) u (y .2) in
+    let g = none-judged (lastRules e t (length (appendOf os)) room) (z .0) in
+    let q : withEpoch t e (t .manifest + length (appendOf os)) ≡ u = cc (z .1) in
     record {
       short = ltb-false mostOperations n (f .0);
       last = leb-false lastEpoch (s .epoch) (f .1 .0);
       done = t;
       steps = y .1;
       whole = g .0;
-      fits = ltb-false longestManifest (t .manifest + length (frameOf os)) (g .1 .0);
-      lent = ltb-false room (length (frameOf os)) (g .1 .1 .0);
+      fits = ltb-false longestManifest (t .manifest + length (appendOf os)) (g .1 .0);
+      lent = ltb-false room (length (appendOf os)) (g .1 .1 .0);
       state = q;
     }
 
@@ -162,8 +161,8 @@ commit-sound m n k os room s b h z =
     let t = a .done in
     let e = m .epoch + 1 in
     let p = steps-keep (Kept e) e (λ i o u q j. kept-applied e i o u q j) 0 os (stateOf m) t (kept-start m (sound-of m b)) (a .steps) in
-    let q : stateOf n ≡ withEpoch t e (t .manifest + length (frameOf os)) = z .state ∙ sym (a .state) in
-    of-sound n (back n t e (t .manifest + length (frameOf os)) z q p (a .whole) (a .fits))
+    let q : stateOf n ≡ withEpoch t e (t .manifest + length (appendOf os)) = z .state ∙ sym (a .state) in
+    of-sound n (back n t e (t .manifest + length (appendOf os)) z q p (a .whole) (a .fits))
   where
     back : (n : VersionManagerInner) (t : State) (e l : ℕ) → Hands n s → stateOf n ≡ withEpoch t e l → Kept e t → leftBehind e t ≡ false → l ≤ longestManifest → Sound n
     back n t e l k q p w f =

@@ -2,7 +2,7 @@
 use mathlib.Core.Bool.{cond}
 use mathlib.Core.List.{List, [], _∷_, _++_, map}
 use Prim.Native.Nat.{ℕ}
-use Rattle.manifest.specs.Operations.{Operation, nextIds, Line, begin, end, operation, bad, wellFormed}
+use Rattle.manifest.specs.Operations.{Operation, nextIds, Line, begin, end, torn, operation, bad, wellFormed}
 use Rattle.manifest.specs.Lines.{lineOf}
 use Rattle.manifest.specs.Split.{lines, restOn}
 
@@ -10,6 +10,7 @@ use Rattle.manifest.specs.Split.{lines, restOn}
 abbrev pub operationSaid : Line → Operation
 operationSaid begin = nextIds 0 0 0
 operationSaid end = nextIds 0 0 0
+operationSaid torn = nextIds 0 0 0
 operationSaid (operation o) = o
 operationSaid bad = nextIds 0 0 0
 

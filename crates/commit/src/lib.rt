@@ -155,7 +155,7 @@ pub fn commit_lines(
             held: left,
         };
     }
-    let size = ops.len() + 4;
+    let size = ops.len() + 6;
     let verdict = ending(
         ids,
         pair_tables,
@@ -178,7 +178,7 @@ pub fn commit_lines(
             held: left,
         };
     }
-    frames::put_frame(out, ops);
+    frames::put_append(out, ops);
     let next = left.next;
     Done {
         verdict,

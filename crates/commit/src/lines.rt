@@ -53,6 +53,7 @@ fn said(classes: &[u8; 256], line: &[u8]) -> Change
         ParsedLine::Line(m) => match m {
             ManifestOperation::Begin => none(name),
             ManifestOperation::End => none(name),
+            ManifestOperation::Torn => none(name),
             ManifestOperation::Epoch(op) => Change { op, name },
         },
         ParsedLine::Bad => none(name),

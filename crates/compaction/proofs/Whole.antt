@@ -117,9 +117,9 @@ module _ (m : VersionManagerInner) (t : ℕ) (new taken : List ℕ) where
         pub state-refused : (room : ℕ) → isAccepted x ≡ false → x ≡ verdict room
         state-refused room a = sym (input-passed room ∙ ap (λ (y : Verdict). orElse y (judged (compactLast (stateOf m) t (length (appendOf operations)) room))) (sym h) ∙ or-off x _ a)
 
-        pub last-judged : (room : ℕ) → isAccepted x ≡ true → (y : Verdict) (lines lines′ : List ℕ) (n : ℕ) → Wrote lines 0 (textsOf operations) lines′ n → y ≡ judged (compactLast (stateOf m) t (n + 4) room) → y ≡ verdict room
+        pub last-judged : (room : ℕ) → isAccepted x ≡ true → (y : Verdict) (lines lines′ : List ℕ) (n : ℕ) → Wrote lines 0 (textsOf operations) lines′ n → y ≡ judged (compactLast (stateOf m) t (n + 6) room) → y ≡ verdict room
         last-judged room a y lines lines′ n w k =
-            let size : n + 4 ≡ length (appendOf operations) = omega (arith, frame-long operations, w .next) in
+            let size : n + 6 ≡ length (appendOf operations) = omega (arith, frame-long operations, w .next) in
             k
             ∙ ap (λ (i : ℕ). judged (compactLast (stateOf m) t i room)) size
             ∙ sym (input-passed room ∙ ap (λ (z : Verdict). orElse z (judged (compactLast (stateOf m) t (length (appendOf operations)) room))) (sym h) ∙ or-on x _ a)

@@ -293,6 +293,6 @@ pub fn compact(
         inner.vectors.count,
         taken,
     );
-    let verdict = ending(inner, table, length + table::FRAME_BYTES, room);
+    let verdict = ending(inner, table, length + table::APPEND_BYTES, room);
     Made { verdict, length }
 }

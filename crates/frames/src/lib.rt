@@ -25,12 +25,13 @@ pub fn put_letter(out: &mut [u8], at: usize, letter: u8) -> usize
     text::put_byte(out, i, 10)
 }
 
-// The frame of lines: `B`, the lines, `E`.
-pub fn put_frame(out: &mut [u8], lines: &[u8])
-    requires { ⌜ length (now lines) + 4 ≤ length (now out) ⌝ }
-    ensures { λ _. ⌜ now (out .exit) ≡ over (66 ∷ 10 ∷ (now (lines .entry) ++ (69 ∷ 10 ∷ []))) (now (out .entry)) ⌝ }
+// What a commit of lines appends: `!`, which ends the line that an append before it was cut off in, and the frame `B`, the lines, `E`.
+pub fn put_append(out: &mut [u8], lines: &[u8])
+    requires { ⌜ length (now lines) + 6 ≤ length (now out) ⌝ }
+    ensures { λ _. ⌜ now (out .exit) ≡ over (33 ∷ 10 ∷ 66 ∷ 10 ∷ (now (lines .entry) ++ (69 ∷ 10 ∷ []))) (now (out .entry)) ⌝ }
 {
-    let i = put_letter(out, 0, b'B');
+    let i = put_letter(out, 0, b'!');
+    let i = put_letter(out, i, b'B');
     let i = text::put_bytes(out, i, lines);
     put_letter(out, i, b'E');
 }

@@ -36,6 +36,10 @@ pub empty-first : (s : List ℕ) → length s ≡ 0 → getD s 0 0 ≡ 0
 empty-first [] e = refl
 empty-first (x ∷ s) e = absurd (omega arith)
 
+pub empty-torn : (s : List ℕ) → length s ≡ 0 → getD s (length s - 1) 0 ≡ 0
+empty-torn [] e = refl
+empty-torn (x ∷ s) e = absurd (omega arith)
+
 pub rest-all : (s : List ℕ) (i : ℕ) → take (length s - i) (drop i s) ≡ drop i s
 rest-all s i = rw (← length-drop i s) (take-length (drop i s))
 

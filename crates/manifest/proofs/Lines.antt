@@ -2,26 +2,26 @@
 use mathlib.Core.Path.{_≡_, refl, sym, ap, _∙_}
 use mathlib.Core.Bool.{Bool, true, false, cond, _&&_}
 use mathlib.Core.List.{List, [], _∷_, _++_, append-assoc, append-nil, map}
-use Prim.Native.Nat.{ℕ, suc, _+_, _<_, _≤_}
+use Prim.Native.Nat.{ℕ, zero, suc, _+_, _-_, _<_, _≤_}
 use native.Mathlib.Omega.{arith}
 use lib.Dec.{eqb, leb}
-use lib.ListN.{length, getD, drop, drop-of-length-le}
+use lib.ListN.{length, getD, drop, drop-of-length-le, length-append}
 use borrow.Author.Tests.{eq-eqb, eqb-true, lt-ltb, le-leb}
-use Rattle.lists.specs.Keyed.{allOf}
+use Rattle.lists.specs.Keyed.{allOf, anyOf}
 use Rattle.lists.proofs.Keyed.{All}
-use Rattle.lists.proofs.Tests.{clash, both, join}
+use Rattle.lists.proofs.Tests.{clash, both, join, neither}
 use Rattle.ids.specs.Ids.{isId32, isId64}
 use Rattle.text.specs.declared.Number.{Number}
 use Rattle.text.specs.declared.Number.the-variants.{At, Nothing}
-use Rattle.text.specs.Class.{isDigit, isComma}
+use Rattle.text.specs.Class.{isDigit, isComma, isMark}
 use Rattle.text.specs.Decimal.{digits, Stops}
 use Rattle.text.specs.Name.{isName}
-use Rattle.manifest.specs.Operations.{Operation, createTable, dropTable, addRowset, deleteRowset, addVector, deleteVector, nextIds, Line, begin, end, operation, bad, wellFormed, wellLine}
-use Rattle.manifest.specs.Lines.{fieldAt, andThen, field, atEnd, named, oneField, twoFields, threeFields, tableFields, lineBy, lineOf, fieldsText, textOf, lineText}
+use Rattle.manifest.specs.Operations.{Operation, createTable, dropTable, addRowset, deleteRowset, addVector, deleteVector, nextIds, Line, begin, end, torn, operation, bad, wellFormed, wellLine}
+use Rattle.manifest.specs.Lines.{fieldAt, andThen, field, atEnd, named, oneField, twoFields, threeFields, tableFields, lineBy, isTorn, lineOf, fieldsText, textOf, lineText}
 use Rattle.manifest.proofs.Fields.{byte-at, drop-head, drop-past, field-round, FieldRead, field-converse}
 use Rattle.manifest.specs.Split.{lines, joined}
 use Rattle.manifest.proofs.Split.{OneLine, lines-joined}
-use Rattle.manifest.proofs.Texts.{text-newline, length-one, length-two, length-three, id-32, pair-ids, vector-ids, next-values, table-values}
+use Rattle.manifest.proofs.Texts.{text-newline, text-mark, length-one, length-two, length-three, id-32, pair-ids, vector-ids, next-values, table-values}
 
 -- What is written is read back.
 
@@ -87,15 +87,36 @@ table-round a b f x y n p q r =
     let e5 : drop (j + 1) s ≡ n = drop-past s j (44 ∷ []) n e4 in
     rw (first-read a s 1 x (y ∷ []) (44 ∷ n) refl p refl, first-read b s i y [] (44 ∷ n) e2 q refl, drop-head s j 44 n e4, e5, r)
 
+by-letter : (o : Operation) → wellFormed o ≡ true → lineBy (getD (textOf o) 0 0) (textOf o) ≡ operation o
+unfolding lineBy textOf
+by-letter (createTable t h n) e = let w = table-values t h n e in table-round 4294967294 4294967295 createTable t h n (w .0) (w .1) (w .2)
+by-letter (dropTable t) e = one-round 4294967294 88 dropTable t (id-32 t e)
+by-letter (addRowset t r) e = let w = pair-ids t r e in two-round 4294967294 4294967294 65 addRowset t r (w .0) (w .1)
+by-letter (deleteRowset t r) e = let w = pair-ids t r e in two-round 4294967294 4294967294 68 deleteRowset t r (w .0) (w .1)
+by-letter (addVector t r v) e = let w = vector-ids t r v e in three-round 4294967294 4294967294 18446744073709551614 86 addVector t r v (w .0) (w .1) (w .2)
+by-letter (deleteVector t r v) e = let w = vector-ids t r v e in three-round 4294967294 4294967294 18446744073709551614 87 deleteVector t r v (w .0) (w .1) (w .2)
+by-letter (nextIds t r v) e = let w = next-values t r v e in three-round 4294967295 4294967295 18446744073709551615 78 nextIds t r v (w .0) (w .1) (w .2)
+
+-- no byte of s passes the test, hence none at a place
+at-without : (p : ℕ → Bool) (s : List ℕ) (i : ℕ) → p 0 ≡ false → anyOf p s ≡ false → p (getD s i 0) ≡ false
+at-without p [] i z h = z
+at-without p (b ∷ s) zero z h = neither (p b) (anyOf p s) h .0
+at-without p (b ∷ s) (suc i) z h = at-without p s i z (neither (p b) (anyOf p s) h .1)
+
 pub parse-text : (o : Operation) → wellFormed o ≡ true → lineOf (textOf o) ≡ operation o
-unfolding lineOf lineBy textOf
-parse-text (createTable t h n) e = let w = table-values t h n e in table-round 4294967294 4294967295 createTable t h n (w .0) (w .1) (w .2)
-parse-text (dropTable t) e = one-round 4294967294 88 dropTable t (id-32 t e)
-parse-text (addRowset t r) e = let w = pair-ids t r e in two-round 4294967294 4294967294 65 addRowset t r (w .0) (w .1)
-parse-text (deleteRowset t r) e = let w = pair-ids t r e in two-round 4294967294 4294967294 68 deleteRowset t r (w .0) (w .1)
-parse-text (addVector t r v) e = let w = vector-ids t r v e in three-round 4294967294 4294967294 18446744073709551614 86 addVector t r v (w .0) (w .1) (w .2)
-parse-text (deleteVector t r v) e = let w = vector-ids t r v e in three-round 4294967294 4294967294 18446744073709551614 87 deleteVector t r v (w .0) (w .1) (w .2)
-parse-text (nextIds t r v) e = let w = next-values t r v e in three-round 4294967295 4294967295 18446744073709551615 78 nextIds t r v (w .0) (w .1) (w .2)
+unfolding lineOf
+parse-text o e = rw (at-without isMark (textOf o) (length (textOf o) - 1) refl (text-mark o e)) (by-letter o e)
+
+last-byte : (s : List ℕ) (c : ℕ) → getD (s ++ (c ∷ [])) (length s) 0 ≡ c
+last-byte [] c = refl
+last-byte (b ∷ s) c = last-byte s c
+
+-- whatever stands before a `!`
+pub parse-torn : (s : List ℕ) → lineOf (s ++ (33 ∷ [])) ≡ torn
+unfolding lineOf
+parse-torn s =
+    let n : length (s ++ (33 ∷ [])) - 1 ≡ length s = omega (arith, length-append s (33 ∷ [])) in
+    rw (n, last-byte s 33)
 
 pub parse-begin : lineOf (lineText begin) ≡ begin
 unfolding lineOf lineBy
@@ -111,6 +132,7 @@ parse-end = refl
 abbrev pub Says : Line → List ℕ → Type 0
 Says begin s = s ≡ lineText begin
 Says end s = s ≡ lineText end
+Says torn s = Unit {0}
 Says (operation o) s = (wellFormed o ≡ true) × (s ≡ textOf o)
 Says bad s = Unit {0}
 
@@ -198,6 +220,7 @@ module _ (s : List ℕ) where
   pub says : Says (lineOf s) s
   unfolding lineOf lineBy textOf
   says =
+      says-if (isTorn s) torn (lineBy (getD s 0 0) s) (λ e. tt) (λ e.
       arm 66 _ _ (λ h. says-alone 66 begin (omega arith) h (λ e. e))
       (arm 69 _ _ (λ h. says-alone 69 end (omega arith) h (λ e. e))
       (arm 84 _ _ says-table
@@ -207,7 +230,7 @@ module _ (s : List ℕ) where
       (arm 86 _ _ (λ h. says-three 86 4294967294 4294967294 18446744073709551614 addVector (omega arith) h three-good (λ x y z. refl))
       (arm 87 _ _ (λ h. says-three 87 4294967294 4294967294 18446744073709551614 deleteVector (omega arith) h three-good (λ x y z. refl))
       (arm 78 _ _ (λ h. says-three 78 4294967295 4294967295 18446744073709551615 nextIds (omega arith) h next-good (λ x y z. refl))
-      tt))))))))
+      tt)))))))))
 
   pub text-parse : (o : Operation) → lineOf s ≡ operation o → (wellFormed o ≡ true) × (s ≡ textOf o)
   text-parse o e = rw e at says
@@ -222,12 +245,14 @@ module _ (s : List ℕ) where
 pub parse-line : (l : Line) → wellLine l ≡ true → lineOf (lineText l) ≡ l
 parse-line begin w = parse-begin
 parse-line end w = parse-end
+parse-line torn w = parse-torn []
 parse-line (operation o) w = parse-text o w
 parse-line bad w = clash w refl
 
 pub line-newline : (l : Line) → wellLine l ≡ true → OneLine (lineText l)
 line-newline begin w = refl
 line-newline end w = refl
+line-newline torn w = refl
 line-newline (operation o) w = text-newline o w
 line-newline bad w = clash w refl
 

@@ -1,21 +1,21 @@
--- Laws of a line's text: its length, and that it has no newline. Assumes nothing.
+-- Laws of a line's text: its length, and which bytes it has not. Assumes nothing.
 use mathlib.Core.Path.{_≡_, refl}
 use mathlib.Core.Bool.{true, false, _&&_}
 use mathlib.Core.List.{List, [], _∷_, _++_, append-assoc, append-nil}
 use Prim.Native.Nat.{ℕ, _+_, _≤_}
 use native.Mathlib.Omega.{arith}
-use lib.Dec.{leb}
+use lib.Dec.{leb, eqb}
 use lib.ListN.{length, length-append}
 use borrow.Author.Tests.{leb-true, ltb-true}
 use Rattle.lists.specs.Keyed.{anyOf}
 use Rattle.lists.proofs.Keyed.{anyOf-append}
 use Rattle.lists.proofs.Tests.{both}
 use Rattle.ids.specs.Ids.{isId32, isId64}
-use Rattle.text.specs.Class.{isNewline}
+use Rattle.text.specs.Class.{isDigit, isLower, isNewline, isMark}
 use Rattle.text.specs.Decimal.{digits}
-use Rattle.text.specs.Name.{isName}
-use Rattle.text.proofs.Round.{digits-32, digits-64, digits-newline}
-use Rattle.text.proofs.Names.{name-length, name-newline}
+use Rattle.text.specs.Name.{isNameByte, isName}
+use Rattle.text.proofs.Round.{digits-32, digits-64, digits-without}
+use Rattle.text.proofs.Names.{name-length, name-without}
 use Rattle.manifest.specs.Operations.{Operation, createTable, dropTable, addRowset, deleteRowset, addVector, deleteVector, nextIds, wellFormed}
 use Rattle.manifest.specs.Lines.{fieldsText, textOf}
 
@@ -118,20 +118,30 @@ text-room (addVector t r v) e = let w = vector-ids t r v e in omega (arith, add-
 text-room (deleteVector t r v) e = let w = vector-ids t r v e in omega (arith, delete-vector-room t r (omega arith) (omega arith) v (omega arith))
 text-room (nextIds t r v) e = let w = next-values t r v e in omega (arith, next-room t r (w .0) (w .1) v (w .2))
 
--- and no newline
-fields-newline : (ns : List ℕ) → anyOf isNewline (fieldsText ns) ≡ false
-unfolding fieldsText
-fields-newline [] = refl
-fields-newline (n ∷ ns) = rw (anyOf-append isNewline (digits n) (fieldsText ns), digits-newline n) (fields-newline ns)
+-- and no byte that is neither a letter, a comma nor in a name
+module _ (c : ℕ) (n : isNameByte c ≡ false) (k : eqb 44 c ≡ false) where
+  fields-without : (ns : List ℕ) → anyOf (λ b. eqb b c) (fieldsText ns) ≡ false
+  unfolding fieldsText
+  fields-without [] = refl
+  fields-without (x ∷ ns) = rw (k, anyOf-append (λ b. eqb b c) (digits x) (fieldsText ns), digits-without c x n) (fields-without ns)
+
+  module _ (t : eqb 84 c ≡ false) (x : eqb 88 c ≡ false) (a : eqb 65 c ≡ false) (d : eqb 68 c ≡ false) (v : eqb 86 c ≡ false) (w : eqb 87 c ≡ false) (m : eqb 78 c ≡ false) where
+    text-without : (o : Operation) → wellFormed o ≡ true → anyOf (λ b. eqb b c) (textOf o) ≡ false
+    unfolding textOf
+    text-without (createTable i h s) e =
+        let u = table-values i h s e in
+        rw (t, anyOf-append (λ b. eqb b c) (fieldsText (i ∷ h ∷ [])) (44 ∷ s), fields-without (i ∷ h ∷ []), k) (name-without s c n (u .2))
+    text-without (dropTable i) e = rw x (fields-without (i ∷ []))
+    text-without (addRowset i r) e = rw a (fields-without (i ∷ r ∷ []))
+    text-without (deleteRowset i r) e = rw d (fields-without (i ∷ r ∷ []))
+    text-without (addVector i r z) e = rw v (fields-without (i ∷ r ∷ z ∷ []))
+    text-without (deleteVector i r z) e = rw w (fields-without (i ∷ r ∷ z ∷ []))
+    text-without (nextIds i r z) e = rw m (fields-without (i ∷ r ∷ z ∷ []))
 
 pub text-newline : (o : Operation) → wellFormed o ≡ true → anyOf isNewline (textOf o) ≡ false
-unfolding textOf
-text-newline (createTable t h n) e =
-    let w = table-values t h n e in
-    rw (anyOf-append isNewline (fieldsText (t ∷ h ∷ [])) (44 ∷ n), fields-newline (t ∷ h ∷ [])) (name-newline n (w .2))
-text-newline (dropTable t) e = fields-newline (t ∷ [])
-text-newline (addRowset t r) e = fields-newline (t ∷ r ∷ [])
-text-newline (deleteRowset t r) e = fields-newline (t ∷ r ∷ [])
-text-newline (addVector t r v) e = fields-newline (t ∷ r ∷ v ∷ [])
-text-newline (deleteVector t r v) e = fields-newline (t ∷ r ∷ v ∷ [])
-text-newline (nextIds t r v) e = fields-newline (t ∷ r ∷ v ∷ [])
+unfolding isNameByte isDigit isLower
+text-newline o e = text-without 10 refl refl refl refl refl refl refl refl refl o e
+
+pub text-mark : (o : Operation) → wellFormed o ≡ true → anyOf isMark (textOf o) ≡ false
+unfolding isNameByte isDigit isLower
+text-mark o e = text-without 33 refl refl refl refl refl refl refl refl refl o e

@@ -1,16 +1,16 @@
 -- One line of a manifest, without its newline: what reading it finds, and how it is written. Assumes nothing.
-use Prim.Native.Nat.{ℕ, _+_}
-use mathlib.Core.Bool.{cond, _&&_}
+use Prim.Native.Nat.{ℕ, _+_, _-_}
+use mathlib.Core.Bool.{Bool, cond, _&&_}
 use mathlib.Core.List.{List, [], _∷_, _++_}
 use lib.Dec.{eqb}
 use lib.ListN.{length, getD, drop}
 use Rattle.ids.specs.Ids.{largest32, largest64}
 use Rattle.text.specs.declared.Number.{Number}
 use Rattle.text.specs.declared.Number.the-variants.{At, Nothing}
-use Rattle.text.specs.Class.{comma, isComma}
+use Rattle.text.specs.Class.{comma, mark, isComma, isMark}
 use Rattle.text.specs.Decimal.{digits, readAt}
 use Rattle.text.specs.Name.{isName}
-use Rattle.manifest.specs.Operations.{Operation, createTable, dropTable, addRowset, deleteRowset, addVector, deleteVector, nextIds, Line, begin, end, operation, bad}
+use Rattle.manifest.specs.Operations.{Operation, createTable, dropTable, addRowset, deleteRowset, addVector, deleteVector, nextIds, Line, begin, end, torn, operation, bad}
 
 -- The letters: B, E, T, X, A, D, V, W, N.
 abbrev pub beginLetter : ℕ
@@ -96,9 +96,13 @@ lineBy b s =
     (cond (eqb b nextLetter) (threeFields largest32 largest32 largest64 nextIds s)
     bad))))))))
 
+-- whatever stands before it, a `!` at the end says that the line was torn off
+abbrev pub isTorn : List ℕ → Bool
+isTorn s = isMark (getD s (length s - 1) 0)
+
 -- what the line s says
 unfoldable pub lineOf : List ℕ → Line
-lineOf s = lineBy (getD s 0 0) s
+lineOf s = cond (isTorn s) torn (lineBy (getD s 0 0) s)
 
 -- Writing.
 
@@ -120,6 +124,7 @@ textOf (nextIds t r v) = nextLetter ∷ fieldsText (t ∷ r ∷ v ∷ [])
 abbrev pub lineText : Line → List ℕ
 lineText begin = beginLetter ∷ []
 lineText end = endLetter ∷ []
+lineText torn = mark ∷ []
 lineText (operation o) = textOf o
 lineText bad = []
 

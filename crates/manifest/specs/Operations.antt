@@ -12,7 +12,7 @@ use Rattle.manifest.specs.declared.operation.EpochOp.the-variants.{Creat
 use Rattle.manifest.specs.declared.operation.Change.{Change}
 use Rattle.manifest.specs.declared.operation.Batch.{Batch}
 use Rattle.manifest.specs.declared.operation.ManifestOperation.{ManifestOperation}
-use Rattle.manifest.specs.declared.operation.ManifestOperation.the-variants.{Begin, End, Epoch}
+use Rattle.manifest.specs.declared.operation.ManifestOperation.the-variants.{Begin, End, Torn, Epoch}
 use Rattle.manifest.specs.declared.operation.ParsedLine.{ParsedLine}
 use Rattle.manifest.specs.declared.operation.ParsedLine.the-variants as parsed
 use Rattle.manifest.specs.declared.operation.Parsed.{Parsed}
@@ -30,10 +30,11 @@ pub data Operation : Type 0 where
   deleteVector : ℕ → ℕ → ℕ → Operation
   nextIds : ℕ → ℕ → ℕ → Operation
 
--- B, E, an operation; or no line of a manifest
+-- B, E, an operation; a line that was torn off; or no line of a manifest
 pub data Line : Type 0 where
   begin : Line
   end : Line
+  torn : Line
   operation : Operation → Line
   bad : Line
 
@@ -51,6 +52,7 @@ wellFormed (nextIds t r v) = leb t largest32 && (leb r largest32 && leb v larges
 abbrev pub wellLine : Line → Bool
 wellLine begin = true
 wellLine end = true
+wellLine torn = true
 wellLine (operation o) = wellFormed o
 wellLine bad = false
 
@@ -73,6 +75,7 @@ batchOf b = map operationOf (take (b .count) (b .changes))
 abbrev pub saidOf : List ℕ → ManifestOperation → Line
 saidOf n Begin = begin
 saidOf n End = end
+saidOf n Torn = torn
 saidOf n (Epoch o) = operation (operationBy n o)
 
 abbrev pub saidBy : List ℕ → ParsedLine → Line

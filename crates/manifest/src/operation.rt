@@ -38,6 +38,8 @@ pub struct Batch {
 pub enum ManifestOperation {
     Begin,
     End,
+    // It ends in `!`: an append broke off in it, or just before it.
+    Torn,
     Epoch(EpochOp),
 }
 

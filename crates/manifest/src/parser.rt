@@ -258,6 +258,9 @@ pub fn parse(classes: &[u8; 256], s: &[u8]) -> Parsed
     if s.len() == 0 {
         return refused();
     }
+    if text::is_mark(classes, s[s.len() - 1]) {
+        return plain(ManifestOperation::Torn);
+    }
     match s[0] {
         b'B' => alone(s, ManifestOperation::Begin),
         b'E' => alone(s, ManifestOperation::End),

@@ -12,7 +12,6 @@ use Rattle.lists.proofs.Keyed.{All, all-map, all-any, all-mapped, allOf-all, an
 use Rattle.columns.specs.Rows.{plain}
 use Rattle.manifest.specs.Operations.{Operation, Line, wellFormed}
 use Rattle.manifest.specs.Split.{lines}
-use Rattle.manifest.proofs.Split.{rest-none}
 use Rattle.ids.specs.Limits.{mostOperations, mostTables, mostHeld}
 use Rattle.ids.specs.Results.{given}
 use Rattle.frames.specs.Frames.{frameOf}
@@ -29,7 +28,7 @@ use Rattle.rewrite.proofs.Room.{rewritten-fits}
 use Rattle.replay.specs.Replay.{none, carried, reopened, atStart, stands, settled, overLimit, linesRead, tableless, withoutOrphans, replayOf}
 use Rattle.recovery.specs.Rewritable.{Rewritable, madeOf, namesDiffer}
 use Rattle.recovery.specs.Holds.{Holds}
-use Rattle.recovery.proofs.Framed.{frame-lines, rest-frame}
+use Rattle.recovery.proofs.Framed.{frame-lines}
 use Rattle.recovery.proofs.Reading.{saidRead, said-read, whole-append}
 use Rattle.recovery.proofs.Owned.{allOf-map}
 use Rattle.recovery.proofs.SoundReading.{Whole, whole-held, whole-replayed}
@@ -112,7 +111,6 @@ module _ (n : Next) (z : Sets) (r : Rewritable n z) where
   pub rewritten-holds : Holds (writtenOf n z) (madeOf n z)
   rewritten-holds =
       record {
-        whole = rest-frame [] (rewriteOf n z) rest-none;
         frame = none;
         line = 1 + 1 + length (rewriteOf n z) + 1;
         read = frame-read (rewriteOf n z) (madeOf n z) (r .lines) made-few (rewrite-leads n z r) made-settled made-within;

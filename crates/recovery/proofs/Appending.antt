@@ -1,4 +1,4 @@
--- What a manifest that holds a state is read to, by itself and with a frame after it, whole or torn. Assumes nothing.
+-- What a manifest that holds a state is read to, by itself and with an append after it, whole or cut. Assumes nothing.
 use mathlib.Core.Path.{_≡_, refl, sym, ap, _∙_}
 use mathlib.Core.Bool.{true, false}
 use mathlib.Core.List.{List, [], _++_, map}
@@ -10,7 +10,6 @@ use Rattle.lists.specs.Keyed.{allOf}
 use Rattle.manifest.specs.Operations.{Operation, Line, wellFormed}
 use Rattle.manifest.specs.Lines.{lineOf}
 use Rattle.manifest.specs.Split.{restOn, lines, linesOn}
-use Rattle.manifest.proofs.Split.{lines-append}
 use Rattle.ids.specs.Limits.{mostOperations, longestManifest}
 use Rattle.ids.specs.Results.{Result, given, andThen}
 use Rattle.frames.specs.Frames.{frameOf}
@@ -21,15 +20,16 @@ use Rattle.version_state.specs.Sets.{Sets, setsOf, nextOf}
 use Rattle.version_state.specs.Widths.{Narrow}
 use Rattle.version_state.specs.Sound.{badInner}
 use Rattle.version_state.proofs.Facts.{sound-of}
-use Rattle.commit.specs.Commit.{commitOf}
+use Rattle.commit.specs.Commit.{appendOf, commitOf}
 use Rattle.commit.proofs.Sounds.{Accepts, accepts}
 use Rattle.rewrite.specs.Rewritten.{writtenOf}
 use Rattle.replay.specs.Replay.{none, Carried, carried, reopened, atStart, linesRead, finished, linesReplayed, replayOf}
 use Rattle.recovery.specs.Rewritable.{Rewritable, madeOf}
-use Rattle.recovery.specs.Holds.{Holds, followed, Appended, first, rewritten, checkpointed, committed, other}
+use Rattle.recovery.specs.Holds.{Holds, followed, Appended, first, rewritten, checkpointed, committed, short, other}
 use Rattle.recovery.specs.Laws.{Replaces}
-use Rattle.recovery.proofs.Reading.{saidRead, said-read, read-append, whole-append, torn-append}
-use Rattle.recovery.proofs.Framed.{frame-lines, rest-frame, torn-lines}
+use Rattle.recovery.proofs.Reading.{saidRead, whole-append}
+use Rattle.recovery.proofs.Framed.{frame-lines}
+use Rattle.recovery.proofs.Short.{read-over, marked-read, cut-read}
 use Rattle.recovery.proofs.Replays.{holds-read, sets-settled}
 use Rattle.recovery.proofs.Besides.{Went, beside-start, beside-steps}
 use Rattle.recovery.proofs.Owned.{none-tableless, none-orphaned, none-over}
@@ -38,7 +38,7 @@ use Rattle.operations.specs.Effect.{appliedAll}
 
 pub empty-holds : Holds [] (withEpoch start reopened 0)
 unfolding restOn lines linesOn
-empty-holds = record { whole = refl; frame = none; line = 1; read = refl; tables = refl; rowsets = refl }
+empty-holds = record { frame = none; line = 1; read = refl; tables = refl; rowsets = refl }
 
 short-replayed : (src : List ℕ) → length src ≤ longestManifest → replayOf src ≡ linesReplayed (lines src)
 short-replayed src h = rw (le-ltb longestManifest (length src) h)
@@ -68,26 +68,15 @@ replaces src s m h k g n =
       next = refl;
     }
 
--- lines after those that are read to s
-module _ (src more : List ℕ) (s : State) (h : Holds src s) where
-  pub read-on : linesRead (lines (src ++ more)) atStart ≡ saidRead (map lineOf (lines more)) (carried s (h .frame) (h .line))
-  read-on =
-      ap (λ (ls : List (List ℕ)). linesRead ls atStart) (lines-append src more (h .whole))
-      ∙ read-append (lines src) (lines more) atStart
-      ∙ ap (λ (x : Result Carried). andThen x (linesRead (lines more))) (h .read)
-      ∙ said-read (lines more) (carried s (h .frame) (h .line))
+-- an append after those lines, cut or whole
+module _ (src : List ℕ) (s : State) (h : Holds src s) where
+  read-on : (more : List ℕ) → linesRead (lines (src ++ more)) atStart ≡ saidRead (map lineOf (linesOn (restOn [] src) more)) (carried s (h .frame) (h .line))
+  read-on more = read-over src more ∙ ap (λ (x : Result Carried). andThen x (saidRead (map lineOf (linesOn (restOn [] src) more)))) (h .read)
 
-pub torn-replayed : (src : List ℕ) (s : State) (os : List Operation) (k : ℕ)
-    → Holds src s → allOf wellFormed os ≡ true → length os ≤ mostOperations → k < length (frameOf os)
-    → length (src ++ take k (frameOf os)) ≤ longestManifest
-    → replayOf (src ++ take k (frameOf os)) ≡ given s
-torn-replayed src s os k h w few q short =
-    let r = torn-lines os k w q in
-    let c = carried s (h .frame) (h .line) in
-    short-replayed (src ++ take k (frameOf os)) short
-    ∙ ap (λ (x : Result Carried). andThen x (λ d. finished (d .state))) (read-on src (take k (frameOf os)) s h ∙ ap (λ (ls : List Line). saidRead ls c) (r .2))
-    ∙ torn-append os (r .0) s (h .frame) (h .line) few (r .1)
-    ∙ holds-finished src s h
+  pub cut-holds : (os : List Operation) (k : ℕ) → allOf wellFormed os ≡ true → length os ≤ mostOperations → k < length (appendOf os) → Holds (src ++ take k (appendOf os)) s
+  cut-holds os k w few q =
+      let r = cut-read os w few k q (restOn [] src) s (h .frame) (h .line) in
+      record { frame = r .0; line = r .1; read = read-on (take k (appendOf os)) ∙ r .2; tables = h .tables; rowsets = h .rowsets }
 
 -- an accepted commit of a manager with the same sets
 module _ (src : List ℕ) (s : State) (m : VersionManagerInner) (n : ℕ) (os : List Operation) (room : ℕ) (u : State) (h : Holds src s) (k : setsOf (stateOf m) ≡ setsOf s) (g : badInner m ≡ false) (few : length os ≤ n) (c : commitOf (stateOf m) n os room ≡ given u) where
@@ -99,18 +88,21 @@ module _ (src : List ℕ) (s : State) (m : VersionManagerInner) (n : ℕ) (os : 
       let start = beside-start m s (sound-of m g) (holds-read src s h) k in
       beside-steps (m .epoch + 1) 0 os (stateOf m) (a .done) s (omega arith) start (a .steps)
 
-  whole-holds : Holds (src ++ frameOf os) (followed os s)
+  well : allOf wellFormed os ≡ true
+  well = went .well
+
+  whole-holds : Holds (src ++ appendOf os) (followed os s)
   whole-holds =
       let e = m .epoch + 1 in
       let v = appliedAll reopened os s in
       record {
-        whole = rest-frame src os (h .whole);
         frame = none;
-        line = h .line + 1 + length os + 1;
+        line = h .line + 1 + 1 + length os + 1;
         read =
-            read-on src (frameOf os) s h
-            ∙ ap (λ (ls : List Line). saidRead ls (carried s (h .frame) (h .line))) (frame-lines os (went .well))
-            ∙ whole-append os s (h .frame) (h .line) (omega (arith, few, a .short)) (went .free) (none-over e (a .done) v (went .beside));
+            read-on src s h (appendOf os)
+            ∙ marked-read (restOn [] src) (frameOf os) (carried s (h .frame) (h .line))
+            ∙ ap (λ (ls : List Line). saidRead ls (carried s none (h .line + 1))) (frame-lines os (went .well))
+            ∙ whole-append os s none (h .line + 1) (omega (arith, few, a .short)) (went .free) (none-over e (a .done) v (went .beside));
         tables = none-tableless e (a .done) v (went .beside) (a .whole);
         rowsets = none-orphaned e (a .done) v (went .beside) (a .whole);
       }
@@ -121,7 +113,7 @@ module _ (src : List ℕ) (s : State) (m : VersionManagerInner) (n : ℕ) (os : 
       ∙ sym (went .beside .same)
       ∙ ap setsOf (a .state)
 
-  pub whole-appended : Holds (src ++ frameOf os) (followed os s) × (setsOf (followed os s) ≡ setsOf u)
+  pub whole-appended : Holds (src ++ appendOf os) (followed os s) × (setsOf (followed os s) ≡ setsOf u)
   whole-appended = (whole-holds, whole-sets)
 
 -- a state that the manifest holds, with the manager's sets
@@ -141,6 +133,10 @@ held _ _ (committed src m n k os room u p g few c h) =
     let i = held src m p in
     let w = whole-appended src (i .state) m k os room u (i .holds) (i .same) g few c in
     record { state = followed os (i .state); holds = w .0; same = ap setsOf (h .state) ∙ sym (w .1) }
+held _ _ (short src m n k os room u landed p g few c q e) =
+    let i = held src m p in
+    let a = accepts (stateOf m) k os room u c in
+    record { state = i .state; holds = cut-holds src (i .state) (i .holds) os landed (well src (i .state) m k os room u (i .holds) (i .same) g few c) (omega (arith, few, a .short)) q; same = e ∙ i .same }
 held _ _ (other src m n p q) =
     let i = held src m p in
     record { state = i .state; holds = i .holds; same = q ∙ i .same }

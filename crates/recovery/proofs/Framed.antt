@@ -1,7 +1,7 @@
 -- The bytes of a frame, whole or torn, and what their lines say. Assumes nothing.
 use mathlib.Core.Path.{_≡_, refl, sym, ap, _∙_}
 use mathlib.Core.Bool.{true}
-use mathlib.Core.List.{List, [], _∷_, _++_, map, append-assoc}
+use mathlib.Core.List.{List, [], _∷_, _++_, map}
 use Prim.Native.Nat.{ℕ, zero, suc, _+_, _≤_, _<_}
 use native.Mathlib.Omega.{arith}
 use lib.ListN.{length, take, length-append, length-map}
@@ -9,8 +9,8 @@ use Rattle.lists.specs.Keyed.{allOf}
 use Rattle.lists.proofs.Tests.{both, join}
 use Rattle.manifest.specs.Operations.{Operation, Line, begin, end, operation, wellFormed, wellLine}
 use Rattle.manifest.specs.Lines.{lineOf, textOf, lineText}
-use Rattle.manifest.specs.Split.{restOn, lines, joined}
-use Rattle.manifest.proofs.Split.{rest-on-append, rest-none, rest-ended, lines-joined, lines-torn}
+use Rattle.manifest.specs.Split.{lines, joined}
+use Rattle.manifest.proofs.Split.{lines-joined, lines-torn}
 use Rattle.manifest.proofs.Lines.{all-one-line, read-back}
 use Rattle.frames.specs.Frames.{frameOf}
 
@@ -34,19 +34,6 @@ well-said os w = well-ops os w
 
 pub frame-lines : (os : List Operation) → allOf wellFormed os ≡ true → map lineOf (lines (frameOf os)) ≡ said os
 frame-lines os w = ap (λ (s : List ℕ). map lineOf (lines s)) (frame-said os) ∙ read-back (said os) (well-said os w)
-
-rest-joined : (ls : List (List ℕ)) → restOn [] (joined ls) ≡ []
-rest-joined [] = rest-none
-rest-joined (l ∷ ls) =
-    let e : l ++ (10 ∷ joined ls) ≡ (l ++ (10 ∷ [])) ++ joined ls = sym (append-assoc l (10 ∷ []) (joined ls)) in
-    ap (restOn []) e ∙ rest-on-append [] (l ++ (10 ∷ [])) (joined ls) ∙ ap (λ (so : List ℕ). restOn so (joined ls)) (rest-ended l) ∙ rest-joined ls
-
--- a text that ends in a newline, with a frame after it, ends in one
-pub rest-frame : (src : List ℕ) (os : List Operation) → restOn [] src ≡ [] → restOn [] (src ++ frameOf os) ≡ []
-rest-frame src os h =
-    rest-on-append [] src (frameOf os)
-    ∙ ap (λ (so : List ℕ). restOn so (frameOf os)) h
-    ∙ rest-joined (lineText begin ∷ (map textOf os ++ (lineText end ∷ [])))
 
 map-take : {A B : Type 0} (f : A → B) (k : ℕ) (l : List A) → map f (take k l) ≡ take k (map f l)
 map-take f zero l = refl

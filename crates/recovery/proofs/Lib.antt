@@ -1,6 +1,7 @@
 -- The laws that this crate's proofs cite. Assumes nothing.
 pub mod Reading
 pub mod Framed
+pub mod Short
 pub mod Effects
 pub mod Replays
 pub mod Besides

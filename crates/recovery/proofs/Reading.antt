@@ -14,7 +14,7 @@ use Rattle.manifest.specs.Operations.{Operation, Line, begin, end, operation}
 use Rattle.manifest.specs.Lines.{lineOf}
 use Rattle.version_state.specs.State.{State}
 use Rattle.operations.specs.Effect.{applied, appliedAll}
-use Rattle.replay.specs.Replay.{Frame, none, opened, Carried, carried, reopened, conflicts, framed, settled, overLimit, lineRead, linesRead, finished}
+use Rattle.replay.specs.Replay.{Frame, none, opened, Carried, carried, reopened, conflicts, framed, settled, overLimit, lineRead, linesRead}
 
 -- what lines say, one after another
 abbrev pub saidRead : List Line → Carried → Result Carried
@@ -80,11 +80,11 @@ take-ops zero os l h = refl
 take-ops (suc k) [] l h = absurd (not-suc-le-zero h)
 take-ops (suc k) (o ∷ os) l h = ap (λ (t : List Line). operation o ∷ t) (take-ops k os l (le-of-suc-le-suc h))
 
--- (3) a proper first part of it changes nothing at the end
+-- (3) a proper first part of it leaves the state
 pub torn-append : (os : List Operation) (k : ℕ) (s : State) (f : Frame) (n : ℕ) → length os ≤ mostOperations → k ≤ length os + 1
-    → andThen (saidRead (take k (begin ∷ (map operation os ++ (end ∷ [])))) (carried s f n)) (λ c. finished (c .state)) ≡ finished s
-torn-append os zero s f n h q = refl
+    → (g : Frame) × (m : ℕ) × (saidRead (take k (begin ∷ (map operation os ++ (end ∷ [])))) (carried s f n) ≡ given (carried s g m))
+torn-append os zero s f n h q = (f, n, refl)
 torn-append os (suc k) s f n h q =
     let short : k ≤ length os = omega arith in
     let few : length (take k os) ≤ mostOperations = let e = length-take k os in omega arith in
-    rw (take-ops k os (end ∷ []) short, ops-noted (take k os) [] s (n + 1) (n + 1) (omega arith))
+    (opened (n + 1) (take k os), n + 1 + length (take k os), rw (take-ops k os (end ∷ []) short) (ops-noted (take k os) [] s (n + 1) (n + 1) (omega arith)))

@@ -10,7 +10,7 @@ use Rattle.lists.specs.Keyed.{keep}
 use Rattle.lists.proofs.Tests.{by-cases}
 use Rattle.lists.proofs.Keyed.{All, all-map, all-keep, keep-keep, keep-same, ascend-to, ascend-from, ascending-keep}
 use Rattle.ids.specs.Results.{Result, refused, given, andThen}
-use Rattle.manifest.specs.Operations.{Operation, Line, begin, end, operation, bad}
+use Rattle.manifest.specs.Operations.{Operation, Line, begin, end, torn, operation, bad}
 use Rattle.manifest.specs.Edits.{Edit, editsOf}
 use Rattle.manifest.specs.Lines.{lineOf}
 use Rattle.manifest.specs.Split.{lines}
@@ -92,6 +92,7 @@ line-read (operation o) c r = go (noted (c .line) o (c .frame))
     go : (x : Result Frame) → Given Carries (andThen x (λ f. given (carried (c .state) f (c .line + 1))))
     go (refused k) = tt
     go (given f) = r
+line-read torn c r = r
 line-read bad c r = tt
 
 lines-read : (ls : List (List ℕ)) (c : Carried) → Carries c → Given Carries (linesRead ls c)

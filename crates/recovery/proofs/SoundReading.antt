@@ -12,7 +12,7 @@ use Rattle.lists.proofs.Tests.{neither}
 use Rattle.lists.proofs.Keyed.{All, all-append, all-keep, kept-all, keep-all, length-keep, ascend-to, ascend-from, ascending-keep}
 use Rattle.ids.specs.declared.refusal.Refusal.{Refusal}
 use Rattle.ids.specs.declared.refusal.Refusal.the-variants.{ManifestTooLong, TableConflict, OverLimit, RowsetWithoutTable, TooManyOperations}
-use Rattle.manifest.specs.Operations.{Operation, Line, begin, end, operation, bad, wellFormed}
+use Rattle.manifest.specs.Operations.{Operation, Line, begin, end, torn, operation, bad, wellFormed}
 use Rattle.manifest.specs.Lines.{lineOf}
 use Rattle.manifest.specs.Split.{lines}
 use Rattle.manifest.proofs.Lines.{text-parse}
@@ -131,6 +131,7 @@ runs-line end c d w r h =
 runs-line (operation o) c d w r h =
     let x = then-given (noted (c .line) o (c .frame)) (λ f. given (carried (c .state) f (c .line + 1))) d h in
     subst Runs (same-given (x .2)) (record { state = r .state; frame = read-noted (c .line) o (c .frame) (x .0) (w o refl) (r .frame) (x .1) })
+runs-line torn c d w r h = subst Runs (same-given h) (record { state = r .state; frame = tt })
 runs-line bad c d w r h = absurd (not-given h)
 
 runs-lines : (ls : List (List ℕ)) (c d : Carried) → Runs c → linesRead ls c ≡ given d → Runs d

@@ -1,4 +1,4 @@
--- What recovery keeps: a manifest and what is appended to it, whole or torn, and the rewritten one. Assumes nothing.
+-- What recovery keeps: a manifest and what is appended to it, whole or cut, and the rewritten one. Assumes nothing.
 use mathlib.Core.Path.{_≡_}
 use mathlib.Core.Bool.{true, false}
 use mathlib.Core.List.{List, [], _++_}
@@ -6,8 +6,10 @@ use Prim.Native.Nat.{ℕ, _≤_, _<_}
 use lib.ListN.{length, take}
 use Rattle.lists.specs.Keyed.{allOf}
 use Rattle.manifest.specs.Operations.{Operation, wellFormed}
+use Rattle.manifest.specs.Split.{lines}
 use Rattle.ids.specs.Limits.{mostOperations, longestManifest}
-use Rattle.ids.specs.Results.{given}
+use Rattle.ids.specs.Results.{Result, refused, given}
+use Rattle.ids.specs.Refusals.{numberOf}
 use Rattle.version_state.specs.declared.VersionManagerInner.{VersionManagerInner}
 use Rattle.version_state.specs.State.{State, start, withEpoch, stateOf, Hands}
 use Rattle.ids.specs.Ids.{Next}
@@ -17,7 +19,7 @@ use Rattle.version_state.specs.Sound.{badInner}
 use Rattle.commit.specs.Commit.{appendOf, commitOf}
 use Rattle.transaction_manager.specs.Locks.{isLocked}
 use Rattle.rewrite.specs.Rewritten.{writtenOf, rewrittenOf, longestRewritten}
-use Rattle.replay.specs.Replay.{reopened, replayOf}
+use Rattle.replay.specs.Replay.{reopened, linesReplayed, replayOf}
 use Rattle.recovery.specs.Rewritable.{Rewritable, madeOf, namesDiffer}
 use Rattle.recovery.specs.Holds.{Holds, followed, Appended}
 
@@ -29,14 +31,27 @@ pub record AppendLaws : Type 0 where
   pub whole : (src : List ℕ) (s : State) (m : VersionManagerInner) (k : ℕ) (os : List Operation) (room : ℕ) (u : State)
       → Holds src s → setsOf (stateOf m) ≡ setsOf s → badInner m ≡ false → length os ≤ k → commitOf (stateOf m) k os room ≡ given u
       → Holds (src ++ appendOf os) (followed os s) × (setsOf (followed os s) ≡ setsOf u)
-  -- followed by a proper first part of an append, cut at any byte: the state
-  pub torn : (src : List ℕ) (s : State) (os : List Operation) (k : ℕ)
+  -- followed by a proper first part of an append, cut at any byte: the state, and the next append finds it so
+  pub cut : (src : List ℕ) (s : State) (os : List Operation) (k : ℕ)
       → Holds src s → allOf wellFormed os ≡ true → length os ≤ mostOperations → k < length (appendOf os)
-      → length (src ++ take k (appendOf os)) ≤ longestManifest
-      → replayOf (src ++ take k (appendOf os)) ≡ given s
+      → Holds (src ++ take k (appendOf os)) s
   -- what the port wrote is never refused, and holds no vector whose rowset is gone
   pub made : (src : List ℕ) (m : VersionManagerInner) → Appended src m → length src ≤ longestManifest
       → (s : State) × (Holds src s × (setsOf (stateOf m) ≡ setsOf s) × (replayOf src ≡ given s))
+
+-- alike: by R where both are given, and else two refusals of one number, whatever lines they name
+abbrev pub Alike : {A : Type 0} → (A → A → Type 0) → Result A → Result A → Type 0
+Alike R (given a) (given b) = R a b
+Alike R (given a) (refused k) = ⊥
+Alike R (refused k) (given b) = ⊥
+Alike R (refused j) (refused k) = numberOf j ≡ numberOf k
+
+-- Of any manifest whatsoever, its length aside.
+pub record ShortLaws : Type 0 where
+  -- a proper first part of an append, and after it another append, whole or cut: as if the first were not there
+  pub passed : (src : List ℕ) (os : List Operation) (k : ℕ) (bs : List Operation) (j : ℕ)
+      → allOf wellFormed os ≡ true → length os ≤ mostOperations → k < length (appendOf os)
+      → Alike _≡_ (linesReplayed (lines (src ++ (take k (appendOf os) ++ take j (appendOf bs))))) (linesReplayed (lines (src ++ take j (appendOf bs))))
 
 -- Of next ids and sets that are written anew.
 pub record RewriteLaws : Type 0 where

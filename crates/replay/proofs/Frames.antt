@@ -17,7 +17,7 @@ use Rattle.ids.specs.Verdicts.{isAccepted}
 use Rattle.ids.specs.declared.refusal.Refusal.{Refusal}
 use Rattle.ids.specs.declared.refusal.Refusal.the-variants.{OverLimit}
 use Rattle.ids.specs.declared.refusal.Verdict.the-variants.{Accepted, Refused}
-use Rattle.manifest.specs.Operations.{Operation, Line, begin, end, operation, bad}
+use Rattle.manifest.specs.Operations.{Operation, Line, begin, end, torn, operation, bad}
 use Rattle.manifest.specs.Lines.{lineOf}
 use Rattle.manifest.specs.Split.{lines, linesFrom, lineAt}
 use Rattle.manifest.specs.declared.reader.LineAt.the-variants as found
@@ -274,6 +274,11 @@ module _ (src : List ℕ) (l : Slices) (z : Sets) (o : Begun) (n at next : ℕ) 
     },
   )
 
+  -- no frame is open after a torn line
+  pub torn-turn : (r : Turn) → r .verdict ≡ Accepted → r .sets ≡ z → r .begun .running ≡ false → BegunOk src (r .begun) → TurnIs (lineRead torn (carried (stateIn src l z) f n)) src next l r
+  unfolding TurnIs
+  torn-turn r v e d k = (v, record { state = rw e; good = rw e (g .good); small = rw e (g .small); ok = k; begun = record { running = λ t. clash t d; closed = λ _. refl } })
+
   pub operation-turn : (x : Operation) (r : Turn) → saidFrom src at ≡ operation x ∷ saidFrom src next → OperationSays n z o r → TurnIs (lineRead (operation x) (carried (stateIn src l z) f n)) src next l r
   unfolding TurnIs
   operation-turn x r s q =
@@ -332,6 +337,7 @@ line-on (operation o) c d h = go (noted (c .line) o (c .frame)) h
     go : (X : Result Frame) → andThen X (λ f. given (carried (c .state) f (c .line + 1))) ≡ given d → d .line ≡ c .line + 1
     go (refused k) h = absurd (differ h)
     go (given s) h = sym (same-given h)
+line-on torn c d h = sym (same-given h)
 line-on bad c d h = absurd (differ h)
 
 -- All lines.

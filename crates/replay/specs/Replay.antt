@@ -9,7 +9,7 @@ use Rattle.lists.specs.Keyed.{keep, allOf, has}
 use Rattle.ids.specs.declared.refusal.Refusal.the-variants.{ManifestTooLong, Malformed, TableConflict, OverLimit, RowsetWithoutTable, TooManyOperations}
 use Rattle.ids.specs.declared.refusal.Verdict.the-variants.{Accepted, Refused}
 use Rattle.ids.specs.Results.{Result, refused, given, andThen}
-use Rattle.manifest.specs.Operations.{Operation, Line, begin, end, operation, bad}
+use Rattle.manifest.specs.Operations.{Operation, Line, begin, end, torn, operation, bad}
 use Rattle.manifest.specs.Edits.{Edit, leaves, adds, deletes, Table, editsOf}
 use Rattle.manifest.specs.Lines.{lineOf}
 use Rattle.manifest.specs.Split.{lines}
@@ -81,10 +81,11 @@ abbrev pub noted : ℕ → Operation → Frame → Result Frame
 noted n o none = given none
 noted n o (opened m os) = cond (leb mostOperations (length os)) (refused (TooManyOperations n)) (given (opened m (os ++ (o ∷ []))))
 
--- one line; a `B` drops what an open frame held
+-- one line; a `B` drops what an open frame held, and so does a torn line, which opens none
 abbrev pub lineRead : Line → Carried → Result Carried
 lineRead begin c = given (carried (c .state) (opened (c .line + 1) []) (c .line + 1))
 lineRead end c = andThen (ended (c .line) (c .frame) (c .state)) (λ s. given (carried s none (c .line + 1)))
+lineRead torn c = given (carried (c .state) none (c .line + 1))
 lineRead (operation o) c = andThen (noted (c .line) o (c .frame)) (λ f. given (carried (c .state) f (c .line + 1)))
 lineRead bad c = refused (Malformed (c .line))
 

@@ -10,7 +10,7 @@ use Rattle.ids.specs.Ids.{largest32}
 use Rattle.ids.specs.Names.{longestName}
 use Rattle.ids.specs.declared.refusal.Refusal.the-variants.{TableConflict, TooManyOperations}
 use Rattle.ids.specs.declared.refusal.Verdict.the-variants.{Accepted, Refused}
-use Rattle.manifest.specs.Operations.{Operation, Line, begin, end, operation, bad, operationOf}
+use Rattle.manifest.specs.Operations.{Operation, Line, begin, end, torn, operation, bad, operationOf}
 use Rattle.manifest.specs.Lines.{lineOf}
 use Rattle.manifest.specs.Split.{linesFrom}
 use Rattle.snapshot.specs.Entries.{Entry, addedAt, byIds}
@@ -180,6 +180,7 @@ unfoldable pub leading : List Line → List Operation
 leading [] = []
 leading (begin ∷ l) = []
 leading (end ∷ l) = []
+leading (torn ∷ l) = []
 leading (operation o ∷ l) = o ∷ leading l
 leading (bad ∷ l) = []
 

@@ -50,6 +50,7 @@ fn operation_of(p: Parsed, end: usize, next: usize) -> Here
         ParsedLine::Line(m) => match m {
             ManifestOperation::Begin => not_here(),
             ManifestOperation::End => not_here(),
+            ManifestOperation::Torn => not_here(),
             ManifestOperation::Epoch(op) => Here {
                 found: true,
                 change: Change { op, name },

@@ -148,6 +148,7 @@ fn read_line(
         ParsedLine::Line(m) => match m {
             ManifestOperation::Begin => begin_line(spot, sets),
             ManifestOperation::End => end_line(classes, src, spot.line, sets, begun, work),
+            ManifestOperation::Torn => turned(sets, no_frame()),
             ManifestOperation::Epoch(_) => operation_line(spot.line, sets, begun),
         },
         ParsedLine::Bad => stopped(sets, begun, Refusal::Malformed(spot.line)),

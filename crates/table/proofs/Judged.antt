@@ -41,7 +41,7 @@ pub made-no : (v : Verdict) (os : List Operation) (l : List ℕ) (r : Made) (l�
 made-no v os l r l′ k h e = record { verdict = e ∙ sym h; written = λ a. absurd (let z : _≡_ {A = ℕ} 0 1 = cc (a, e) in omega arith) }
 
 -- the append of lines of n bytes
-append-size : (os : List Operation) (l l′ : List ℕ) (n : ℕ) → Wrote l 0 (textsOf os) l′ n → length (appendOf os) ≡ n + 4
+append-size : (os : List Operation) (l l′ : List ℕ) (n : ℕ) → Wrote l 0 (textsOf os) l′ n → length (appendOf os) ≡ n + 6
 append-size os l l′ n w = omega (arith, frame-long os, w .next)
 
 module _ (m : VersionManagerInner) (shape : ℕ) (name : List ℕ) (room : ℕ) where
@@ -70,25 +70,25 @@ module _ (m : VersionManagerInner) (shape : ℕ) (name : List ℕ) (room : ℕ) 
           few-live : leb mostTables (length (stateOf m .tables)) ≡ false
           few-live = lt-leb mostTables (length (stateOf m .tables)) (omega (arith, tables-count, few))
 
-          size : length (appendOf (createdBy (stateOf m) shape name)) ≡ n + 4
+          size : length (appendOf (createdBy (stateOf m) shape name)) ≡ n + 6
           size = append-size (createdBy (stateOf m) shape name) l l′ n w
 
-          pub create-long : longestManifest < m .manifest + (n + 4) → createVerdict ≡ Refused ManifestFull
-          create-long h = rw (named, free, lt-leb lastEpoch (m .epoch) early, few-live, size, lt-ltb longestManifest (m .manifest + (n + 4)) h)
+          pub create-long : longestManifest < m .manifest + (n + 6) → createVerdict ≡ Refused ManifestFull
+          create-long h = rw (named, free, lt-leb lastEpoch (m .epoch) early, few-live, size, lt-ltb longestManifest (m .manifest + (n + 6)) h)
 
-          module _ (fits : m .manifest + (n + 4) ≤ longestManifest) where
+          module _ (fits : m .manifest + (n + 6) ≤ longestManifest) where
             pub create-drawn : largest32 ≤ m .next .table .0 → createVerdict ≡ Refused IdsUsedUp
             create-drawn h =
-                rw (named, free, lt-leb lastEpoch (m .epoch) early, few-live, size, le-ltb longestManifest (m .manifest + (n + 4)) fits, le-leb largest32 (m .next .table .0) h)
+                rw (named, free, lt-leb lastEpoch (m .epoch) early, few-live, size, le-ltb longestManifest (m .manifest + (n + 6)) fits, le-leb largest32 (m .next .table .0) h)
 
             module _ (next : m .next .table .0 < largest32) where
-              pub create-short : room < n + 4 → createVerdict ≡ Refused OutputTooShort
+              pub create-short : room < n + 6 → createVerdict ≡ Refused OutputTooShort
               create-short h =
-                  rw (named, free, lt-leb lastEpoch (m .epoch) early, few-live, size, le-ltb longestManifest (m .manifest + (n + 4)) fits, lt-leb largest32 (m .next .table .0) next, lt-ltb room (n + 4) h)
+                  rw (named, free, lt-leb lastEpoch (m .epoch) early, few-live, size, le-ltb longestManifest (m .manifest + (n + 6)) fits, lt-leb largest32 (m .next .table .0) next, lt-ltb room (n + 6) h)
 
-              pub create-made : n + 4 ≤ room → createVerdict ≡ Accepted
+              pub create-made : n + 6 ≤ room → createVerdict ≡ Accepted
               create-made h =
-                  rw (named, free, lt-leb lastEpoch (m .epoch) early, few-live, size, le-ltb longestManifest (m .manifest + (n + 4)) fits, lt-leb largest32 (m .next .table .0) next, le-ltb room (n + 4) h)
+                  rw (named, free, lt-leb lastEpoch (m .epoch) early, few-live, size, le-ltb longestManifest (m .manifest + (n + 6)) fits, lt-leb largest32 (m .next .table .0) next, le-ltb room (n + 6) h)
 
 module _ (m : VersionManagerInner) (t room : ℕ) where
   abbrev dropVerdict : Verdict
@@ -106,18 +106,18 @@ module _ (m : VersionManagerInner) (t room : ℕ) where
       drop-late h = rw (id, live, le-leb lastEpoch (m .epoch) h)
 
       module _ (early : m .epoch < lastEpoch) (l l′ : List ℕ) (n : ℕ) (w : Wrote l 0 (textsOf (droppedBy (stateOf m) t)) l′ n) where
-        drop-size : length (appendOf (droppedBy (stateOf m) t)) ≡ n + 4
+        drop-size : length (appendOf (droppedBy (stateOf m) t)) ≡ n + 6
         drop-size = append-size (droppedBy (stateOf m) t) l l′ n w
 
-        pub drop-long : longestManifest < m .manifest + (n + 4) → dropVerdict ≡ Refused ManifestFull
-        drop-long h = rw (id, live, lt-leb lastEpoch (m .epoch) early, drop-size, lt-ltb longestManifest (m .manifest + (n + 4)) h)
+        pub drop-long : longestManifest < m .manifest + (n + 6) → dropVerdict ≡ Refused ManifestFull
+        drop-long h = rw (id, live, lt-leb lastEpoch (m .epoch) early, drop-size, lt-ltb longestManifest (m .manifest + (n + 6)) h)
 
-        module _ (fits : m .manifest + (n + 4) ≤ longestManifest) where
-          pub drop-short : room < n + 4 → dropVerdict ≡ Refused OutputTooShort
-          drop-short h = rw (id, live, lt-leb lastEpoch (m .epoch) early, drop-size, le-ltb longestManifest (m .manifest + (n + 4)) fits, lt-ltb room (n + 4) h)
+        module _ (fits : m .manifest + (n + 6) ≤ longestManifest) where
+          pub drop-short : room < n + 6 → dropVerdict ≡ Refused OutputTooShort
+          drop-short h = rw (id, live, lt-leb lastEpoch (m .epoch) early, drop-size, le-ltb longestManifest (m .manifest + (n + 6)) fits, lt-ltb room (n + 6) h)
 
-          pub drop-made : n + 4 ≤ room → dropVerdict ≡ Accepted
-          drop-made h = rw (id, live, lt-leb lastEpoch (m .epoch) early, drop-size, le-ltb longestManifest (m .manifest + (n + 4)) fits, le-ltb room (n + 4) h)
+          pub drop-made : n + 6 ≤ room → dropVerdict ≡ Accepted
+          drop-made h = rw (id, live, lt-leb lastEpoch (m .epoch) early, drop-size, le-ltb longestManifest (m .manifest + (n + 6)) fits, le-ltb room (n + 6) h)
 
 pub drop-line : (t : ℕ) → t ≤ largest32 → length (textsOf (dropTable t ∷ [])) ≤ longestLine
 drop-line t h = omega (arith, drop-room t h, texts-cons (dropTable t) [])

@@ -31,8 +31,8 @@ ghost use Rattle.table.specs.Laws.{MadeLaws};
 
 pub mod lines;
 
-// The bytes of `B` and `E` with their newlines, which stand around a commit's lines.
-pub const FRAME_BYTES: usize = 4;
+// The bytes of `!`, `B` and `E` with their newlines, which stand around a commit's lines.
+pub const APPEND_BYTES: usize = 6;
 
 // A call's verdict, and the length of the lines where it accepts.
 pub struct Made {
@@ -137,7 +137,7 @@ pub fn create(
     }
     let next = inner.next.table.0;
     let length = frames::put_line(lines, 0, rewrite::create_change(next, shape, name));
-    let size = length + FRAME_BYTES;
+    let size = length + APPEND_BYTES;
     if LONGEST_MANIFEST < inner.manifest + size {
         return refused(Refusal::ManifestFull);
     }
@@ -168,7 +168,7 @@ pub fn drop(inner: VersionManagerInner, table: TableNo, room: usize, lines: &mut
         return refused(Refusal::EpochsFull);
     }
     let length = put_drop(inner, table, lines);
-    let size = length + FRAME_BYTES;
+    let size = length + APPEND_BYTES;
     if LONGEST_MANIFEST < inner.manifest + size {
         return refused(Refusal::ManifestFull);
     }

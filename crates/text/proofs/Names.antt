@@ -5,7 +5,7 @@ use mathlib.Core.List.{List}
 use Prim.Native.Nat.{ℕ, _+_, _<_, _≤_}
 use native.Mathlib.Numerals.{add-one}
 use native.Mathlib.Omega.{arith}
-use lib.Dec.{leb, ltb}
+use lib.Dec.{leb, ltb, eqb}
 use lib.ListN.{length, getD, take, drop, drop-of-length-le}
 use lib.Seq.{drop-cons, length-take-le}
 use borrow.Author.Tests.{lt-ltb, le-leb, lt-leb, ltb-true, leb-true}
@@ -13,9 +13,8 @@ use Rattle.lists.specs.Keyed.{allOf, anyOf}
 use Rattle.lists.proofs.Tests.{by-cases, both}
 use Rattle.ids.specs.declared.name.Name.{Name}
 use Rattle.ids.specs.Names.{longestName, nameOf}
-use Rattle.text.specs.Class.{isNewline}
 use Rattle.text.specs.Name.{isNameByte, isName}
-use Rattle.text.proofs.Bytes.{name-bytes-newline}
+use Rattle.text.proofs.Bytes.{name-bytes-without}
 
 -- the bytes from i on are all of names
 unfoldable pub allNameFrom : List ℕ → ℕ → Bool
@@ -56,9 +55,9 @@ module _ (s : List ℕ) where
       let b = both (ltb 0 (length s)) (leb (length s) longestName) (a .0) in
       (ltb-true 0 (length s) (b .0), leb-true (length s) longestName (b .1))
 
-  pub name-newline : isName s ≡ true → anyOf isNewline s ≡ false
+  pub name-without : (c : ℕ) → isNameByte c ≡ false → isName s ≡ true → anyOf (λ b. eqb b c) s ≡ false
   unfolding isName
-  name-newline h = name-bytes-newline s (both (ltb 0 (length s) && leb (length s) longestName) (allOf isNameByte s) h .1)
+  name-without c n h = name-bytes-without c s n (both (ltb 0 (length s) && leb (length s) longestName) (allOf isNameByte s) h .1)
 
 -- the bytes of a name are the first of its array
 pub name-front : (n : Name) → length (n .bytes) ≡ longestName → take (length (nameOf n)) (n .bytes) ≡ nameOf n

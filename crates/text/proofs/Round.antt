@@ -6,7 +6,7 @@ use Prim.Native.Nat.{ℕ, zero, suc, _+_, _-_, _*_, _/_, _%_, _^_, _<_, _≤_}
 use native.Mathlib.Nat.{add-assoc, pow-suc}
 use native.Mathlib.Omega.{arith}
 use native.Mathlib.Decide.{decLt}
-use lib.Dec.{leb, ltb}
+use lib.Dec.{leb, ltb, eqb}
 use lib.ListN.{length, length-append}
 use borrow.Author.Tests.{lt-ltb, le-leb, ltb-true, leb-true}
 use Rattle.text.specs.declared.Number.the-variants.{At, Nothing}
@@ -14,9 +14,8 @@ use Rattle.text.specs.Class.{isDigit}
 use Rattle.text.specs.Decimal.{digits, readOn, readIn, Stops, Starts}
 use Rattle.lists.proofs.Tests.{both}
 use Rattle.lists.specs.Keyed.{allOf, anyOf}
-use Rattle.text.specs.Class.{isNewline}
 use Rattle.text.specs.Name.{isNameByte}
-use Rattle.text.proofs.Bytes.{digit-of, digit-bounds, name-byte-digit, name-bytes-newline}
+use Rattle.text.proofs.Bytes.{digit-of, digit-bounds, name-byte-digit, name-bytes-without}
 use Rattle.text.proofs.Decimal.{digits-small, digits-big, length-small, length-big}
 
 one-digit : (limit i n : ℕ) (rest : List ℕ) → n < 10 → n ≤ limit → readIn limit (digits n ++ rest) i ≡ readOn limit rest n (i + length (digits n))
@@ -120,7 +119,7 @@ fit (suc k) n (no l) h =
 pub digits-fit : (k n : ℕ) → n < 10 ^ suc k → length (digits n) ≤ suc k
 digits-fit k n h = fit k n (decLt n 10) h
 
--- every byte of a number's text is a digit, hence none a comma or a newline
+-- every byte of a number's text is a digit, hence none another byte
 all-snoc : (l : List ℕ) (b : ℕ) → allOf isNameByte l ≡ true → isDigit b ≡ true → allOf isNameByte (l ++ (b ∷ [])) ≡ true
 all-snoc [] b h d = rw (name-byte-digit b d)
 all-snoc (x ∷ l) b h d = let t = both (isNameByte x) (allOf isNameByte l) h in rw (t .0) (all-snoc l b (t .1) d)
@@ -133,8 +132,8 @@ name-bytes (suc f) n (no h) p =
     rw (digits-big n (omega arith))
     (all-snoc (digits (n / 10)) (48 + n % 10) (name-bytes f (n / 10) (decLt (n / 10) 10) (omega arith)) (digit-of (n % 10) (omega arith)))
 
-pub digits-newline : (n : ℕ) → anyOf isNewline (digits n) ≡ false
-digits-newline n = name-bytes-newline (digits n) (name-bytes n n (decLt n 10) (omega arith))
+pub digits-without : (c n : ℕ) → isNameByte c ≡ false → anyOf (λ b. eqb b c) (digits n) ≡ false
+digits-without c n h = name-bytes-without c (digits n) h (name-bytes n n (decLt n 10) (omega arith))
 
 -- a 64-bit number has at most 20 digits
 pub digits-64 : (n : ℕ) → n ≤ 18446744073709551615 → length (digits n) ≤ 20

@@ -7,7 +7,7 @@ ghost use mathlib.Core.List.{[], _∷_};
 ghost use lib.ListN.{length};
 ghost use Rattle.lists.specs.Written.{Wrote};
 ghost use Rattle.ids.specs.Names.{nameOf};
-ghost use Rattle.text.specs.Class.{Classes, classOf, isDigit, isComma, isNewline};
+ghost use Rattle.text.specs.Class.{Classes, classOf, isDigit, isComma, isNewline, isMark};
 ghost use Rattle.text.specs.Name.{isNameByte, isName};
 ghost use Rattle.text.specs.Decimal.{digits, readAt};
 ghost use Rattle.text.specs.Laws.{NumbersAgree};
@@ -22,6 +22,8 @@ const LOWER: u8 = 2;
 const COMMA: u8 = 4;
 
 const NEWLINE: u8 = 5;
+
+const MARK: u8 = 6;
 
 // The table of classes. The compiler copies a constant array wherever it is indexed, so a call takes the table into a local
 // once and lends it to all that looks at bytes.
@@ -59,6 +61,14 @@ pub fn is_newline(classes: &[u8; 256], b: u8) -> bool
     ensures { λ r. ⌜ r ≡ isNewline b ⌝ }
 {
     class_of(classes, b) == NEWLINE
+}
+
+// `!`, which ends a torn line.
+pub fn is_mark(classes: &[u8; 256], b: u8) -> bool
+    requires { ⌜ Classes (now classes) ⌝ }
+    ensures { λ r. ⌜ r ≡ isMark b ⌝ }
+{
+    class_of(classes, b) == MARK
 }
 
 // a-z, 0-9 or `_`.

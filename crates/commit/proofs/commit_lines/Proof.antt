@@ -13,7 +13,7 @@ use Rattle.version_state.specs.Columns.{columns, stateIn}
 use Rattle.operations.proofs.Keeps.{rising-pairs}
 use Rattle.commit.specs.Lent.{operationsIn}
 use Rattle.commit.proofs.Calls.{too-many, too-late, rising-tables, sorted-vectors, commit-off, commit-on}
-use Rattle.commit.proofs.Committing.{stepped-off, stepped-ready, stepped-manifest, stepped-frame, stepped-size, stepped-short, ended, fits, commits}
+use Rattle.commit.proofs.Committing.{stepped-off, stepped-ready, stepped-manifest, stepped-append, stepped-size, stepped-short, ended, fits, commits}
 use Rattle.commit.proofs.commit_lines.Statement.{statement}
 use Rattle.commit.proofs.commit_lines.Tie as tie
 
@@ -62,7 +62,7 @@ add-size c =
     let a = c .before .before .before .before .before .before .before .before .before .before .before .before .before .before .before .before .before .before .before .before .before .before .before .before .before .before .before .before .args in
     let few : length (operationsIn (now (a .ops))) ≤ mostOperations = omega (arith, c .before .before .before .before .before .before .before .before .before .before .before .before .before .before .before .before .before .before .before .before .before .before .if1 .left, c .before .before .before .before .before .before .before .before .before .before .before .before .before .before .before .before .before .before .before .before .before .before .before .count .ensures) in
     let x = c .before .before .before .steps in
-    let h : length (now (a .ops)) + 4 < 18446744073709551616 = omega (arith, stepped-short (now (a .ops)) (length (now (a .out))) (a .first) (columns (now (a .ids)) (now (a .shapes)) (now (a .lengths)) (now (a .names)) (now (a .locked)) (now (a .pair-tables)) (now (a .pair-rowsets)) (now (a .pair-added)) (now (a .pair-deleted)) (now (a .tables)) (now (a .rowsets)) (now (a .vectors)) (now (a .added)) (now (a .deleted))) few (c .before .before .before .before .before .before .before .before .before .before .before .before .before .before .before .before .before .before .before .before .if2 .left) (x .result) (columns (x .last .0) (x .last .1 .0) (x .last .1 .1 .0) (x .last .1 .1 .1 .0) (x .last .1 .1 .1 .1 .0) (x .last .1 .1 .1 .1 .1 .0) (x .last .1 .1 .1 .1 .1 .1 .0) (x .last .1 .1 .1 .1 .1 .1 .1 .0) (x .last .1 .1 .1 .1 .1 .1 .1 .1 .0) (x .last .1 .1 .1 .1 .1 .1 .1 .1 .1 .0) (x .last .1 .1 .1 .1 .1 .1 .1 .1 .1 .1 .0) (x .last .1 .1 .1 .1 .1 .1 .1 .1 .1 .1 .1 .0) (x .last .1 .1 .1 .1 .1 .1 .1 .1 .1 .1 .1 .1 .0) (x .last .1 .1 .1 .1 .1 .1 .1 .1 .1 .1 .1 .1 .1 .0)) (x .ensures) (sym (c .before .accepted .ensures) ∙ not-false _ (c .if3 .left))) in
+    let h : length (now (a .ops)) + 6 < 18446744073709551616 = omega (arith, stepped-short (now (a .ops)) (length (now (a .out))) (a .first) (columns (now (a .ids)) (now (a .shapes)) (now (a .lengths)) (now (a .names)) (now (a .locked)) (now (a .pair-tables)) (now (a .pair-rowsets)) (now (a .pair-added)) (now (a .pair-deleted)) (now (a .tables)) (now (a .rowsets)) (now (a .vectors)) (now (a .added)) (now (a .deleted))) few (c .before .before .before .before .before .before .before .before .before .before .before .before .before .before .before .before .before .before .before .before .if2 .left) (x .result) (columns (x .last .0) (x .last .1 .0) (x .last .1 .1 .0) (x .last .1 .1 .1 .0) (x .last .1 .1 .1 .1 .0) (x .last .1 .1 .1 .1 .1 .0) (x .last .1 .1 .1 .1 .1 .1 .0) (x .last .1 .1 .1 .1 .1 .1 .1 .0) (x .last .1 .1 .1 .1 .1 .1 .1 .1 .0) (x .last .1 .1 .1 .1 .1 .1 .1 .1 .1 .0) (x .last .1 .1 .1 .1 .1 .1 .1 .1 .1 .1 .0) (x .last .1 .1 .1 .1 .1 .1 .1 .1 .1 .1 .1 .0) (x .last .1 .1 .1 .1 .1 .1 .1 .1 .1 .1 .1 .1 .0) (x .last .1 .1 .1 .1 .1 .1 .1 .1 .1 .1 .1 .1 .1 .0)) (x .ensures) (sym (c .before .accepted .ensures) ∙ not-false _ (c .if3 .left))) in
     record { fits = h }
 
 ending-requires : tie.Need-ending-requires
@@ -83,8 +83,8 @@ returns-4 c =
     let x = c .before .before .before .before .before .before .before .before .before .before .before .before .before .before .before .steps in
     commit-off _ _ _ _ _ _ (ended (now (a .ops)) (length (now (a .out))) (a .first) (columns (now (a .ids)) (now (a .shapes)) (now (a .lengths)) (now (a .names)) (now (a .locked)) (now (a .pair-tables)) (now (a .pair-rowsets)) (now (a .pair-added)) (now (a .pair-deleted)) (now (a .tables)) (now (a .rowsets)) (now (a .vectors)) (now (a .added)) (now (a .deleted))) few (c .before .before .before .before .before .before .before .before .before .before .before .before .before .before .before .before .before .before .before .before .before .before .before .before .before .before .before .before .before .before .before .before .if2 .left) (x .result) (columns (x .last .0) (x .last .1 .0) (x .last .1 .1 .0) (x .last .1 .1 .1 .0) (x .last .1 .1 .1 .1 .0) (x .last .1 .1 .1 .1 .1 .0) (x .last .1 .1 .1 .1 .1 .1 .0) (x .last .1 .1 .1 .1 .1 .1 .1 .0) (x .last .1 .1 .1 .1 .1 .1 .1 .1 .0) (x .last .1 .1 .1 .1 .1 .1 .1 .1 .1 .0) (x .last .1 .1 .1 .1 .1 .1 .1 .1 .1 .1 .0) (x .last .1 .1 .1 .1 .1 .1 .1 .1 .1 .1 .1 .0) (x .last .1 .1 .1 .1 .1 .1 .1 .1 .1 .1 .1 .1 .0) (x .last .1 .1 .1 .1 .1 .1 .1 .1 .1 .1 .1 .1 .1 .0)) (x .ensures) (sym (c .before .before .before .before .before .before .before .before .before .before .before .before .before .accepted .ensures) ∙ not-false _ (c .before .before .before .before .before .before .before .before .before .before .before .before .if3 .left)) (c .before .before .ending .result) (c .before .before .ending .ensures (x .last .1 .0) (x .last .1 .1 .0) (x .last .1 .1 .1 .0) (x .last .1 .1 .1 .1 .1 .1 .1 .1 .1 .1 .1 .0) (x .last .1 .1 .1 .1 .0)) (sym (c .before .accepted2 .ensures) ∙ not-true _ (c .if4 .taken))) refl
 
-put-frame-requires : tie.Need-put-frame-requires
-put-frame-requires c κs =
+put-append-requires : tie.Need-put-append-requires
+put-append-requires c κs =
     let a = c .before .before .before .before .before .before .before .before .before .before .before .before .before .before .before .before .before .before .before .before .before .before .before .before .before .before .before .before .before .before .before .before .before .before .before .before .before .before .before .before .before .args in
     let few : length (operationsIn (now (a .ops))) ≤ mostOperations = omega (arith, c .before .before .before .before .before .before .before .before .before .before .before .before .before .before .before .before .before .before .before .before .before .before .before .before .before .before .before .before .before .before .before .before .before .before .before .if1 .left, c .before .before .before .before .before .before .before .before .before .before .before .before .before .before .before .before .before .before .before .before .before .before .before .before .before .before .before .before .before .before .before .before .before .before .before .before .count .ensures) in
     let x = c .before .before .before .before .before .before .before .before .before .before .before .before .before .before .before .before .steps in
@@ -96,11 +96,11 @@ add-t27 c =
     let few : length (operationsIn (now (a .ops))) ≤ mostOperations = omega (arith, c .before .before .before .before .before .before .before .before .before .before .before .before .before .before .before .before .before .before .before .before .before .before .before .before .before .before .before .before .before .before .before .before .before .before .before .before .before .before .before .before .if1 .left, c .before .before .before .before .before .before .before .before .before .before .before .before .before .before .before .before .before .before .before .before .before .before .before .before .before .before .before .before .before .before .before .before .before .before .before .before .before .before .before .before .before .count .ensures) in
     let x = c .before .before .before .before .before .before .before .before .before .before .before .before .before .before .before .before .before .before .before .before .before .steps in
     let r = fits (now (a .ops)) (length (now (a .out))) (a .first) (columns (now (a .ids)) (now (a .shapes)) (now (a .lengths)) (now (a .names)) (now (a .locked)) (now (a .pair-tables)) (now (a .pair-rowsets)) (now (a .pair-added)) (now (a .pair-deleted)) (now (a .tables)) (now (a .rowsets)) (now (a .vectors)) (now (a .added)) (now (a .deleted))) few (c .before .before .before .before .before .before .before .before .before .before .before .before .before .before .before .before .before .before .before .before .before .before .before .before .before .before .before .before .before .before .before .before .before .before .before .before .before .before .if2 .left) (x .result) (columns (x .last .0) (x .last .1 .0) (x .last .1 .1 .0) (x .last .1 .1 .1 .0) (x .last .1 .1 .1 .1 .0) (x .last .1 .1 .1 .1 .1 .0) (x .last .1 .1 .1 .1 .1 .1 .0) (x .last .1 .1 .1 .1 .1 .1 .1 .0) (x .last .1 .1 .1 .1 .1 .1 .1 .1 .0) (x .last .1 .1 .1 .1 .1 .1 .1 .1 .1 .0) (x .last .1 .1 .1 .1 .1 .1 .1 .1 .1 .1 .0) (x .last .1 .1 .1 .1 .1 .1 .1 .1 .1 .1 .1 .0) (x .last .1 .1 .1 .1 .1 .1 .1 .1 .1 .1 .1 .1 .0) (x .last .1 .1 .1 .1 .1 .1 .1 .1 .1 .1 .1 .1 .1 .0)) (x .ensures) (sym (c .before .before .before .before .before .before .before .before .before .before .before .before .before .before .before .before .before .before .before .accepted .ensures) ∙ not-false _ (c .before .before .before .before .before .before .before .before .before .before .before .before .before .before .before .before .before .before .if3 .left)) (c .before .before .before .before .before .before .before .before .ending .result) (c .before .before .before .before .before .before .before .before .ending .ensures (x .last .1 .0) (x .last .1 .1 .0) (x .last .1 .1 .1 .0) (x .last .1 .1 .1 .1 .1 .1 .1 .1 .1 .1 .1 .0) (x .last .1 .1 .1 .1 .0)) (sym (c .before .before .before .before .before .before .before .accepted2 .ensures) ∙ not-false _ (c .before .before .before .before .before .before .if4 .left)) in
-    let h : x .result .held .manifest + (length (now (a .ops)) + 4) < 18446744073709551616 = omega (arith, r .0) in
+    let h : x .result .held .manifest + (length (now (a .ops)) + 6) < 18446744073709551616 = omega (arith, r .0) in
     record { fits = h }
 
 same-length : tie.Need-same-length
-same-length c = c .before .before .before .before .put-frame .kept .0
+same-length c = c .before .before .before .before .put-append .kept .0
 
 returns-5 : tie.Need-returns-5
 returns-5 c =
@@ -109,7 +109,7 @@ returns-5 c =
     let x = c .before .before .before .before .before .before .before .before .before .before .before .before .before .before .before .before .before .before .before .before .before .steps in
     let z = stepped-ready (now (a .ops)) (length (now (a .out))) (a .first) (columns (now (a .ids)) (now (a .shapes)) (now (a .lengths)) (now (a .names)) (now (a .locked)) (now (a .pair-tables)) (now (a .pair-rowsets)) (now (a .pair-added)) (now (a .pair-deleted)) (now (a .tables)) (now (a .rowsets)) (now (a .vectors)) (now (a .added)) (now (a .deleted))) few (c .before .before .before .before .before .before .before .before .before .before .before .before .before .before .before .before .before .before .before .before .before .before .before .before .before .before .before .before .before .before .before .before .before .before .before .before .before .before .if2 .left) (x .result) (columns (x .last .0) (x .last .1 .0) (x .last .1 .1 .0) (x .last .1 .1 .1 .0) (x .last .1 .1 .1 .1 .0) (x .last .1 .1 .1 .1 .1 .0) (x .last .1 .1 .1 .1 .1 .1 .0) (x .last .1 .1 .1 .1 .1 .1 .1 .0) (x .last .1 .1 .1 .1 .1 .1 .1 .1 .0) (x .last .1 .1 .1 .1 .1 .1 .1 .1 .1 .0) (x .last .1 .1 .1 .1 .1 .1 .1 .1 .1 .1 .0) (x .last .1 .1 .1 .1 .1 .1 .1 .1 .1 .1 .1 .0) (x .last .1 .1 .1 .1 .1 .1 .1 .1 .1 .1 .1 .1 .0) (x .last .1 .1 .1 .1 .1 .1 .1 .1 .1 .1 .1 .1 .1 .0)) (x .ensures) (sym (c .before .before .before .before .before .before .before .before .before .before .before .before .before .before .before .before .before .before .before .accepted .ensures) ∙ not-false _ (c .before .before .before .before .before .before .before .before .before .before .before .before .before .before .before .before .before .before .if3 .left)) in
     let o = commits (now (a .ops)) (length (now (a .out))) (a .first) (columns (now (a .ids)) (now (a .shapes)) (now (a .lengths)) (now (a .names)) (now (a .locked)) (now (a .pair-tables)) (now (a .pair-rowsets)) (now (a .pair-added)) (now (a .pair-deleted)) (now (a .tables)) (now (a .rowsets)) (now (a .vectors)) (now (a .added)) (now (a .deleted))) few (c .before .before .before .before .before .before .before .before .before .before .before .before .before .before .before .before .before .before .before .before .before .before .before .before .before .before .before .before .before .before .before .before .before .before .before .before .before .before .if2 .left) (x .result) (columns (x .last .0) (x .last .1 .0) (x .last .1 .1 .0) (x .last .1 .1 .1 .0) (x .last .1 .1 .1 .1 .0) (x .last .1 .1 .1 .1 .1 .0) (x .last .1 .1 .1 .1 .1 .1 .0) (x .last .1 .1 .1 .1 .1 .1 .1 .0) (x .last .1 .1 .1 .1 .1 .1 .1 .1 .0) (x .last .1 .1 .1 .1 .1 .1 .1 .1 .1 .0) (x .last .1 .1 .1 .1 .1 .1 .1 .1 .1 .1 .0) (x .last .1 .1 .1 .1 .1 .1 .1 .1 .1 .1 .1 .0) (x .last .1 .1 .1 .1 .1 .1 .1 .1 .1 .1 .1 .1 .0) (x .last .1 .1 .1 .1 .1 .1 .1 .1 .1 .1 .1 .1 .1 .0)) (x .ensures) (sym (c .before .before .before .before .before .before .before .before .before .before .before .before .before .before .before .before .before .before .before .accepted .ensures) ∙ not-false _ (c .before .before .before .before .before .before .before .before .before .before .before .before .before .before .before .before .before .before .if3 .left)) (c .before .before .before .before .before .before .before .before .ending .result) (c .before .before .before .before .before .before .before .before .ending .ensures (x .last .1 .0) (x .last .1 .1 .0) (x .last .1 .1 .1 .0) (x .last .1 .1 .1 .1 .1 .1 .1 .1 .1 .1 .1 .0) (x .last .1 .1 .1 .1 .0)) (sym (c .before .before .before .before .before .before .before .accepted2 .ensures) ∙ not-false _ (c .before .before .before .before .before .before .if4 .left)) in
-    commit-on _ _ _ _ _ _ _ (o .1) (o .0) (stepped-size (now (a .ops)) (length (now (a .out))) (a .first) (columns (now (a .ids)) (now (a .shapes)) (now (a .lengths)) (now (a .names)) (now (a .locked)) (now (a .pair-tables)) (now (a .pair-rowsets)) (now (a .pair-added)) (now (a .pair-deleted)) (now (a .tables)) (now (a .rowsets)) (now (a .vectors)) (now (a .added)) (now (a .deleted))) few (c .before .before .before .before .before .before .before .before .before .before .before .before .before .before .before .before .before .before .before .before .before .before .before .before .before .before .before .before .before .before .before .before .before .before .before .before .before .before .if2 .left) (x .result) (columns (x .last .0) (x .last .1 .0) (x .last .1 .1 .0) (x .last .1 .1 .1 .0) (x .last .1 .1 .1 .1 .0) (x .last .1 .1 .1 .1 .1 .0) (x .last .1 .1 .1 .1 .1 .1 .0) (x .last .1 .1 .1 .1 .1 .1 .1 .0) (x .last .1 .1 .1 .1 .1 .1 .1 .1 .0) (x .last .1 .1 .1 .1 .1 .1 .1 .1 .1 .0) (x .last .1 .1 .1 .1 .1 .1 .1 .1 .1 .1 .0) (x .last .1 .1 .1 .1 .1 .1 .1 .1 .1 .1 .1 .0) (x .last .1 .1 .1 .1 .1 .1 .1 .1 .1 .1 .1 .1 .0) (x .last .1 .1 .1 .1 .1 .1 .1 .1 .1 .1 .1 .1 .1 .0)) (x .ensures) (sym (c .before .before .before .before .before .before .before .before .before .before .before .before .before .before .before .before .before .before .before .accepted .ensures) ∙ not-false _ (c .before .before .before .before .before .before .before .before .before .before .before .before .before .before .before .before .before .before .if3 .left))) (record { fits = record { tables = z .fits .tables; rowsets = z .fits .rowsets; vectors = z .fits .vectors }; state = refl }) (c .before .before .before .before .put-frame .ensures ∙ ap (λ (r : List ℕ). over r (now (a .out))) (sym (stepped-frame (now (a .ops)) (length (now (a .out))) (a .first) (columns (now (a .ids)) (now (a .shapes)) (now (a .lengths)) (now (a .names)) (now (a .locked)) (now (a .pair-tables)) (now (a .pair-rowsets)) (now (a .pair-added)) (now (a .pair-deleted)) (now (a .tables)) (now (a .rowsets)) (now (a .vectors)) (now (a .added)) (now (a .deleted))) few (c .before .before .before .before .before .before .before .before .before .before .before .before .before .before .before .before .before .before .before .before .before .before .before .before .before .before .before .before .before .before .before .before .before .before .before .before .before .before .if2 .left) (x .result) (columns (x .last .0) (x .last .1 .0) (x .last .1 .1 .0) (x .last .1 .1 .1 .0) (x .last .1 .1 .1 .1 .0) (x .last .1 .1 .1 .1 .1 .0) (x .last .1 .1 .1 .1 .1 .1 .0) (x .last .1 .1 .1 .1 .1 .1 .1 .0) (x .last .1 .1 .1 .1 .1 .1 .1 .1 .0) (x .last .1 .1 .1 .1 .1 .1 .1 .1 .1 .0) (x .last .1 .1 .1 .1 .1 .1 .1 .1 .1 .1 .0) (x .last .1 .1 .1 .1 .1 .1 .1 .1 .1 .1 .1 .0) (x .last .1 .1 .1 .1 .1 .1 .1 .1 .1 .1 .1 .1 .0) (x .last .1 .1 .1 .1 .1 .1 .1 .1 .1 .1 .1 .1 .1 .0)) (x .ensures) (sym (c .before .before .before .before .before .before .before .before .before .before .before .before .before .before .before .before .before .before .before .accepted .ensures) ∙ not-false _ (c .before .before .before .before .before .before .before .before .before .before .before .before .before .before .before .before .before .before .if3 .left)))))
+    commit-on _ _ _ _ _ _ _ (o .1) (o .0) (stepped-size (now (a .ops)) (length (now (a .out))) (a .first) (columns (now (a .ids)) (now (a .shapes)) (now (a .lengths)) (now (a .names)) (now (a .locked)) (now (a .pair-tables)) (now (a .pair-rowsets)) (now (a .pair-added)) (now (a .pair-deleted)) (now (a .tables)) (now (a .rowsets)) (now (a .vectors)) (now (a .added)) (now (a .deleted))) few (c .before .before .before .before .before .before .before .before .before .before .before .before .before .before .before .before .before .before .before .before .before .before .before .before .before .before .before .before .before .before .before .before .before .before .before .before .before .before .if2 .left) (x .result) (columns (x .last .0) (x .last .1 .0) (x .last .1 .1 .0) (x .last .1 .1 .1 .0) (x .last .1 .1 .1 .1 .0) (x .last .1 .1 .1 .1 .1 .0) (x .last .1 .1 .1 .1 .1 .1 .0) (x .last .1 .1 .1 .1 .1 .1 .1 .0) (x .last .1 .1 .1 .1 .1 .1 .1 .1 .0) (x .last .1 .1 .1 .1 .1 .1 .1 .1 .1 .0) (x .last .1 .1 .1 .1 .1 .1 .1 .1 .1 .1 .0) (x .last .1 .1 .1 .1 .1 .1 .1 .1 .1 .1 .1 .0) (x .last .1 .1 .1 .1 .1 .1 .1 .1 .1 .1 .1 .1 .0) (x .last .1 .1 .1 .1 .1 .1 .1 .1 .1 .1 .1 .1 .1 .0)) (x .ensures) (sym (c .before .before .before .before .before .before .before .before .before .before .before .before .before .before .before .before .before .before .before .accepted .ensures) ∙ not-false _ (c .before .before .before .before .before .before .before .before .before .before .before .before .before .before .before .before .before .before .if3 .left))) (record { fits = record { tables = z .fits .tables; rowsets = z .fits .rowsets; vectors = z .fits .vectors }; state = refl }) (c .before .before .before .before .put-append .ensures ∙ ap (λ (r : List ℕ). over r (now (a .out))) (sym (stepped-append (now (a .ops)) (length (now (a .out))) (a .first) (columns (now (a .ids)) (now (a .shapes)) (now (a .lengths)) (now (a .names)) (now (a .locked)) (now (a .pair-tables)) (now (a .pair-rowsets)) (now (a .pair-added)) (now (a .pair-deleted)) (now (a .tables)) (now (a .rowsets)) (now (a .vectors)) (now (a .added)) (now (a .deleted))) few (c .before .before .before .before .before .before .before .before .before .before .before .before .before .before .before .before .before .before .before .before .before .before .before .before .before .before .before .before .before .before .before .before .before .before .before .before .before .before .if2 .left) (x .result) (columns (x .last .0) (x .last .1 .0) (x .last .1 .1 .0) (x .last .1 .1 .1 .0) (x .last .1 .1 .1 .1 .0) (x .last .1 .1 .1 .1 .1 .0) (x .last .1 .1 .1 .1 .1 .1 .0) (x .last .1 .1 .1 .1 .1 .1 .1 .0) (x .last .1 .1 .1 .1 .1 .1 .1 .1 .0) (x .last .1 .1 .1 .1 .1 .1 .1 .1 .1 .0) (x .last .1 .1 .1 .1 .1 .1 .1 .1 .1 .1 .0) (x .last .1 .1 .1 .1 .1 .1 .1 .1 .1 .1 .1 .0) (x .last .1 .1 .1 .1 .1 .1 .1 .1 .1 .1 .1 .1 .0) (x .last .1 .1 .1 .1 .1 .1 .1 .1 .1 .1 .1 .1 .1 .0)) (x .ensures) (sym (c .before .before .before .before .before .before .before .before .before .before .before .before .before .before .before .before .before .before .before .accepted .ensures) ∙ not-false _ (c .before .before .before .before .before .before .before .before .before .before .before .before .before .before .before .before .before .before .if3 .left)))))
 
 pub commit-lines-spec : {M : Type 1} → statement M
 commit-lines-spec =
@@ -129,7 +129,7 @@ commit-lines-spec =
     ending-requires
     accepted-requires-2
     returns-4
-    put-frame-requires
+    put-append-requires
     add-t27
     same-length
     returns-5)

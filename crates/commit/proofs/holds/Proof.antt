@@ -3,7 +3,7 @@ use mathlib.Core.Path.{sym, ap, _∙_}
 use Prim.Native.Nat.{_+_}
 use lib.ListN.{length}
 use Rattle.version_state.specs.State.{State, stateOf}
-use Rattle.frames.specs.Frames.{frameOf}
+use Rattle.commit.specs.Commit.{appendOf}
 use Rattle.commit.proofs.Stepwise.{steps-manifest}
 use Rattle.commit.proofs.Sounds.{accepts, commit-sound}
 use Rattle.commit.proofs.Older.{older-pairs, older-vectors}
@@ -17,7 +17,7 @@ returns c =
       epoch = λ m k os room s h. sym (ap (λ (t : State). t .epoch) (accepts (stateOf m) k os room s h .state));
       manifest = λ m k os room s h.
           let a = accepts (stateOf m) k os room s h in
-          sym (ap (λ (t : State). t .manifest) (a .state)) ∙ ap (λ n. n + length (frameOf os)) (steps-manifest (m .epoch + 1) os (stateOf m) (a .done) (a .steps));
+          sym (ap (λ (t : State). t .manifest) (a .state)) ∙ ap (λ n. n + length (appendOf os)) (steps-manifest (m .epoch + 1) os (stateOf m) (a .done) (a .steps));
       pairs = older-pairs;
       vectors = older-vectors;
     }

@@ -1,5 +1,5 @@
 -- `manifest::holds` meets its contract. Assumes nothing.
-use Rattle.manifest.proofs.Lines.{parse-line, text-parse, begin-parse, end-parse, read-back}
+use Rattle.manifest.proofs.Lines.{parse-line, parse-torn, text-parse, begin-parse, end-parse, read-back}
 use Rattle.manifest.proofs.Texts.{text-room}
 use Rattle.manifest.proofs.Split.{lines-on-append, rest-newline, lines-prefix}
 use Rattle.manifest.proofs.holds.Statement.{statement}
@@ -12,10 +12,11 @@ returns c =
       read = text-parse;
       begun = begin-parse;
       ended = end-parse;
+      marked = parse-torn;
       room = text-room;
       split = lines-on-append;
       whole = rest-newline;
-      torn = lines-prefix;
+      cut = lines-prefix;
       back = read-back;
     }
 

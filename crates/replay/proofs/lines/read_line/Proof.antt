@@ -1,7 +1,7 @@
 -- `replay::lines::read_line` meets its contract. Assumes nothing.
 use native.Mathlib.Omega.{arith}
 use Rattle.replay.specs.Working.{TurnIs}
-use Rattle.replay.proofs.Frames.{begin-turn, operation-turn}
+use Rattle.replay.proofs.Frames.{begin-turn, torn-turn, operation-turn}
 use Rattle.lists.proofs.Places.{known}
 use Rattle.replay.proofs.lines.read_line.Statement.{statement}
 use Rattle.replay.proofs.lines.read_line.Tie as tie
@@ -24,11 +24,20 @@ end-line-requires c κs = let g = c .before .before .before .before .before .bef
 enum-told-3 : tie.Need-enum-told-3
 enum-told-3 c = search known
 
-operation-line-requires : tie.Need-operation-line-requires
-operation-line-requires c κs = search known
+no-frame-requires : tie.Need-no-frame-requires
+no-frame-requires c κs = search known
+
+turned-requires : tie.Need-turned-requires
+turned-requires c κs = search known
 
 enum-told-4 : tie.Need-enum-told-4
 enum-told-4 c = search known
+
+operation-line-requires : tie.Need-operation-line-requires
+operation-line-requires c κs = search known
+
+enum-told-5 : tie.Need-enum-told-5
+enum-told-5 c = search known
 
 stopped-requires : tie.Need-stopped-requires
 stopped-requires c κs = search known
@@ -43,11 +52,17 @@ returns-2 : tie.Need-returns-2
 returns-2 c = rw (c .before .before .before .before .before .before .before .said .given .1, c .before .before .before .before .enum-told2 .given .1) (λ at f s b. c .before .before .end-line .ensures at (c .before .before .before .before .before .before .before .before .before .before .before .args .spot .next) f s b)
 
 returns-3 : tie.Need-returns-3
-returns-3 c = rw (c .before .before .before .before .said .given .1, c .before .enum-told3 .given .1) (λ at f s b. operation-turn _ _ _ _ _ at _ f (c .before .before .before .before .before .before .before .before .pre .0) b _ _ s (c .operation-line .ensures))
+returns-3 c =
+    let e = c .turned .ensures in
+    let n = c .before .no-frame .ensures in
+    rw (c .before .before .before .before .before .said .given .1, c .before .before .enum-told3 .given .1) (λ at f s b. torn-turn _ _ _ _ _ at _ f (c .before .before .before .before .before .before .before .before .before .pre .0) b _ (e .0) (e .1) (rw (e .2) (n .0)) (rw (e .2) (n .1 _)))
 
 returns-4 : tie.Need-returns-4
+returns-4 c = rw (c .before .before .before .before .said .given .1, c .before .enum-told4 .given .1) (λ at f s b. operation-turn _ _ _ _ _ at _ f (c .before .before .before .before .before .before .before .before .pre .0) b _ _ s (c .operation-line .ensures))
+
+returns-5 : tie.Need-returns-5
 unfolding TurnIs
-returns-4 c = rw (c .before .enum-told4 .given .1) (λ at f s b. c .stopped .ensures)
+returns-5 c = rw (c .before .enum-told5 .given .1) (λ at f s b. c .stopped .ensures)
 
 pub read-line-spec : {M : Type 1} → statement M
 read-line-spec =
@@ -59,11 +74,15 @@ read-line-spec =
     enum-told-2
     end-line-requires
     enum-told-3
-    operation-line-requires
+    no-frame-requires
+    turned-requires
     enum-told-4
+    operation-line-requires
+    enum-told-5
     stopped-requires
     returns
     same-length
     returns-2
     returns-3
-    returns-4)
+    returns-4
+    returns-5)
