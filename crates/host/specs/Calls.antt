@@ -20,6 +20,7 @@ use Rattle.version_manager.specs.declared.CommitAnswer.{CommitAnswer}
 use Rattle.version_manager.specs.declared.CreateAnswer.{CreateAnswer}
 use Rattle.version_manager.specs.declared.VacuumAnswer.{VacuumAnswer}
 use Rattle.version_manager.specs.declared.CheckpointAnswer.{CheckpointAnswer}
+use Rattle.version_manager.specs.declared.ReportAnswer.{ReportAnswer}
 use Rattle.version_manager.specs.Group.{groupTold, GroupSays}
 use Rattle.version_manager.specs.Commit.{commitTold, CommitSays}
 use Rattle.version_manager.specs.Create.{createTold, CreateSays}
@@ -27,6 +28,7 @@ use Rattle.version_manager.specs.Drop.{DropSays}
 use Rattle.version_manager.specs.Compact.{CompactSays}
 use Rattle.version_manager.specs.Vacuum.{vacuumTold, VacuumSays}
 use Rattle.version_manager.specs.Checkpoint.{checkpointTold, CheckpointSays}
+use Rattle.version_manager.specs.Report.{reportTold, ReportSays}
 use Rattle.version_manager.specs.Show.{ShowTablesSays, ShowPairsSays, ShowVectorsSays}
 use Rattle.version_manager.specs.Lock.{LockSays, UnlockSays}
 use Rattle.version_manager.specs.Select.{SelectSays}
@@ -93,6 +95,9 @@ VacuumTold m b ts rs r ts′ rs′ =
 abbrev pub CheckpointTold : VersionManager → List ℕ → Handed → List ℕ → Type 0
 CheckpointTold m out r out′ =
     Tells CheckpointAnswer checkpointTold (λ a. CheckpointSays m out (record { manager = r .manager; answer = a }) out′) (r .answer)
+
+abbrev pub ReportTold : VersionManager → PinBook → ℕ → Handed → Type 0
+ReportTold m b landed r = Tells ReportAnswer reportTold (λ a. ReportSays m b landed (record { manager = r .manager; answer = a })) (r .answer)
 
 abbrev pub ShowTablesTold : VersionManager → PinBook → ℕ → List ℕ → List ℕ → List ℕ → List ℕ → Answer → List ℕ → List ℕ → List ℕ → List ℕ → Type 0
 ShowTablesTold m b e is hs ls ns r is′ hs′ ls′ ns′ = Tells ShowAnswer showTold (λ a. ShowTablesSays m b e is hs ls ns a is′ hs′ ls′ ns′) r

@@ -14,6 +14,7 @@ use version_manager::CheckpointAnswer;
 use version_manager::CommitAnswer;
 use version_manager::CreateAnswer;
 use version_manager::GroupAnswer;
+use version_manager::ReportAnswer;
 use version_manager::RowsetAnswer;
 use version_manager::VacuumAnswer;
 use version_manager::VectorAnswer;
@@ -25,6 +26,7 @@ ghost use Rattle.version_manager.specs.Create.{createTold};
 ghost use Rattle.version_manager.specs.Group.{groupTold};
 ghost use Rattle.version_manager.specs.Vacuum.{vacuumTold};
 ghost use Rattle.version_manager.specs.Checkpoint.{checkpointTold};
+ghost use Rattle.version_manager.specs.Report.{reportTold};
 ghost use Rattle.compactor.specs.Says.{selectTold};
 ghost use Rattle.show.specs.Says.{showTold};
 ghost use Rattle.version_manager.specs.Draw.{rowsetTold, vectorTold};
@@ -178,6 +180,15 @@ pub fn checkpointed(answer: CheckpointAnswer) -> Answer
     match answer {
         CheckpointAnswer::Rewritten(n) => one(size(n)),
         CheckpointAnswer::Refused(why) => refused(why),
+    }
+}
+
+pub fn reported(answer: ReportAnswer) -> Answer
+    ensures { λ r. ⌜ saidBy r ≡ reportTold answer ⌝ }
+{
+    match answer {
+        ReportAnswer::TakenBack(epoch, n) => two(wide(epoch), size(n)),
+        ReportAnswer::Refused(why) => refused(why),
     }
 }
 

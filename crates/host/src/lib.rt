@@ -6,7 +6,7 @@ use pins::PinBook;
 use version_manager::Opened;
 use version_manager::VersionManager;
 ghost use Rattle.version_manager.specs.Managers.{FreshSays};
-ghost use Rattle.host.specs.Calls.{WriteTold, ReadTold, MemoryTold, MaskTold, DrawRowsetTold, DrawVectorTold, GroupTold, CommitTold, CreateTold, DropTold, CompactTold, VacuumTold, CheckpointTold, ShowTablesTold, ShowPairsTold, ShowVectorsTold, LockTold, UnlockTold, SelectTold, ReopenTold, PinTold, UnpinTold};
+ghost use Rattle.host.specs.Calls.{WriteTold, ReadTold, MemoryTold, MaskTold, DrawRowsetTold, DrawVectorTold, GroupTold, CommitTold, CreateTold, DropTold, CompactTold, VacuumTold, CheckpointTold, ReportTold, ShowTablesTold, ShowPairsTold, ShowVectorsTold, LockTold, UnlockTold, SelectTold, ReopenTold, PinTold, UnpinTold};
 
 pub mod answers;
 pub mod arguments;
@@ -195,6 +195,17 @@ pub extern "C" fn seqapti_checkpoint(manager: VersionManager, out: &mut [u8]) ->
     let done = manager.checkpoint(out);
     let told = done.answer;
     let answer = answers::checkpointed(told);
+    let manager = done.manager;
+    Handed { manager, answer }
+}
+
+#[no_mangle]
+pub extern "C" fn seqapti_report(manager: VersionManager, book: PinBook, landed: usize) -> Handed
+    ensures { λ r. ⌜ ReportTold manager book landed r ⌝ }
+{
+    let done = manager.report(book, landed);
+    let told = done.answer;
+    let answer = answers::reported(told);
     let manager = done.manager;
     Handed { manager, answer }
 }

@@ -29,7 +29,7 @@ fresh-refused r f =
       valid = subst (λ (l : List PinEntry). allOf (validPin (current (r .manager))) l ≡ true) q refl;
       ordered = subst (λ (l : List PinEntry). ascending byPlace l ≡ true) q refl;
     }))
-    (eq-eqb (current (r .manager)) 0 (ap (λ (t : State). t .epoch) (f .manager .state))))
+    (eq-eqb (current (r .manager)) 0 (ap (λ (t : State). t .epoch) (f .manager .hands .state))))
 
 pub pin-cases : PinCases
 pin-cases = record { fresh = λ r f a b s. s .answer ∙ ap (λ (v : Verdict). told v (current (r .manager) ∷ [])) (fresh-refused r f) }

@@ -36,8 +36,8 @@ module _ (target : ℕ) where
     selects : told (verdict false three 0) (length (selected 0 target (40 ∷ 70 ∷ 20 ∷ []) three) ∷ []) ≡ record { number = 0; place = 0; values = n ∷ [] }
         → after (verdict false three 0) (over (selected 0 target (40 ∷ 70 ∷ 20 ∷ []) three) (9 ∷ 9 ∷ 9 ∷ [])) (9 ∷ 9 ∷ 9 ∷ []) ≡ l
         → Selects target n l
-    selects x y m t h e r out w =
-        (w .answer ∙ answers (badManager m) (heldBy m) (t .0) (passes three m h three-good) (h .state) e, w .rowsets ∙ leaves (badManager m) (heldBy m) (t .0) (passes three m h three-good) (h .state) e)
+    selects x y m t h f e r out w =
+        (w .answer ∙ answers (badManager m) (heldBy m) (t .0) (passes three m h f three-good) (h .state) e, w .rowsets ∙ leaves (badManager m) (heldBy m) (t .0) (passes three m h f three-good) (h .state) e)
       where
         answers : (b : Bool) (s : State) (u : ℕ) → b ≡ false → s ≡ three → u ≡ 0
             → told (verdict b s u) (length (selected u target (40 ∷ 70 ∷ 20 ∷ []) s) ∷ []) ≡ record { number = 0; place = 0; values = n ∷ [] }

@@ -13,7 +13,7 @@ use Rattle.text.specs.Decimal.{digitsBy, digits}
 use Rattle.text.specs.Name.{isNameByte, isName}
 use Rattle.manifest.specs.Lines.{fieldsText, textOf}
 use Rattle.snapshot.specs.Entries.{Entry, goneAt, shownAt, within}
-use Rattle.version_state.specs.State.{State}
+use Rattle.version_state.specs.State.{State, Hands}
 use Rattle.version_state.specs.Sound.{leftBehind}
 use Rattle.version_state.proofs.Facts.{Ordered, of-sound}
 use Rattle.operations.specs.Steps.{stepOf}
@@ -24,7 +24,7 @@ use Rattle.pins.proofs.Facts.{book-good}
 use Rattle.vacuum.specs.LetGo.{vacuumList, vacuumed}
 use Rattle.vacuum.specs.Says.{boundOf, listOf}
 use Rattle.version_manager.specs.declared.VersionManager.{VersionManager}
-use Rattle.version_manager.specs.Managers.{heldBy, badManager, Manages}
+use Rattle.version_manager.specs.Managers.{heldBy, badFormer, badManager}
 use Rattle.log_book.specs.Vacuums.{two, cleared, Lists, VacuumCases}
 
 -- what 29 asks of a state
@@ -46,12 +46,13 @@ record Computed (s : State) (l : List PinEntry) (es : List Entry) (t : State) : 
   fewer : ltb 1 (length es) ≡ false
   leaves : vacuumed (bound (guardsBy (s .epoch) l)) s ≡ t
 
-module _ (s : State) (m : VersionManager) (h : Manages m s) where
+module _ (s : State) (m : VersionManager) (h : Hands (m .inner) s) (f : badFormer m ≡ false) where
   pub passes : Good s → badManager m ≡ false
   passes g =
       let k = subst Good (sym (h .state)) g in
-      of-sound (m .inner)
-      (record { fits = h .fits; manifest = k .manifest; names = k .names; ordered = k .ordered; below = k .below; pairs = k .pairs; vectors = k .vectors; whole = k .whole })
+      let i = of-sound (m .inner)
+      (record { fits = h .fits; manifest = k .manifest; names = k .names; ordered = k .ordered; below = k .below; pairs = k .pairs; vectors = k .vectors; whole = k .whole }) in
+      rw (i, f)
 
   module _ (l : List PinEntry) (b : PinBook) (k : Keeps b l) where
     good-pins : allOf (validPin (s .epoch)) l ≡ true → ascending byPlace l ≡ true → badBook (heldBy m .epoch) b ≡ false
@@ -92,10 +93,10 @@ vacuum-cases =
       adds = refl;
       pins = refl;
       deletes = refl;
-      pinned = λ m b h k. lists _ m h _ b k _ _ (record { good = two-good; valid = refl; rising = refl; list = refl; fewer = refl; leaves = refl });
+      pinned = λ m b h f k. lists _ m h f _ b k _ _ (record { good = two-good; valid = refl; rising = refl; list = refl; fewer = refl; leaves = refl });
       unpins = refl;
-      unpinned = λ m b h k. lists _ m h _ b k _ _ (record { good = two-good; valid = refl; rising = refl; list = refl; fewer = refl; leaves = refl });
-      then = λ m b h k. lists _ m h _ b k _ _ (record { good = cleared-good; valid = refl; rising = refl; list = refl; fewer = refl; leaves = refl });
+      unpinned = λ m b h f k. lists _ m h f _ b k _ _ (record { good = two-good; valid = refl; rising = refl; list = refl; fewer = refl; leaves = refl });
+      then = λ m b h f k. lists _ m h f _ b k _ _ (record { good = cleared-good; valid = refl; rising = refl; list = refl; fewer = refl; leaves = refl });
       pinsLater = refl;
-      ownEpoch = λ m b h k. lists _ m h _ b k _ _ (record { good = two-good; valid = refl; rising = refl; list = refl; fewer = refl; leaves = refl });
+      ownEpoch = λ m b h f k. lists _ m h f _ b k _ _ (record { good = two-good; valid = refl; rising = refl; list = refl; fewer = refl; leaves = refl });
     }

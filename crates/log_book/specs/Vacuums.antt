@@ -6,7 +6,7 @@ use Rattle.ids.specs.declared.refusal.Verdict.the-variants.{Accepted}
 use Rattle.ids.specs.Results.{given}
 use Rattle.manifest.specs.Operations.{createTable, addRowset, deleteRowset}
 use Rattle.snapshot.specs.Entries.{Entry}
-use Rattle.version_state.specs.State.{State, start}
+use Rattle.version_state.specs.State.{State, start, Hands}
 use Rattle.commit.specs.Commit.{commitOf}
 use Rattle.pins.specs.declared.PinBook.{PinBook}
 use Rattle.pins.specs.Book.{PinEntry, placeOn, Keeps}
@@ -14,7 +14,7 @@ use Rattle.pins.specs.Counts.{withPin, withoutPin}
 use Rattle.vacuum.specs.LetGo.{vacuumed}
 use Rattle.vacuum.specs.Says.{boundOf, listOf}
 use Rattle.version_manager.specs.declared.VersionManager.{VersionManager}
-use Rattle.version_manager.specs.Managers.{heldBy, badManager, Manages}
+use Rattle.version_manager.specs.Managers.{heldBy, badFormer, badManager}
 use Rattle.version_manager.specs.Draw.{rowsetDrawn}
 use Rattle.version_manager.specs.Vacuum.{vacuumVerdict}
 use Rattle.log_book.specs.Manifests.{slots, table}
@@ -50,9 +50,9 @@ pub record Lists (m : VersionManager) (b : PinBook) (es : List Entry) (s : State
   pub list : listOf (heldBy m) b ≡ es
   pub leaves : vacuumed (boundOf (heldBy m) b) (heldBy m) ≡ s
 
--- the same of every manager that stands for s and every book that stands for the pins l
+-- the same of every manager that stands for s, whatever it keeps that passes 29, and of every book that stands for the pins l
 abbrev pub Vacuum : State → List PinEntry → List Entry → State → Type 0
-Vacuum s l es t = (m : VersionManager) (b : PinBook) → Manages m s → Keeps b l → Lists m b es t
+Vacuum s l es t = (m : VersionManager) (b : PinBook) → Hands (m .inner) s → badFormer m ≡ false → Keeps b l → Lists m b es t
 
 pub record VacuumCases : Type 0 where
   -- a pair is added at epoch 1 and pinned there, and deleted at 2

@@ -13,6 +13,7 @@ use Rattle.ids.specs.Results.{given, onward}
 use Rattle.version_state.specs.State.{State, start}
 use Rattle.pins.specs.Book.{Keeps}
 use Rattle.version_manager.specs.Managers.{Manages}
+use Rattle.version_manager.proofs.Managers.{manages}
 use Rattle.rewrite.specs.declared.Rewrote.{Rewrote}
 use Rattle.rewrite.specs.Rewritten.{rewrittenOf}
 use Rattle.rewrite.specs.Says.{rewriteRules, withRewritten, RewriteIs}
@@ -31,11 +32,11 @@ module _ (s : State) (out : List ℕ) (v : Rewrote) (out′ : List ℕ) (i : Rew
   pub opened-no : (k : Refusal) → v .verdict ≡ Refused k → reopenTold (r .answer) ≡ told (Refused k) [] → Manages (r .manager) start → Keeps (r .book) [] → ReopenIs (openedOf (length out) s) out r out′
   opened-no k e a m b = outcome (Refused k) e (a, m, b, bytes (Refused k) e)
 
-  pub opened-yes : v .verdict ≡ Accepted → r .manager .inner ≡ v .inner → Keeps (r .book) [] → r .answer ≡ answer.Rewritten (v .length) → ReopenIs (openedOf (length out) s) out r out′
+  pub opened-yes : v .verdict ≡ Accepted → (r .manager .inner ≡ v .inner) × (r .manager .append ≡ 0) → Keeps (r .book) [] → r .answer ≡ answer.Rewritten (v .length) → ReopenIs (openedOf (length out) s) out r out′
   opened-yes e m b a =
       outcome Accepted e (
         ap reopenTold a ∙ ap (λ (n : ℕ). told Accepted (n ∷ [])) (i .counted),
-        rw m (i .inner e),
+        manages (r .manager) (v .inner) _ m (i .inner e),
         b,
         bytes Accepted e,
       )
