@@ -27,7 +27,7 @@ use Rattle.version_manager.proofs.Laws.{checkpoint-laws}
 use Rattle.plain_record.specs.Calls.{asCheckpoint}
 use Rattle.plain_record.specs.Plain.{Plain, gone, Record, recorded, turn}
 use Rattle.plain_record.specs.Run.{port, noAppend, World, world, isAccepted, value, replaced, DidCheckpoint}
-use Rattle.plain_record.proofs.Invariant.{Filed, Torn, Inv}
+use Rattle.plain_record.proofs.Invariant.{Filed, Torn, Inv, passes}
 use Rattle.plain_record.proofs.Landed.{landed}
 use Rattle.plain_record.proofs.CommitIds.{Rise, next-rise}
 use Rattle.plain_record.proofs.Stands.{Stands, stands-of, of-stands, shows-now, refused-stands, by-verdict}
@@ -51,7 +51,7 @@ module _ (w : World) (t : Told) (l : List (List ℕ)) (v : World) (out : List �
 
   -- the manifest that it replaces holds what the manager shows, and so does the new one
   c : Replaces (i .file .state) (w .manager .inner)
-  c = replaces (w .file) (i .file .state) (w .manager .inner) (i .file .holds) (i .file .same) (i .sound) (d .narrow)
+  c = replaces (w .file) (i .file .state) (w .manager .inner) (i .file .holds) (i .file .same) (passes w r i) (d .narrow)
 
   rise : Rise s (c .state)
   rise = subst (λ (n : Next). Risen (nextOf s) n) (sym (c .next)) (record { table = omega arith; rowset = omega arith; vector = omega arith })
@@ -67,7 +67,7 @@ module _ (w : World) (t : Told) (l : List (List ℕ)) (v : World) (out : List �
       record { book = i .book; epoch = i .epoch; tables = i .tables; pairs = i .pairs; vectors = i .vectors; pins = i .pins; waiting = i .waiting; next = next-rise s (withRewritten s) (p .added) (record { table = omega arith; rowset = omega arith; vector = omega arith }) (i .next); file = filed }
 
   old-torn : Torn (w .file) p
-  old-torn = landed (w .file) s p (sound-of (w .manager .inner) (i .sound) .manifest) (shows-now s (w .book) (w .file) p stood) (i .file)
+  old-torn = landed (w .file) s p (sound-of (w .manager .inner) (passes w r i) .manifest) (shows-now s (w .book) (w .file) p stood) (i .file)
 
   new-torn : Torn new p
   new-torn = landed new (withRewritten s) p (omega (arith, c .room)) (shows-now s (w .book) (w .file) p stood) filed
@@ -76,8 +76,8 @@ module _ (w : World) (t : Told) (l : List (List ℕ)) (v : World) (out : List �
   handed-on q =
       let k = subst (λ (x : Verdict). HandsBack x (w .manager) (withRewritten s) m) q (d .says .manager) in
       of-stands m (w .book) new (cond stale (w .file) new) noAppend p p gone (r .place + 1) (checkpoint-laws .sound (w .manager) out (d .result) (d .left) (d .says) q)
-      (subst (λ (u : State). Stands u (w .book) new p) (sym (k .state)) stands)
-      (replaced-torn (w .file) new p stale old-torn new-torn)
+      (subst (λ (u : State). Stands u (w .book) new p) (sym (k .hands .state)) stands)
+      (replaced-torn (w .file) new p stale old-torn new-torn) (k .nothing)
 
   tells : t ≡ told verdict (length new ∷ [])
   tells = d .told ∙ d .says .answer

@@ -15,12 +15,12 @@ use Rattle.lists.proofs.Tests.{by-cases}
 use Rattle.manifest.specs.Operations.{Operation}
 use Rattle.frames.proofs.Texts.{frame-long}
 use Rattle.version_state.specs.declared.VersionManagerInner.{VersionManagerInner}
-use Rattle.version_state.specs.State.{State, stateOf, Hands}
+use Rattle.version_state.specs.State.{State, stateOf, withEpoch, Hands}
 use Rattle.version_state.specs.Sets as shows
 use Rattle.version_state.specs.Sound.{badInner}
 use Rattle.commit.specs.Commit.{appendOf, commitOf}
 use Rattle.recovery.specs.Holds as manifest
-use Rattle.recovery.proofs.Appending.{holds-replayed, torn-replayed, whole-appended}
+use Rattle.recovery.proofs.Appending.{holds-replayed, cut-holds, whole-appended}
 use Rattle.plain_record.specs.Sets.{applyAll}
 use Rattle.plain_record.specs.Plain.{Plain, counted}
 use Rattle.plain_record.proofs.Invariant.{plainSets, Filed, Torn}
@@ -69,11 +69,25 @@ module _ (f : List ℕ) (p : Plain) (m n : VersionManagerInner) (z : ℕ) (os : 
   short-cut j =
       omega (arith, length-append f (take j (appendOf os)), length-take j (appendOf os), i .long, commit-fits m z os room s b h)
 
+  cut : (j : ℕ) → j < length (appendOf os) → manifest.Holds (f ++ take j (appendOf os)) (i .state)
+  cut j l = cut-holds f (i .state) (i .holds) os j (commit-well m z os room s b h f (i .state) (i .holds) (i .same)) (commit-few m z os room s b h few) l
+
+  -- with fewer bytes of the append than all
+  pub filed-cut : (j : ℕ) → j < length (appendOf os) → Filed (f ++ take j (appendOf os)) (withEpoch (stateOf m) (m .epoch) (m .manifest + j)) p
+  filed-cut j l =
+      record {
+        state = i .state;
+        holds = cut j l;
+        same = i .same;
+        long = omega (arith, length-append f (take j (appendOf os)), length-take j (appendOf os), i .long);
+        next = i .next;
+      }
+
   torn-cut : (j : ℕ) → j < length (appendOf os) → plainSets (stateOf m) ≡ p .now → Torn (f ++ take j (appendOf os)) p
   torn-cut j l q =
       record {
         state = i .state;
-        replayed = torn-replayed f (i .state) os j (i .holds) (commit-well m z os room s b h f (i .state) (i .holds) (i .same)) (commit-few m z os room s b h few) l (short-cut j);
+        replayed = holds-replayed (f ++ take j (appendOf os)) (i .state) (cut j l) (short-cut j);
         sets = sym (sets-plain (stateOf m) (i .state) (i .same)) ∙ q;
         next = i .next;
       }

@@ -20,7 +20,7 @@ use Rattle.version_manager.specs.Managers.{heldBy}
 use Rattle.plain_record.specs.Calls.{Kind, quiet, asCommit, asPin, asUnpin, asVacuum, asReport, asCheckpoint, asReopen, kindOf}
 use Rattle.plain_record.specs.Plain.{Waiting, byEpochAndPair, epochOf, deletion, deletions, await, counted, withPins, guardsIn, listed, Plain, Former, gone, former, takenOff, Record, atStart, turn}
 use Rattle.plain_record.specs.Run.{Event, isAccepted, value}
-use Rattle.plain_record.specs.Claim.{pairsOf, differ, AnswerBy, nextRecord, isVacuum, isReopen, reports, takenBack, vacuums, frees, isIt, another, removes, lists, Listing, NeverListed, ListedFirst, deletionsBy, EachListed, Deletions}
+use Rattle.plain_record.specs.Claim.{pairsOf, differ, AnswerBy, nextRecord, isVacuum, isReopen, isReport, isPinning, takenBack, vacuums, frees, isIt, another, removes, lists, Listing, NeverListed, ListedFirst, deletionsBy, EachListed, Deletions}
 
 abbrev FormerBelow : ℕ → Former → Type 0
 FormerBelow n gone = Unit {0}
@@ -165,10 +165,6 @@ SettledBy d (former q) p = All (Alike d) (q .waiting) × (anyOf (isIt d) (q .wai
 abbrev Settled : Waiting → Record → Type 0
 Settled d r = SettledBy d (r .former) (r .whole)
 
--- an accepted report
-abbrev isReport : Kind → Bool
-isReport k = reports k false
-
 -- an accepted reopen
 abbrev reopens : Event → Bool
 reopens e = isReopen (kindOf (e .call)) && isAccepted (e .told)
@@ -267,7 +263,7 @@ module _ (d : Waiting) where
   abbrev Steady : Record → List Event → Type 0
   Steady r es = Settled d r ⊎ (takenBack es ≡ false)
 
-  steady-turn : (k : Kind) (a : Bool) (id : ℕ) (r : Record) (es : List Event) → Tagged d r → cond a (reports k (takenBack es)) (takenBack es) ≡ false → Steady (turn k a id r) es
+  steady-turn : (k : Kind) (a : Bool) (id : ℕ) (r : Record) (es : List Event) → Tagged d r → cond (a && not (isPinning k)) (isReport k) (takenBack es) ≡ false → Steady (turn k a id r) es
   steady-turn quiet true id r es t n = inl tt
   steady-turn (asCommit made missing) true id r es t n = inl (settled-commit (made id (r .whole .now)) r t)
   steady-turn asPin true id r es t n = inr n
@@ -278,7 +274,7 @@ module _ (d : Waiting) where
   steady-turn (asReopen lent) true id r es t n = inl tt
   steady-turn k false id r es t n = inr n
 
-  none-reports : {P : Type 0} (k : Kind) (a : Bool) (later : Bool) → cond a (reports k later) later ≡ false → isReport k && a ≡ true → P
+  none-reports : {P : Type 0} (k : Kind) (a : Bool) (later : Bool) → cond (a && not (isPinning k)) (isReport k) later ≡ false → isReport k && a ≡ true → P
   none-reports quiet a later n h = clash h refl
   none-reports (asCommit made missing) a later n h = clash h refl
   none-reports asPin a later n h = clash h refl

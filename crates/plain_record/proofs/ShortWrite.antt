@@ -15,8 +15,8 @@ use Rattle.plain_record.specs.Calls.{Call, Kind, quiet, asCommit, asPin,
 use Rattle.plain_record.specs.Plain.{Plain, epochOf, guardsIn, former, Record, atStart, turn}
 use Rattle.plain_record.specs.Run.{World, Event, isAccepted, value, port, Chain, lastOf}
 use Rattle.plain_record.specs.Shows.{ShowsTables, ShowsPairs, ShowsVectors}
-use Rattle.plain_record.specs.Claim.{Agrees, nextRecord, recordOf, Claim}
-use Rattle.plain_record.specs.ShortWrite.{ShowsNow, isPinning, onlyPins, ShortWrite}
+use Rattle.plain_record.specs.Claim.{Agrees, isPinning, nextRecord, recordOf, Claim}
+use Rattle.plain_record.specs.ShortWrite.{ShowsNow, onlyPins, ShortWrite}
 use Rattle.plain_record.proofs.CommitShows.{shows-now}
 use Rattle.plain_record.proofs.Story.{chain-front, chain-back, last-append, record-append}
 

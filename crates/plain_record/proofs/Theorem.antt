@@ -23,6 +23,7 @@ use Rattle.plain_record.proofs.Commit.{commit-keeps, create-keeps, drop
 use Rattle.plain_record.proofs.Pin.{pin-kept, pin-answers}
 use Rattle.plain_record.proofs.Unpin.{unpin-kept}
 use Rattle.plain_record.proofs.Vacuum.{vacuum-kept, vacuum-lists}
+use Rattle.plain_record.proofs.Report.{report-kept, report-refused, report-answers}
 use Rattle.plain_record.proofs.Checkpoint.{checkpoint-kept, checkpoint-accepted}
 use Rattle.plain_record.proofs.Reopen.{empty-book, reopen-keeps, reopen-accepted}
 use Rattle.plain_record.proofs.Through.{claimed}
@@ -34,7 +35,7 @@ nothing-yet = record { state = withEpoch start reopened 0; replayed = holds-repl
 
 start-inv : (o : Opened) → FreshSays o → Inv (world (o .manager) (o .book) [] [] noAppend) atStart
 start-inv o f =
-    let z = f .manager .state in
+    let z = f .manager .hands .state in
     record {
       sound = draw-laws .fresh o f;
       book = empty-book (o .manager .inner .epoch) (o .book) (f .book);
@@ -54,6 +55,7 @@ start-inv o f =
             next = refl;
           };
       torn = nothing-yet;
+      recalled = f .manager .nothing;
     }
 
 pub starts : (w : World) → Starts port w → Inv w atStart
@@ -79,7 +81,11 @@ turned (vacuum ts rs) e r i d =
       inv = vacuum-kept (e .before) r (e .told) (e .listed) (e .after) ts rs i d (value 0 (e .told));
       answer = vacuum-lists (e .before) r (e .told) (e .listed) (e .after) ts rs i d;
     }
-turned (report n) e r i d = absurd (d .says)
+turned (report n) e r i d =
+    record {
+      inv = report-kept (e .before) r (e .told) (e .listed) (e .after) n i d (value 0 (e .told));
+      answer = (report-refused (e .before) r (e .told) (e .listed) (e .after) n i d, report-answers (e .before) r (e .told) (e .listed) (e .after) n i d);
+    }
 turned (checkpoint out stale) e r i d =
     record {
       inv = checkpoint-kept (e .before) (e .told) (e .listed) (e .after) out stale r i d (value 0 (e .told));

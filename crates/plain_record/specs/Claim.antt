@@ -157,21 +157,32 @@ ListedFirst w r (e ∷ es) =
 abbrev pub neverReopened : List Event → Bool
 neverReopened es = not (anyOf (λ (e : Event). isReopen (kindOf (e .call)) && isAccepted (e .told)) es)
 
--- an accepted call by which it is settled whether the commit before it is reported: `later` says so of the calls after it
-abbrev pub reports : Kind → Bool → Bool
-reports quiet later = false
-reports (asCommit made missing) later = false
-reports asPin later = later
-reports (asUnpin e) later = later
-reports asVacuum later = false
-reports (asReport n) later = true
-reports (asCheckpoint lent) later = false
-reports (asReopen lent) later = false
+abbrev pub isReport : Kind → Bool
+isReport quiet = false
+isReport (asCommit made missing) = false
+isReport asPin = false
+isReport (asUnpin e) = false
+isReport asVacuum = false
+isReport (asReport n) = true
+isReport (asCheckpoint lent) = false
+isReport (asReopen lent) = false
 
--- of the events after a commit: it is reported, no accepted calls but pins and unpins before the report
+abbrev pub isPinning : Kind → Bool
+isPinning quiet = false
+isPinning (asCommit made missing) = false
+isPinning asPin = true
+isPinning (asUnpin e) = true
+isPinning asVacuum = false
+isPinning (asReport n) = false
+isPinning (asCheckpoint lent) = false
+isPinning (asReopen lent) = false
+
+-- of the events after a commit: the first accepted call that is no pin and no unpin is its report
 abbrev pub takenBack : List Event → Bool
 takenBack [] = false
-takenBack (e ∷ es) = cond (isAccepted (e .told)) (reports (kindOf (e .call)) (takenBack es)) (takenBack es)
+takenBack (e ∷ es) =
+    let k = kindOf (e .call) in
+    cond (isAccepted (e .told) && not (isPinning k)) (isReport k) (takenBack es)
 
 -- the deletions of an accepted call that answers id
 abbrev pub deletionsBy : Record → ℕ → Kind → List Waiting

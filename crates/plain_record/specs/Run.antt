@@ -26,6 +26,7 @@ use Rattle.version_manager.specs.declared.Locked.{Locked}
 use Rattle.version_manager.specs.declared.Committed.{Committed}
 use Rattle.version_manager.specs.declared.Created.{Created}
 use Rattle.version_manager.specs.declared.Vacuumed.{Vacuumed}
+use Rattle.version_manager.specs.declared.Reported.{Reported}
 use Rattle.version_manager.specs.declared.Checkpointed.{Checkpointed}
 use Rattle.version_manager.specs.Managers.{heldBy, FreshSays}
 use Rattle.version_manager.specs.Draw.{rowsetTold, vectorTold, DrawRowsetSays, DrawVectorSays}
@@ -36,6 +37,7 @@ use Rattle.version_manager.specs.Create.{createTold, CreateSays}
 use Rattle.version_manager.specs.Drop.{DropSays}
 use Rattle.version_manager.specs.Compact.{CompactSays}
 use Rattle.version_manager.specs.Vacuum.{vacuumTold, VacuumSays}
+use Rattle.version_manager.specs.Report.{reportTold, ReportSays}
 use Rattle.version_manager.specs.Checkpoint.{checkpointTold, CheckpointSays}
 use Rattle.version_manager.specs.Show.{ShowTablesSays, ShowPairsSays, ShowVectorsSays}
 use Rattle.pinning.specs.declared.PinAnswer.{PinAnswer}
@@ -60,7 +62,7 @@ pub record Steps : Type 1 where
   pub pin : VersionManager → PinBook → PinAnswer → PinBook → Type 0
   pub unpin : VersionManager → ℕ → PinBook → UnpinAnswer → PinBook → Type 0
   pub vacuum : VersionManager → PinBook → List ℕ → List ℕ → Vacuumed → List ℕ → List ℕ → Type 0
-  pub report : VersionManager → PinBook → ℕ → Checkpointed → Type 0
+  pub report : VersionManager → PinBook → ℕ → Reported → Type 0
   pub checkpoint : VersionManager → List ℕ → Checkpointed → List ℕ → Type 0
   pub reopen : List ℕ → List ℕ → Reopened → List ℕ → Type 0
   pub showTables : VersionManager → PinBook → ℕ → List ℕ → List ℕ → List ℕ → List ℕ → ShowAnswer → List ℕ → List ℕ → List ℕ → List ℕ → Type 0
@@ -84,7 +86,7 @@ port =
       pin = PinSays;
       unpin = UnpinSays;
       vacuum = VacuumSays;
-      report = λ m b n r. ⊥;
+      report = ReportSays;
       checkpoint = CheckpointSays;
       reopen = ReopenSays;
       showTables = ShowTablesSays;
@@ -137,9 +139,8 @@ onward m b t w = world m b (w .file) (cond (isAccepted t) (w .file) (w .torn)) (
 -- the append of a commit, of n bytes, of which the last ones may be missing
 abbrev pub afterCommit : VersionManager → Told → ℕ → List ℕ → ℕ → World → World
 afterCommit m t n out missing w =
-    cond (isAccepted t)
-    (world m (w .book) (w .file ++ take n out) (w .file ++ take (n - missing) out) (append (w .file) (take n out)))
-    (world m (w .book) (w .file) (w .torn) (w .last))
+    let a = isAccepted t in
+    world m (w .book) (cond a (w .file ++ take n out) (w .file)) (cond a (w .file ++ take (n - missing) out) (w .torn)) (cond a (append (w .file) (take n out)) (w .last))
 
 -- the file with so many bytes of the last append
 abbrev pub reported : ℕ → World → List ℕ
@@ -148,7 +149,7 @@ reported n w = w .last .before ++ take n (w .last .bytes)
 -- a report says how far the last append landed, whatever was taken for it so far
 abbrev pub afterReport : VersionManager → Told → ℕ → World → World
 afterReport m t n w =
-    cond (isAccepted t) (world m (w .book) (reported n w) (reported n w) noAppend) (world m (w .book) (w .file) (w .torn) (w .last))
+    world m (w .book) (cond (isAccepted t) (reported n w) (w .file)) (cond (isAccepted t) (reported n w) (w .torn)) (w .last)
 
 -- a rewritten manifest replaces the old one whole; only where the next accepted call is a reopen may the old one still stand
 abbrev pub replaced : VersionManager → PinBook → List ℕ → List ℕ → Bool → World
@@ -276,9 +277,9 @@ module _ (S : Steps) (w : World) (t : Told) (l : List (List ℕ)) (v : World) wh
     pub after : v ≡ onward (result .manager) (w .book) t w
 
   pub record DidReport (landed : ℕ) : Type 0 where
-    pub result : Checkpointed
+    pub result : Reported
     pub says : S .report (w .manager) (w .book) landed result
-    pub told : t ≡ checkpointTold (result .answer)
+    pub told : t ≡ reportTold (result .answer)
     pub none : l ≡ []
     pub after : v ≡ afterReport (result .manager) t landed w
 

@@ -1,15 +1,16 @@
 -- A commit that came short, the report of it, a further commit and a reopen: what is shown is what was shown before the first commit, followed by
 -- the operations of the further one. Nothing is lost and nothing doubled. Assumes nothing.
 use mathlib.Core.Path.{_≡_}
-use mathlib.Core.Bool.{Bool, true, false, not, _||_}
+use mathlib.Core.Bool.{Bool, true, not, _||_}
 use mathlib.Core.List.{List, [], _∷_, _++_}
 use Prim.Native.Nat.{ℕ}
 use Rattle.lists.specs.Keyed.{allOf}
 use Rattle.manifest.specs.Operations.{Operation}
 use Rattle.version_manager.specs.Managers.{heldBy}
 use Rattle.plain_record.specs.Sets.{Sets, applyAll}
-use Rattle.plain_record.specs.Calls.{commit, report, reopen, Kind, quiet, asCommit, asPin, asUnpin, asVacuum, asReport, asCheckpoint, asReopen, kindOf}
+use Rattle.plain_record.specs.Calls.{commit, report, reopen, asCommit, kindOf}
 use Rattle.plain_record.specs.Run.{Steps, World, Event, isAccepted, Chain, Starts}
+use Rattle.plain_record.specs.Claim.{isPinning}
 use Rattle.plain_record.specs.Shows.{ShowsTables, ShowsPairs, ShowsVectors}
 
 -- the current epoch shows the sets z
@@ -19,16 +20,6 @@ pub record ShowsNow (S : Steps) (w : World) (z : Sets) : Type 0 where
   pub vectors : ShowsVectors S w (heldBy (w .manager) .epoch) (z .vectors)
 
 -- it may stand between a commit and its report
-abbrev pub isPinning : Kind → Bool
-isPinning quiet = false
-isPinning (asCommit made missing) = false
-isPinning asPin = true
-isPinning (asUnpin e) = true
-isPinning asVacuum = false
-isPinning (asReport n) = false
-isPinning (asCheckpoint lent) = false
-isPinning (asReopen lent) = false
-
 abbrev pub onlyPins : Event → Bool
 onlyPins e = not (isAccepted (e .told)) || isPinning (kindOf (e .call))
 
