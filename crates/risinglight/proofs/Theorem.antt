@@ -30,7 +30,7 @@ use Rattle.risinglight.proofs.Refused.{refused-manager}
 
 unreported-one : (x y : Bool) → x && y ≡ false → y ≡ true → x ≡ false
 unreported-one true true h a = h
-unreported-one true false h a = clash refl a
+unreported-one true false h a = clash a refl
 unreported-one false y h a = refl
 
 -- Call after call.
