@@ -10,6 +10,7 @@ use pinning::PinAnswer;
 use pinning::UnpinAnswer;
 use version_manager::CommitAnswer;
 use version_manager::CreateAnswer;
+use version_manager::ReportAnswer;
 use version_manager::RowsetAnswer;
 use version_manager::VectorAnswer;
 
@@ -133,6 +134,21 @@ pub fn created(answer: CreateAnswer, output: &mut Output) -> usize {
             append(epoch, n, output)
         }
         CreateAnswer::Refused(why) => no_append(why, output),
+    }
+}
+
+// Whether the report is accepted.
+pub fn reported(answer: ReportAnswer, output: &mut Output) -> bool {
+    match answer {
+        ReportAnswer::TakenBack(epoch, n) => {
+            first(b"reported", epoch as u64, output);
+            last(n as u64, output);
+            true
+        }
+        ReportAnswer::Refused(why) => {
+            refusal(why, output);
+            false
+        }
     }
 }
 

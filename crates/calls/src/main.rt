@@ -25,6 +25,7 @@ mod changes;
 mod compactions;
 mod group;
 mod host;
+mod reports;
 mod rewrites;
 mod world;
 
@@ -84,6 +85,7 @@ fn call(
         Word::Fresh => changes::fresh(next, s, output),
         Word::Checkpoint => rewrites::checkpoint(next, s, room, file, old, output),
         Word::Reopen => rewrites::reopen(next, s, room, file, old, output),
+        Word::Report => reports::report(next, s, output),
         Word::Appended(word) => appends::appended(next, word, s, room, file, output),
         Word::Unwritten(word) => unwritten(next, word, s, room, output),
         Word::Plain(word) => plain(world, word, s, file, old, scratch, output),

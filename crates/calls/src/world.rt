@@ -84,6 +84,12 @@ impl Host {
         host
     }
 
+    // So many bytes of the last append are there, and it is not cut any more.
+    pub fn reported(self, n: usize) -> Host {
+        let cut = self.cut(n);
+        Host::whole(cut.len)
+    }
+
     pub fn with_room(self, room: usize) -> Host {
         let mut host = self;
         host.room = room;

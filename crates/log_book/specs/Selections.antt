@@ -19,7 +19,7 @@ use Rattle.log_book.specs.Manifests.{slots, table}
 
 -- table 0 with the rowsets 0, 1, 2
 abbrev pub three : State
-three = record { epoch = 1; nextTable = 1; nextRowset = 3; nextVector = 0; tables = table ∷ []; pairs = addedAt 1 (0 ∷ 0 ∷ []) ∷ addedAt 1 (0 ∷ 1 ∷ []) ∷ addedAt 1 (0 ∷ 2 ∷ []) ∷ []; vectors = []; manifest = 34 }
+three = record { epoch = 1; nextTable = 1; nextRowset = 3; nextVector = 0; tables = table ∷ []; pairs = addedAt 1 (0 ∷ 0 ∷ []) ∷ addedAt 1 (0 ∷ 1 ∷ []) ∷ addedAt 1 (0 ∷ 2 ∷ []) ∷ []; vectors = []; manifest = 36 }
 
 -- a selection for the target among table 0's rowsets of these sizes, lent three places that hold 9, answers n and leaves l in them
 abbrev pub Selects : ℕ → ℕ → List ℕ → Type 0
@@ -27,7 +27,7 @@ Selects target n l = (m : VersionManager) (t : TableNo) → Hands (m .inner) thr
     → (selectTold r ≡ record { number = 0; place = 0; values = n ∷ [] }) × (out ≡ l)
 
 pub record SelectionCases : Type 0 where
-  pub adds : commitOf (rowsetDrawn (rowsetDrawn (rowsetDrawn start))) 4 (createTable 0 7 slots ∷ addRowset 0 0 ∷ addRowset 0 1 ∷ addRowset 0 2 ∷ []) 34 ≡ given three
+  pub adds : commitOf (rowsetDrawn (rowsetDrawn (rowsetDrawn start))) 4 (createTable 0 7 slots ∷ addRowset 0 0 ∷ addRowset 0 1 ∷ addRowset 0 2 ∷ []) 36 ≡ given three
   -- the second is passed over and the third still fits; one alone is none
   pub target60 : Selects 60 2 (0 ∷ 2 ∷ 9 ∷ [])
   pub target59 : Selects 59 0 (9 ∷ 9 ∷ 9 ∷ [])

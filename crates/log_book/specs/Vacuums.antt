@@ -28,13 +28,13 @@ pair = record { ids = 0 ∷ 0 ∷ []; added = 1; deleted = 2 }
 
 -- the pair is added at epoch 1, deleted at 2, and let go
 abbrev pub one : State
-one = record { epoch = 1; nextTable = 1; nextRowset = 1; nextVector = 0; tables = table ∷ []; pairs = shownPair ∷ []; vectors = []; manifest = 22 }
+one = record { epoch = 1; nextTable = 1; nextRowset = 1; nextVector = 0; tables = table ∷ []; pairs = shownPair ∷ []; vectors = []; manifest = 24 }
 
 abbrev pub two : State
-two = record { epoch = 2; nextTable = 1; nextRowset = 1; nextVector = 0; tables = table ∷ []; pairs = pair ∷ []; vectors = []; manifest = 32 }
+two = record { epoch = 2; nextTable = 1; nextRowset = 1; nextVector = 0; tables = table ∷ []; pairs = pair ∷ []; vectors = []; manifest = 36 }
 
 abbrev pub cleared : State
-cleared = record { epoch = 2; nextTable = 1; nextRowset = 1; nextVector = 0; tables = table ∷ []; pairs = []; vectors = []; manifest = 32 }
+cleared = record { epoch = 2; nextTable = 1; nextRowset = 1; nextVector = 0; tables = table ∷ []; pairs = []; vectors = []; manifest = 36 }
 
 -- one pin on epoch 1 alone, one on 2 alone
 abbrev pub on1 : List PinEntry
@@ -56,9 +56,9 @@ Vacuum s l es t = (m : VersionManager) (b : PinBook) → Hands (m .inner) s → 
 
 pub record VacuumCases : Type 0 where
   -- a pair is added at epoch 1 and pinned there, and deleted at 2
-  pub adds : commitOf (rowsetDrawn start) 2 (createTable 0 7 slots ∷ addRowset 0 0 ∷ []) 22 ≡ given one
+  pub adds : commitOf (rowsetDrawn start) 2 (createTable 0 7 slots ∷ addRowset 0 0 ∷ []) 24 ≡ given one
   pub pins : withPin (placeOn 1) [] ≡ on1
-  pub deletes : commitOf one 1 (deleteRowset 0 0 ∷ []) 10 ≡ given two
+  pub deletes : commitOf one 1 (deleteRowset 0 0 ∷ []) 12 ≡ given two
   -- the pin keeps it; without the pin it is listed, and once
   pub pinned : Vacuum two on1 [] two
   pub unpins : withoutPin (placeOn 1) on1 ≡ []

@@ -46,6 +46,9 @@ fn show(classes: &[u8; 256], s: &[u8])
             ManifestOperation::End => {
                 io::write_all(STDOUT_FILENO, b"end\n");
             }
+            ManifestOperation::Torn => {
+                io::write_all(STDOUT_FILENO, b"torn\n");
+            }
             ManifestOperation::Epoch(op) => show_change(Change { op, name }),
         },
         ParsedLine::Bad => {

@@ -33,7 +33,7 @@ use Rattle.plain_record.specs.Plain.{Waiting, Plain, epochOf, guardsIn, 
 use Rattle.plain_record.specs.Run.{port, World}
 use Rattle.plain_record.specs.Shows.{nineAlone, namesOf, ShowsPairs, ShowsVectors, ShowsTables}
 use Rattle.plain_record.specs.Claim.{waitingIn, waitingOf, pairsOf, differ, Agrees}
-use Rattle.plain_record.proofs.Invariant.{plainTable, Inv, guards-alike}
+use Rattle.plain_record.proofs.Invariant.{plainTable, Inv, passes, guards-alike}
 
 -- three rules that do not hold are passed over
 past-three : (a b c : Bool) (i j k : Refusal) (s : Bool) (q : Refusal) → a ≡ false → b ≡ false → c ≡ false
@@ -174,7 +174,7 @@ agree w r i =
       vectors = λ d h. subst (ShowsVectors port w d) (i .vectors d (seen d h)) (vectors-shown w (i .sound) (i .book) d (shows d h));
       book = i .pins;
       waiting = i .waiting;
-      apart = pairs-apart (heldBy (w .manager)) (r .whole) (ascend-to byIds (heldBy (w .manager) .pairs) (sound-of (w .manager .inner) (i .sound) .ordered .pairs)) (i .waiting);
+      apart = pairs-apart (heldBy (w .manager)) (r .whole) (ascend-to byIds (heldBy (w .manager) .pairs) (sound-of (w .manager .inner) (passes w r i) .ordered .pairs)) (i .waiting);
       next = i .next;
       manifest = sym (i .file .long);
     }

@@ -25,9 +25,9 @@ use Rattle.version_manager.specs.Managers.{heldBy, HandsBack}
 use Rattle.version_manager.specs.Checkpoint.{checkpointVerdict}
 use Rattle.version_manager.proofs.Laws.{checkpoint-laws}
 use Rattle.plain_record.specs.Calls.{asCheckpoint}
-use Rattle.plain_record.specs.Plain.{Plain, Record, recorded, turn}
-use Rattle.plain_record.specs.Run.{port, World, world, isAccepted, value, replaced, DidCheckpoint}
-use Rattle.plain_record.proofs.Invariant.{Filed, Torn, Inv}
+use Rattle.plain_record.specs.Plain.{Plain, gone, Record, recorded, turn}
+use Rattle.plain_record.specs.Run.{port, noAppend, World, world, isAccepted, value, replaced, DidCheckpoint}
+use Rattle.plain_record.proofs.Invariant.{Filed, Torn, Inv, passes}
 use Rattle.plain_record.proofs.Landed.{landed}
 use Rattle.plain_record.proofs.CommitIds.{Rise, next-rise}
 use Rattle.plain_record.proofs.Stands.{Stands, stands-of, of-stands, shows-now, refused-stands, by-verdict}
@@ -51,7 +51,7 @@ module _ (w : World) (t : Told) (l : List (List ℕ)) (v : World) (out : List �
 
   -- the manifest that it replaces holds what the manager shows, and so does the new one
   c : Replaces (i .file .state) (w .manager .inner)
-  c = replaces (w .file) (i .file .state) (w .manager .inner) (i .file .holds) (i .file .same) (i .sound) (d .narrow)
+  c = replaces (w .file) (i .file .state) (w .manager .inner) (i .file .holds) (i .file .same) (passes w r i) (d .narrow)
 
   rise : Rise s (c .state)
   rise = subst (λ (n : Next). Risen (nextOf s) n) (sym (c .next)) (record { table = omega arith; rowset = omega arith; vector = omega arith })
@@ -67,17 +67,17 @@ module _ (w : World) (t : Told) (l : List (List ℕ)) (v : World) (out : List �
       record { book = i .book; epoch = i .epoch; tables = i .tables; pairs = i .pairs; vectors = i .vectors; pins = i .pins; waiting = i .waiting; next = next-rise s (withRewritten s) (p .added) (record { table = omega arith; rowset = omega arith; vector = omega arith }) (i .next); file = filed }
 
   old-torn : Torn (w .file) p
-  old-torn = landed (w .file) s p (sound-of (w .manager .inner) (i .sound) .manifest) (shows-now s (w .book) (w .file) p stood) (i .file)
+  old-torn = landed (w .file) s p (sound-of (w .manager .inner) (passes w r i) .manifest) (shows-now s (w .book) (w .file) p stood) (i .file)
 
   new-torn : Torn new p
   new-torn = landed new (withRewritten s) p (omega (arith, c .room)) (shows-now s (w .book) (w .file) p stood) filed
 
-  handed-on : verdict ≡ Accepted → Inv (replaced m (w .book) (w .file) new stale) (recorded p p (r .place + 1))
+  handed-on : verdict ≡ Accepted → Inv (replaced m (w .book) (w .file) new stale) (recorded p p gone (r .place + 1))
   handed-on q =
       let k = subst (λ (x : Verdict). HandsBack x (w .manager) (withRewritten s) m) q (d .says .manager) in
-      of-stands m (w .book) new (cond stale (w .file) new) p p (r .place + 1) (checkpoint-laws .sound (w .manager) out (d .result) (d .left) (d .says) q)
-      (subst (λ (u : State). Stands u (w .book) new p) (sym (k .state)) stands)
-      (replaced-torn (w .file) new p stale old-torn new-torn)
+      of-stands m (w .book) new (cond stale (w .file) new) noAppend p p gone (r .place + 1) (checkpoint-laws .sound (w .manager) out (d .result) (d .left) (d .says) q)
+      (subst (λ (u : State). Stands u (w .book) new p) (sym (k .hands .state)) stands)
+      (replaced-torn (w .file) new p stale old-torn new-torn) (k .nothing)
 
   tells : t ≡ told verdict (length new ∷ [])
   tells = d .told ∙ d .says .answer
@@ -92,7 +92,7 @@ module _ (w : World) (t : Told) (l : List (List ℕ)) (v : World) (out : List �
   pub checkpoint-kept : (id : ℕ) → Inv v (turn (asCheckpoint (length out)) (isAccepted t) id r)
   checkpoint-kept id =
       subst (λ (u : World). Inv u (turn (asCheckpoint (length out)) (isAccepted t) id r)) (sym (d .after))
-      (by-verdict (λ a. Inv (cond a (replaced m (w .book) (w .file) (take (value 0 t) (d .left)) stale) (world m (w .book) (w .file) (w .torn))) (turn (asCheckpoint (length out)) a id r)) verdict (length new ∷ []) t tells
+      (by-verdict (λ a. Inv (cond a (replaced m (w .book) (w .file) (take (value 0 t) (d .left)) stale) (world m (w .book) (w .file) (w .torn) (w .last))) (turn (asCheckpoint (length out)) a id r)) verdict (length new ∷ []) t tells
       (λ q. rw (bytes q) (handed-on q))
       (λ j q. refused-stands w r m (w .book) (subst (λ (x : Verdict). HandsBack x (w .manager) (withRewritten s) m) q (d .says .manager)) refl i))
 

@@ -11,17 +11,18 @@ use Rattle.lists.specs.Written.{over}
 use Rattle.ids.specs.Answers.{Told, told, after}
 use Rattle.ids.specs.Results.{Result, refused, given}
 use Rattle.manifest.specs.Operations.{Operation}
-use Rattle.frames.specs.Frames.{frameOf}
 use Rattle.version_state.specs.State.{State, pairsAt, vectorsAt}
+use Rattle.version_state.specs.Sound.{badInner}
 use Rattle.pins.specs.Guards.{guardsOf, bound}
 use Rattle.pins.proofs.Bound.{bound-le, bound-rises}
 use Rattle.pins.proofs.Books.{book-later}
 use Rattle.commit.specs.Commit.{commitOf, appendOf}
-use Rattle.commit.proofs.Sounds.{commit-sound}
 use Rattle.commit.proofs.Older.{older-pairs, older-vectors}
 use Rattle.version_manager.specs.declared.VersionManager.{VersionManager}
 use Rattle.version_manager.specs.declared.Committed.{Committed}
-use Rattle.version_manager.specs.Managers.{heldBy, HandsBack, badManager, Manages}
+use Rattle.version_manager.specs.Managers.{heldBy, badManager, Follows, HandsOn}
+use Rattle.version_manager.proofs.Managers.{inner-passes}
+use Rattle.version_manager.proofs.Laws.{commit-passes}
 use Rattle.version_manager.specs.Commit.{outcomeOf, commitTold, CommitEnds}
 use Rattle.ids.specs.declared.refusal.Verdict.{Verdict}
 use Rattle.ids.specs.declared.refusal.Verdict.the-variants.{Accepted, Refused}
@@ -39,16 +40,16 @@ use Rattle.version_manager.specs.Drop.{dropVerdict}
 use Rattle.version_manager.specs.Compact.{compactVerdict}
 use Rattle.plain_record.specs.Sets.{Sets, applyAll}
 use Rattle.plain_record.specs.Calls.{asCommit}
-use Rattle.plain_record.specs.Plain.{byEpochAndPair, deletions, await, setsAt, counted, idsOf, Record, counts, turn}
-use Rattle.plain_record.specs.Run.{port, World, world, isAccepted, value, afterCommit, DidCommit, DidCreate, DidDrop, DidCompact}
+use Rattle.plain_record.specs.Plain.{byEpochAndPair, deletions, await, epochOf, setsAt, counted, idsOf, Record, counts, turn}
+use Rattle.plain_record.specs.Run.{port, append, World, world, isAccepted, value, afterCommit, DidCommit, DidCreate, DidDrop, DidCompact}
 use Rattle.plain_record.specs.Claim.{waitingIn, waitingOf, belowNext}
-use Rattle.plain_record.proofs.Invariant.{plainSets, Inv}
+use Rattle.plain_record.proofs.Invariant.{plainSets, Recalls, Inv, passes}
 use Rattle.plain_record.proofs.Refused.{refused-number}
 use Rattle.plain_record.proofs.CommitSets.{plainAt}
 use Rattle.plain_record.proofs.CommitShows.{later-pairs, later-vectors, shows-on, shows-now}
 use Rattle.plain_record.proofs.CommitState.{commit-epoch, commit-sets, commit-waits, commit-next}
 use Rattle.plain_record.proofs.Stands.{inv-stays}
-use Rattle.plain_record.proofs.CommitFile.{append-taken, filed-after, torn-after}
+use Rattle.plain_record.proofs.CommitFile.{append-taken, filed-after, filed-cut, torn-after}
 
 -- what the manager shows from now on is the record's last sets
 pub now-at : (w : World) (r : Record) → Inv w r → (d : ℕ) → w .manager .inner .epoch ≤ d → plainAt d (heldBy (w .manager)) ≡ r .whole .now
@@ -60,29 +61,32 @@ now-at w r i d h =
     rw (i .tables, p, v)
 
 -- Accepted: m is the manager before, n the one after.
-module _ (w : World) (r : Record) (i : Inv w r) (z : ℕ) (os : List Operation) (few : length os ≤ z) (room : ℕ) (n : VersionManager) (s : State) (h : commitOf (heldBy (w .manager)) z os room ≡ given s) (k : Manages n s) where
+module _ (w : World) (r : Record) (i : Inv w r) (z : ℕ) (os : List Operation) (few : length os ≤ z) (room : ℕ) (n : VersionManager) (s : State) (h : commitOf (heldBy (w .manager)) z os room ≡ given s) (k : Follows n s (heldBy (w .manager)) (length (appendOf os))) where
+  good : badInner (w .manager .inner) ≡ false
+  good = passes w r i
+
   epoch-after : n .inner .epoch ≡ w .manager .inner .epoch + 1
-  epoch-after = ap (λ (t : State). t .epoch) (k .state) ∙ commit-epoch (w .manager .inner) z os room s (i .sound) h
+  epoch-after = ap (λ (t : State). t .epoch) (k .hands .state) ∙ commit-epoch (w .manager .inner) z os room s good h
 
   sound-after : badManager n ≡ false
-  sound-after = commit-sound (w .manager .inner) (n .inner) z os room s (i .sound) h k
+  sound-after = commit-passes (w .manager) n z os room s (i .sound) h k
 
   sets-after : plainAt (w .manager .inner .epoch + 1) (heldBy n) ≡ applyAll os (r .whole .now)
   sets-after =
-      ap (plainAt (w .manager .inner .epoch + 1)) (k .state)
-      ∙ commit-sets (w .manager .inner) z os room s (i .sound) h (r .whole .now) (now-at w r i (w .manager .inner .epoch + 1) (omega arith))
+      ap (plainAt (w .manager .inner .epoch + 1)) (k .hands .state)
+      ∙ commit-sets (w .manager .inner) z os room s good h (r .whole .now) (now-at w r i (w .manager .inner .epoch + 1) (omega arith))
 
   pairs-old : (d : ℕ) → d ≤ w .manager .inner .epoch → pairsAt d (heldBy n) ≡ pairsAt d (heldBy (w .manager))
-  pairs-old d q = ap (pairsAt d) (k .state) ∙ older-pairs (w .manager .inner) z os room s (i .sound) h d q
+  pairs-old d q = ap (pairsAt d) (k .hands .state) ∙ older-pairs (w .manager .inner) z os room s good h d q
 
   vectors-old : (d : ℕ) → d ≤ w .manager .inner .epoch → vectorsAt d (heldBy n) ≡ vectorsAt d (heldBy (w .manager))
-  vectors-old d q = ap (vectorsAt d) (k .state) ∙ older-vectors (w .manager .inner) z os room s (i .sound) h d q
+  vectors-old d q = ap (vectorsAt d) (k .hands .state) ∙ older-vectors (w .manager .inner) z os room s good h d q
 
   pairs-late : (d : ℕ) → w .manager .inner .epoch + 1 ≤ d → pairsAt d (heldBy n) ≡ pairsAt (w .manager .inner .epoch + 1) (heldBy n)
-  pairs-late d = subst (λ (e : ℕ). e ≤ d → pairsAt d (heldBy n) ≡ pairsAt e (heldBy n)) epoch-after (later-pairs (n .inner) d sound-after)
+  pairs-late d = subst (λ (e : ℕ). e ≤ d → pairsAt d (heldBy n) ≡ pairsAt e (heldBy n)) epoch-after (later-pairs (n .inner) d (inner-passes n sound-after))
 
   vectors-late : (d : ℕ) → w .manager .inner .epoch + 1 ≤ d → vectorsAt d (heldBy n) ≡ vectorsAt (w .manager .inner .epoch + 1) (heldBy n)
-  vectors-late d = subst (λ (e : ℕ). e ≤ d → vectorsAt d (heldBy n) ≡ vectorsAt e (heldBy n)) epoch-after (later-vectors (n .inner) d sound-after)
+  vectors-late d = subst (λ (e : ℕ). e ≤ d → vectorsAt d (heldBy n) ≡ vectorsAt e (heldBy n)) epoch-after (later-vectors (n .inner) d (inner-passes n sound-after))
 
   abbrev low : ℕ
   low = bound (guardsOf (heldBy (w .manager)) (w .book))
@@ -107,14 +111,29 @@ module _ (w : World) (r : Record) (i : Inv w r) (z : ℕ) (os : List Operation) 
 
   waiting-after : waitingIn (heldBy n) ≡ waitingOf (counted (r .place) os (r .whole))
   waiting-after =
-      ap waitingIn (k .state)
-      ∙ commit-waits (w .manager .inner) z os room s (i .sound) h (r .place) (r .whole .waiting) (i .waiting)
+      ap waitingIn (k .hands .state)
+      ∙ commit-waits (w .manager .inner) z os room s good h (r .place) (r .whole .waiting) (i .waiting)
       ∙ ap (λ (e : ℕ). map byEpochAndPair (await (deletions (r .place) (e + 1) 0 os) (r .whole .waiting))) (i .epoch)
 
   plain-after : plainSets (heldBy n) ≡ applyAll os (r .whole .now)
   plain-after = ap (λ (e : ℕ). plainAt e (heldBy n)) epoch-after ∙ sets-after
 
-  commit-inv : (missing : ℕ) → Inv (world n (w .book) (w .file ++ frameOf os) (w .file ++ take (length (frameOf os) - missing) (frameOf os))) (counts os missing r)
+  -- what was held before it is kept, wherever the append was cut off
+  recalls : Recalls (heldBy (w .manager)) (length (appendOf os)) (w .book) (append (w .file) (appendOf os)) (r .whole) (epochOf (counted (r .place) os (r .whole)))
+  recalls =
+      record {
+        current = omega (arith, i .epoch, length-append (r .whole .past) (r .whole .now ∷ []));
+        long = refl;
+        epoch = i .epoch;
+        tables = i .tables;
+        pairs = i .pairs;
+        vectors = i .vectors;
+        waiting = i .waiting;
+        next = i .next;
+        cut = filed-cut (w .file) (r .whole) (w .manager .inner) (n .inner) z os room s good few h (k .hands) (r .place) (i .file);
+      }
+
+  commit-inv : (missing : ℕ) → Inv (world n (w .book) (w .file ++ appendOf os) (w .file ++ take (length (appendOf os) - missing) (appendOf os)) (append (w .file) (appendOf os))) (counts os missing r)
   commit-inv missing =
       let p = r .whole in
       let m = w .manager .inner in
@@ -127,28 +146,29 @@ module _ (w : World) (r : Record) (i : Inv w r) (z : ℕ) (os : List Operation) 
         vectors = vectors-after;
         pins = i .pins;
         waiting = waiting-after;
-        next = subst (λ (u : State). allOf (belowNext u) (p .added ++ idsOf os) ≡ true) (sym (k .state)) (commit-next m z os room s (i .sound) h (p .added) (i .next));
-        file = filed-after (w .file) p m (n .inner) z os room s (i .sound) few h k (r .place) (i .file);
-        torn = torn-after (w .file) p m (n .inner) z os room s (i .sound) few h k (r .place) (i .file) missing (now-at w r i (m .epoch) (omega arith)) plain-after;
+        next = subst (λ (u : State). allOf (belowNext u) (p .added ++ idsOf os) ≡ true) (sym (k .hands .state)) (commit-next m z os room s good h (p .added) (i .next));
+        file = filed-after (w .file) p m (n .inner) z os room s good few h (k .hands) (r .place) (i .file);
+        torn = torn-after (w .file) p m (n .inner) z os room s good few h (k .hands) (r .place) (i .file) missing (now-at w r i (m .epoch) (omega arith)) plain-after;
+        recalled = rw (k .former .state, k .append) recalls;
       }
 
 -- A call that counts as a commit: it hands on the manager n and leaves its buffer as lent. It answers the id, at which the operations
 -- may look, and the length b of the append.
 module _ (w : World) (r : Record) (i : Inv w r) (made : ℕ → Sets → List Operation) (missing : ℕ) (t : Told) (b : ℕ) (n : VersionManager) (lent : List ℕ) where
-  pub accepted-kept : (z : ℕ) (os : List Operation) (out : List ℕ) (s : State) → isAccepted t ≡ true → b ≡ length (frameOf os) → made (value 0 t) (r .whole .now) ≡ os
-      → length os ≤ z → commitOf (heldBy (w .manager)) z os (length out) ≡ given s → Manages n s → lent ≡ over (frameOf os) out
+  pub accepted-kept : (z : ℕ) (os : List Operation) (out : List ℕ) (s : State) → isAccepted t ≡ true → b ≡ length (appendOf os) → made (value 0 t) (r .whole .now) ≡ os
+      → length os ≤ z → commitOf (heldBy (w .manager)) z os (length out) ≡ given s → Follows n s (heldBy (w .manager)) (length (appendOf os)) → lent ≡ over (appendOf os) out
       → Inv (afterCommit n t b lent missing w) (turn (asCommit made missing) (isAccepted t) (value 0 t) r)
   accepted-kept z os out s a e c few h k q =
-      let f = frameOf os in
+      let f = appendOf os in
       let x : take (length f) lent ≡ f = ap (take (length f)) q ∙ append-taken f out (length f) (omega arith) ∙ take-all (length f) f (omega arith) in
       let y : take (length f - missing) lent ≡ take (length f - missing) f = ap (take (length f - missing)) q ∙ append-taken f out (length f - missing) (omega arith) in
       rw (a, e, c, x, y) (commit-inv w r i z os few (length out) n s h k missing)
 
   pub refused-kept : isAccepted t ≡ false → n ≡ w .manager → Inv (afterCommit n t b lent missing w) (turn (asCommit made missing) (isAccepted t) (value 0 t) r)
-  refused-kept a q = rw a (inv-stays w (world n (w .book) (w .file) (w .torn)) r (r .place + 1) q refl refl refl i)
+  refused-kept a q = rw a (inv-stays w (world n (w .book) (w .file) (w .torn) (w .last)) r (r .place + 1) q refl refl refl refl i)
 
   -- one that is judged by rules of its own, and that the commit accepts where these pass
-  pub made-kept : (x : Verdict) (os : List Operation) (vs out : List ℕ) → t ≡ told x vs → HandsBack x (w .manager) (committed os (heldBy (w .manager))) n → lent ≡ after x (over (appendOf os) out) out
+  pub made-kept : (x : Verdict) (os : List Operation) (vs out : List ℕ) → t ≡ told x vs → HandsOn x (w .manager) (committed os (heldBy (w .manager))) (length (appendOf os)) n → lent ≡ after x (over (appendOf os) out) out
       → (x ≡ Accepted → (b ≡ length (appendOf os)) × (made (value 0 t) (r .whole .now) ≡ os) × Accepts (heldBy (w .manager)) os (length out))
       → Inv (afterCommit n t b lent missing w) (turn (asCommit made missing) (isAccepted t) (value 0 t) r)
   made-kept Accepted os vs out e k q h =
@@ -190,7 +210,7 @@ module _ (w : World) (t : Told) (l : List (List ℕ)) (v : World) (shape : ℕ) 
       rw (d .after)
       (made-kept w r i (λ id z. createOperations id shape name) missing t (value 2 t) (d .result .manager) (d .left) x os vs out e (d .says .manager) (d .says .bytes)
       (λ a. let q : t ≡ told Accepted vs = e ∙ ap (λ (y : Verdict). told y vs) a in
-      (ap (value 2) q, ap (λ (y : Told). createOperations (value 0 y) shape name) q, made-laws .create (w .manager .inner) shape name (length out) (i .sound) (d .narrow) (rw (i .sound) at a))))
+      (ap (value 2) q, ap (λ (y : Told). createOperations (value 0 y) shape name) q, made-laws .create (w .manager .inner) shape name (length out) (passes w r i) (d .narrow) (rw (i .sound) at a))))
 
 -- A drop.
 module _ (w : World) (t : Told) (l : List (List ℕ)) (v : World) (n : ℕ) (out : List ℕ) (missing : ℕ) (r : Record) (i : Inv w r) where
@@ -204,7 +224,7 @@ module _ (w : World) (t : Told) (l : List (List ℕ)) (v : World) (n : ℕ) (out
       rw (d .after)
       (made-kept w r i (λ id z. dropOperations n (z .pairs) (z .vectors)) missing t (value 1 t) (d .result .manager) (d .left) x os vs out e (d .says .manager) (d .says .bytes)
       (λ a. let q : t ≡ told Accepted vs = e ∙ ap (λ (y : Verdict). told y vs) a in
-      (ap (value 1) q, ap (λ (z : Sets). dropOperations n (z .pairs) (z .vectors)) (sym (now-at w r i (w .manager .inner .epoch) (omega arith))), made-laws .drop (w .manager .inner) n (length out) (i .sound) (d .narrow) (rw (i .sound) at a))))
+      (ap (value 1) q, ap (λ (z : Sets). dropOperations n (z .pairs) (z .vectors)) (sym (now-at w r i (w .manager .inner .epoch) (omega arith))), made-laws .drop (w .manager .inner) n (length out) (passes w r i) (d .narrow) (rw (i .sound) at a))))
 
 -- A compaction.
 pub few-new : (n : NewRowset) → length (newOf n) ≤ 1
@@ -222,4 +242,4 @@ module _ (w : World) (t : Told) (l : List (List ℕ)) (v : World) (n : ℕ) (o :
       rw (d .after)
       (made-kept w r i (λ id z. compactOperations n (newOf o) taken (z .vectors)) missing t (value 1 t) (d .result .manager) (d .left) x os vs out e (d .says .manager) (d .says .bytes)
       (λ a. let q : t ≡ told Accepted vs = e ∙ ap (λ (y : Verdict). told y vs) a in
-      (ap (value 1) q, ap (λ (z : Sets). compactOperations n (newOf o) taken (z .vectors)) (sym (now-at w r i (w .manager .inner .epoch) (omega arith))), made-laws .compact (w .manager .inner) n (newOf o) taken (length out) (i .sound) (d .narrow) (few-new o) (rw (i .sound) at a) .accepts)))
+      (ap (value 1) q, ap (λ (z : Sets). compactOperations n (newOf o) taken (z .vectors)) (sym (now-at w r i (w .manager .inner .epoch) (omega arith))), made-laws .compact (w .manager .inner) n (newOf o) taken (length out) (passes w r i) (d .narrow) (few-new o) (rw (i .sound) at a) .accepts)))

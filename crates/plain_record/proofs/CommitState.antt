@@ -10,14 +10,13 @@ use Rattle.ids.specs.Results.{given}
 use Rattle.lists.specs.Keyed.{allOf}
 use Rattle.lists.proofs.Keyed.{all-map, allOf-all}
 use Rattle.manifest.specs.Operations.{Operation, wellFormed}
-use Rattle.frames.specs.Frames.{frameOf}
 use Rattle.version_state.specs.declared.VersionManagerInner.{VersionManagerInner}
 use Rattle.version_state.specs.State.{State, stateOf, withEpoch}
 use Rattle.version_state.specs.Sets.{setsOf}
 use Rattle.version_state.specs.Sound.{badInner}
 use Rattle.version_state.proofs.Within.{within-of}
 use Rattle.version_state.proofs.Facts.{Sound, sound-of}
-use Rattle.commit.specs.Commit.{commitOf}
+use Rattle.commit.specs.Commit.{appendOf, commitOf}
 use Rattle.commit.proofs.Stepwise.{steps-manifest}
 use Rattle.commit.proofs.Sounds.{Accepts, accepts}
 use Rattle.recovery.specs.Holds as manifest
@@ -40,10 +39,10 @@ module _ (m : VersionManagerInner) (n : ℕ) (os : List Operation) (room : ℕ) 
   pub commit-epoch : s .epoch ≡ m .epoch + 1
   commit-epoch = sym (ap (λ (t : State). t .epoch) (a .state))
 
-  pub commit-manifest : s .manifest ≡ m .manifest + length (frameOf os)
+  pub commit-manifest : s .manifest ≡ m .manifest + length (appendOf os)
   commit-manifest =
       sym (ap (λ (t : State). t .manifest) (a .state))
-      ∙ ap (λ (k : ℕ). k + length (frameOf os)) (steps-manifest (m .epoch + 1) os (stateOf m) (a .done) (a .steps))
+      ∙ ap (λ (k : ℕ). k + length (appendOf os)) (steps-manifest (m .epoch + 1) os (stateOf m) (a .done) (a .steps))
 
   pub commit-sets : (z : Sets) → plainAt (m .epoch + 1) (stateOf m) ≡ z → plainAt (m .epoch + 1) s ≡ applyAll os z
   commit-sets z q =
@@ -61,7 +60,7 @@ module _ (m : VersionManagerInner) (n : ℕ) (os : List Operation) (room : ℕ) 
   pub commit-next : (l : List Id) → allOf (belowNext (stateOf m)) l ≡ true → allOf (belowNext s) (l ++ idsOf os) ≡ true
   commit-next l q =
       let t = a .done in
-      let u = withEpoch t (m .epoch + 1) (t .manifest + length (frameOf os)) in
+      let u = withEpoch t (m .epoch + 1) (t .manifest + length (appendOf os)) in
       subst (λ (x : State). allOf (belowNext x) (l ++ idsOf os) ≡ true) (a .state)
       (next-rise t u (l ++ idsOf os) (record { table = omega arith; rowset = omega arith; vector = omega arith })
       (steps-next (m .epoch + 1) os (stateOf m) t l q (a .steps)))
@@ -74,7 +73,7 @@ module _ (m : VersionManagerInner) (n : ℕ) (os : List Operation) (room : ℕ) 
       let start = beside-start m u (sound-of m b) (holds-read src u k) q in
       beside-steps (m .epoch + 1) 0 os (stateOf m) (a .done) u (omega arith) start (a .steps) .well
 
-  pub commit-fits : m .manifest + length (frameOf os) ≤ longestManifest
+  pub commit-fits : m .manifest + length (appendOf os) ≤ longestManifest
   commit-fits =
       let q = steps-manifest (m .epoch + 1) os (stateOf m) (a .done) (a .steps) in
       omega (arith, a .fits, q)

@@ -2,6 +2,7 @@
 use mathlib.Core.Path.{_≡_, refl, sym, ap, _∙_}
 use mathlib.Core.Bool.{Bool, true, false, cond, not, _&&_, _||_}
 use mathlib.Core.List.{List, [], _∷_}
+use mathlib.Core.Logic.{_⊎_, inl, inr, ⊎-elim}
 use Prim.Native.Nat.{ℕ, _+_, _<_, _≤_}
 use native.Mathlib.Omega.{arith}
 use lib.Dec.{eqb}
@@ -13,17 +14,23 @@ use Rattle.lists.proofs.Order.{same-refl, same-true}
 use Rattle.lists.proofs.Keyed.{All, all-map, all-append, all-placed, all-keep, anyOf-placed, none-anyOf}
 use Rattle.manifest.specs.Operations.{Operation}
 use Rattle.manifest.specs.Edits.{Edit, leaves, adds, deletes, editsOf}
+use Rattle.pins.specs.Book.{PinEntry}
 use Rattle.pins.specs.Guards.{Guards, guardsOf, blocked}
 use Rattle.version_manager.specs.Managers.{heldBy}
-use Rattle.plain_record.specs.Calls.{Kind, quiet, asCommit, asPin, asUnpin, asVacuum, asCheckpoint, asReopen, kindOf}
-use Rattle.plain_record.specs.Plain.{Waiting, byEpochAndPair, epochOf, deletion, deletions, await, counted, guardsIn, listed, Record, atStart, turn}
+use Rattle.plain_record.specs.Calls.{Kind, quiet, asCommit, asPin, asUnpin, asVacuum, asReport, asCheckpoint, asReopen, kindOf}
+use Rattle.plain_record.specs.Plain.{Waiting, byEpochAndPair, epochOf, deletion, deletions, await, counted, withPins, guardsIn, listed, Plain, Former, gone, former, takenOff, Record, atStart, turn}
 use Rattle.plain_record.specs.Run.{Event, isAccepted, value}
-use Rattle.plain_record.specs.Claim.{pairsOf, differ, AnswerBy, nextRecord, isVacuum, isReopen, vacuums, frees, isIt, another, removes, lists, Listing, NeverListed, ListedFirst, deletionsBy, EachListed, Deletions}
+use Rattle.plain_record.specs.Claim.{pairsOf, differ, AnswerBy, nextRecord, isVacuum, isReopen, isReport, isPinning, takenBack, vacuums, frees, isIt, another, removes, lists, Listing, NeverListed, ListedFirst, deletionsBy, EachListed, Deletions}
+
+abbrev FormerBelow : ℕ → Former → Type 0
+FormerBelow n gone = Unit {0}
+FormerBelow n (former q) = All (λ (x : Waiting). x .commit < n) (q .waiting)
 
 -- every waiting entry comes from a commit before the next call
 pub record Below (r : Record) : Type 0 where
   pub whole : All (λ (x : Waiting). x .commit < r .place) (r .whole .waiting)
   pub torn : All (λ (x : Waiting). x .commit < r .place) (r .torn .waiting)
+  pub former : FormerBelow (r .place) (r .former)
 
 -- at each call the epochs that are kept are the record's, no two deletions that wait have one pair, and a vacuum lists the record's list
 pub record Seen (r : Record) (e : Event) : Type 0 where
@@ -41,6 +48,7 @@ answer-lists r e (asCommit made missing) a v = clash v refl
 answer-lists r e asPin a v = clash v refl
 answer-lists r e (asUnpin d) a v = clash v refl
 answer-lists r e asVacuum a v = a v .0
+answer-lists r e (asReport n) a v = clash v refl
 answer-lists r e (asCheckpoint lent) a v = clash v refl
 answer-lists r e (asReopen lent) a v = clash v refl
 
@@ -112,22 +120,33 @@ counted-below os r b =
     all-await (λ (x : Waiting). x .commit < r .place + 1) (deletions (r .place) (epochOf (r .whole) + 1) 0 os) (r .whole .waiting)
     (new-below (r .place) (epochOf (r .whole) + 1) os) (later (r .place) (r .whole .waiting) (b .whole))
 
+former-later : (n : ℕ) (f : Former) → FormerBelow n f → FormerBelow (n + 1) f
+former-later n gone b = tt
+former-later n (former q) b = later n (q .waiting) b
+
+former-off : (n : ℕ) (f : Former) (p : Plain) → FormerBelow n f → All (λ (x : Waiting). x .commit < n) (p .waiting) → All (λ (x : Waiting). x .commit < n + 1) (takenOff f p .waiting)
+former-off n gone p b h = later n (p .waiting) h
+former-off n (former q) p b h = later n (q .waiting) b
+
 below-turn : (k : Kind) (a : Bool) (id : ℕ) (r : Record) → Below r → Below (turn k a id r)
-below-turn quiet true id r b = let h = later (r .place) (r .whole .waiting) (b .whole) in record { whole = h; torn = h }
+below-turn quiet true id r b = let h = later (r .place) (r .whole .waiting) (b .whole) in record { whole = h; torn = h; former = tt }
 below-turn (asCommit made missing) true id r b =
     let h = counted-below (made id (r .whole .now)) r b in
-    record { whole = h; torn = by-cases (eqb missing 0) (λ t. rw t h) (λ t. rw t (later (r .place) (r .whole .waiting) (b .whole))) }
-below-turn asPin true id r b = let h = later (r .place) (r .whole .waiting) (b .whole) in record { whole = h; torn = h }
-below-turn (asUnpin e) true id r b = let h = later (r .place) (r .whole .waiting) (b .whole) in record { whole = h; torn = h }
+    let q = later (r .place) (r .whole .waiting) (b .whole) in
+    record { whole = h; torn = by-cases (eqb missing 0) (λ t. rw t h) (λ t. rw t q); former = q }
+below-turn asPin true id r b = let h = later (r .place) (r .whole .waiting) (b .whole) in record { whole = h; torn = h; former = former-later (r .place) (r .former) (b .former) }
+below-turn (asUnpin e) true id r b = let h = later (r .place) (r .whole .waiting) (b .whole) in record { whole = h; torn = h; former = former-later (r .place) (r .former) (b .former) }
 below-turn asVacuum true id r b =
     let h = all-keep (λ (x : Waiting). x .commit < r .place + 1) (λ w. blocked (guardsIn (r .whole)) (w .epoch)) (r .whole .waiting) (later (r .place) (r .whole .waiting) (b .whole)) in
-    record { whole = h; torn = h }
-below-turn (asCheckpoint lent) true id r b = let h = later (r .place) (r .whole .waiting) (b .whole) in record { whole = h; torn = h }
-below-turn (asReopen lent) true id r b = record { whole = tt; torn = tt }
-below-turn k false id r b = record { whole = later (r .place) (r .whole .waiting) (b .whole); torn = later (r .place) (r .torn .waiting) (b .torn) }
+    record { whole = h; torn = h; former = tt }
+below-turn (asReport n) true id r b = let h = former-off (r .place) (r .former) (r .whole) (b .former) (b .whole) in record { whole = h; torn = h; former = tt }
+below-turn (asCheckpoint lent) true id r b = let h = later (r .place) (r .whole .waiting) (b .whole) in record { whole = h; torn = h; former = tt }
+below-turn (asReopen lent) true id r b = record { whole = tt; torn = tt; former = tt }
+below-turn k false id r b =
+    record { whole = later (r .place) (r .whole .waiting) (b .whole); torn = later (r .place) (r .torn .waiting) (b .torn); former = former-later (r .place) (r .former) (b .former) }
 
 pub below-start : Below atStart
-below-start = record { whole = tt; torn = tt }
+below-start = record { whole = tt; torn = tt; former = tt }
 
 -- Of one deletion d: it is from an earlier commit, and what waits under its tag has its epoch and its pair.
 abbrev Alike : Waiting → Waiting → Type 0
@@ -136,6 +155,15 @@ Alike d x = isIt d x ≡ true → (x .epoch ≡ d .epoch) × (x .pair ≡ d .pai
 record Tagged (d : Waiting) (r : Record) : Type 0 where
   pub earlier : d .commit < r .place
   pub alike : All (Alike d) (r .whole .waiting)
+
+-- A report leaves d as it is: it waits before the last commit exactly if it waits now, and there too under its own tag. This holds from the
+-- first accepted call after its own commit on, but for pins and unpins.
+abbrev SettledBy : Waiting → Former → Plain → Type 0
+SettledBy d gone p = Unit {0}
+SettledBy d (former q) p = All (Alike d) (q .waiting) × (anyOf (isIt d) (q .waiting) ≡ anyOf (isIt d) (p .waiting))
+
+abbrev Settled : Waiting → Record → Type 0
+Settled d r = SettledBy d (r .former) (r .whole)
 
 -- an accepted reopen
 abbrev reopens : Event → Bool
@@ -162,42 +190,100 @@ module _ (d : Waiting) where
   new-other : (n e : ℕ) (os : List Operation) → d .commit < n → All (λ (x : Waiting). isIt d x ≡ false) (deletions n e 0 os)
   new-other n e os h = all-map (deletions n e 0 os) (λ x o. other-commit d x (λ s. let u = o .0 in omega arith)) (all-of n e 0 os)
 
-  tagged-turn : (k : Kind) (a : Bool) (id : ℕ) (r : Record) → Tagged d r → Tagged d (turn k a id r)
-  tagged-turn quiet true id r t = let h = t .earlier in record { earlier = omega arith; alike = t .alike }
-  tagged-turn (asCommit made missing) true id r t =
+  alike-off : (f : Former) (p : Plain) → SettledBy d f p → All (Alike d) (p .waiting) → All (Alike d) (takenOff f p .waiting)
+  alike-off gone p s a = a
+  alike-off (former q) p s a = s .0
+
+  waits-off : (f : Former) (p : Plain) → SettledBy d f p → anyOf (isIt d) (takenOff f p .waiting) ≡ anyOf (isIt d) (p .waiting)
+  waits-off gone p s = refl
+  waits-off (former q) p s = s .1
+
+  waits-counted : (os : List Operation) (r : Record) → Tagged d r → anyOf (isIt d) (counted (r .place) os (r .whole) .waiting) ≡ waitsIn d r
+  waits-counted os r t =
+      let new = deletions (r .place) (epochOf (r .whole) + 1) 0 os in
+      anyOf-await (isIt d) new (r .whole .waiting)
+      ∙ ap (λ (b : Bool). b || waitsIn d r) (none-anyOf (isIt d) new (new-other (r .place) (epochOf (r .whole) + 1) os (t .earlier)))
+
+  tagged-turn : (k : Kind) (a : Bool) (id : ℕ) (r : Record) → (isReport k && a ≡ true → Settled d r) → Tagged d r → Tagged d (turn k a id r)
+  tagged-turn quiet true id r s t = let h = t .earlier in record { earlier = omega arith; alike = t .alike }
+  tagged-turn (asCommit made missing) true id r s t =
       let h = t .earlier in
       let new = deletions (r .place) (epochOf (r .whole) + 1) 0 (made id (r .whole .now)) in
       let n = new-other (r .place) (epochOf (r .whole) + 1) (made id (r .whole .now)) h in
       record { earlier = omega arith; alike = all-await (Alike d) new (r .whole .waiting) (all-map new (λ x f g. clash g f) n) (t .alike) }
-  tagged-turn asPin true id r t = let h = t .earlier in record { earlier = omega arith; alike = t .alike }
-  tagged-turn (asUnpin e) true id r t = let h = t .earlier in record { earlier = omega arith; alike = t .alike }
-  tagged-turn asVacuum true id r t =
+  tagged-turn asPin true id r s t = let h = t .earlier in record { earlier = omega arith; alike = t .alike }
+  tagged-turn (asUnpin e) true id r s t = let h = t .earlier in record { earlier = omega arith; alike = t .alike }
+  tagged-turn asVacuum true id r s t =
       let h = t .earlier in
       record { earlier = omega arith; alike = all-keep (Alike d) (λ w. blocked (guardsIn (r .whole)) (w .epoch)) (r .whole .waiting) (t .alike) }
-  tagged-turn (asCheckpoint lent) true id r t = let h = t .earlier in record { earlier = omega arith; alike = t .alike }
-  tagged-turn (asReopen lent) true id r t = let h = t .earlier in record { earlier = omega arith; alike = tt }
-  tagged-turn k false id r t = let h = t .earlier in record { earlier = omega arith; alike = t .alike }
+  tagged-turn (asReport n) true id r s t = let h = t .earlier in record { earlier = omega arith; alike = alike-off (r .former) (r .whole) (s refl) (t .alike) }
+  tagged-turn (asCheckpoint lent) true id r s t = let h = t .earlier in record { earlier = omega arith; alike = t .alike }
+  tagged-turn (asReopen lent) true id r s t = let h = t .earlier in record { earlier = omega arith; alike = tt }
+  tagged-turn k false id r s t = let h = t .earlier in record { earlier = omega arith; alike = t .alike }
 
   -- whether it waits after a turn
-  waits-turn : (k : Kind) (a : Bool) (id : ℕ) (r : Record) → Tagged d r
+  waits-turn : (k : Kind) (a : Bool) (id : ℕ) (r : Record) → (isReport k && a ≡ true → Settled d r) → Tagged d r
       → waitsIn d (turn k a id r) ≡ cond (isReopen k && a) false (cond (isVacuum k && a) (blocked (guardsIn (r .whole)) (d .epoch) && waitsIn d r) (waitsIn d r))
-  waits-turn quiet true id r t = refl
-  waits-turn (asCommit made missing) true id r t =
-      let new = deletions (r .place) (epochOf (r .whole) + 1) 0 (made id (r .whole .now)) in
-      anyOf-await (isIt d) new (r .whole .waiting)
-      ∙ ap (λ (b : Bool). b || waitsIn d r) (none-anyOf (isIt d) new (new-other (r .place) (epochOf (r .whole) + 1) (made id (r .whole .now)) (t .earlier)))
-  waits-turn asPin true id r t = refl
-  waits-turn (asUnpin e) true id r t = refl
-  waits-turn asVacuum true id r t = kept-tag (blocked (guardsIn (r .whole))) (r .whole .waiting) (t .alike)
-  waits-turn (asCheckpoint lent) true id r t = refl
-  waits-turn (asReopen lent) true id r t = refl
-  waits-turn quiet false id r t = refl
-  waits-turn (asCommit made missing) false id r t = refl
-  waits-turn asPin false id r t = refl
-  waits-turn (asUnpin e) false id r t = refl
-  waits-turn asVacuum false id r t = refl
-  waits-turn (asCheckpoint lent) false id r t = refl
-  waits-turn (asReopen lent) false id r t = refl
+  waits-turn quiet true id r s t = refl
+  waits-turn (asCommit made missing) true id r s t = waits-counted (made id (r .whole .now)) r t
+  waits-turn asPin true id r s t = refl
+  waits-turn (asUnpin e) true id r s t = refl
+  waits-turn asVacuum true id r s t = kept-tag (blocked (guardsIn (r .whole))) (r .whole .waiting) (t .alike)
+  waits-turn (asReport n) true id r s t = waits-off (r .former) (r .whole) (s refl)
+  waits-turn (asCheckpoint lent) true id r s t = refl
+  waits-turn (asReopen lent) true id r s t = refl
+  waits-turn quiet false id r s t = refl
+  waits-turn (asCommit made missing) false id r s t = refl
+  waits-turn asPin false id r s t = refl
+  waits-turn (asUnpin e) false id r s t = refl
+  waits-turn asVacuum false id r s t = refl
+  waits-turn (asReport n) false id r s t = refl
+  waits-turn (asCheckpoint lent) false id r s t = refl
+  waits-turn (asReopen lent) false id r s t = refl
+
+  settled-pins : (f : Former) (p : Plain) (l : List PinEntry) → SettledBy d f p → SettledBy d f (withPins l p)
+  settled-pins gone p l s = tt
+  settled-pins (former q) p l s = s
+
+  settled-commit : (os : List Operation) (r : Record) → Tagged d r → SettledBy d (former (r .whole)) (counted (r .place) os (r .whole))
+  settled-commit os r t = (t .alike, sym (waits-counted os r t))
+
+  settled-turn : (k : Kind) (a : Bool) (id : ℕ) (r : Record) → Tagged d r → Settled d r → Settled d (turn k a id r)
+  settled-turn quiet true id r t s = tt
+  settled-turn (asCommit made missing) true id r t s = settled-commit (made id (r .whole .now)) r t
+  settled-turn asPin true id r t s = settled-pins (r .former) (r .whole) _ s
+  settled-turn (asUnpin e) true id r t s = settled-pins (r .former) (r .whole) _ s
+  settled-turn asVacuum true id r t s = tt
+  settled-turn (asReport n) true id r t s = tt
+  settled-turn (asCheckpoint lent) true id r t s = tt
+  settled-turn (asReopen lent) true id r t s = tt
+  settled-turn k false id r t s = s
+
+  -- a report leaves it as it is, or none comes before it does
+  abbrev Steady : Record → List Event → Type 0
+  Steady r es = Settled d r ⊎ (takenBack es ≡ false)
+
+  steady-turn : (k : Kind) (a : Bool) (id : ℕ) (r : Record) (es : List Event) → Tagged d r → cond (a && not (isPinning k)) (isReport k) (takenBack es) ≡ false → Steady (turn k a id r) es
+  steady-turn quiet true id r es t n = inl tt
+  steady-turn (asCommit made missing) true id r es t n = inl (settled-commit (made id (r .whole .now)) r t)
+  steady-turn asPin true id r es t n = inr n
+  steady-turn (asUnpin e) true id r es t n = inr n
+  steady-turn asVacuum true id r es t n = inl tt
+  steady-turn (asReport m) true id r es t n = inl tt
+  steady-turn (asCheckpoint lent) true id r es t n = inl tt
+  steady-turn (asReopen lent) true id r es t n = inl tt
+  steady-turn k false id r es t n = inr n
+
+  none-reports : {P : Type 0} (k : Kind) (a : Bool) (later : Bool) → cond (a && not (isPinning k)) (isReport k) later ≡ false → isReport k && a ≡ true → P
+  none-reports quiet a later n h = clash h refl
+  none-reports (asCommit made missing) a later n h = clash h refl
+  none-reports asPin a later n h = clash h refl
+  none-reports (asUnpin e) a later n h = clash h refl
+  none-reports asVacuum a later n h = clash h refl
+  none-reports (asReport m) true later n h = clash refl n
+  none-reports (asReport m) false later n h = clash h refl
+  none-reports (asCheckpoint lent) a later n h = clash h refl
+  none-reports (asReopen lent) a later n h = clash h refl
 
   -- where no pair of a list is d's, nothing in it is d
   none-is : (l : List Waiting) → All (Alike d) l → anyOf (same (d .pair)) (pairsOf l) ≡ false → anyOf (isIt d) l ≡ false
@@ -289,15 +375,23 @@ module _ (d : Waiting) where
   after-stayed false true false u n f h = clash refl f
   after-stayed false false z u n f h = h
 
-  module _ (r : Record) (e : Event) (t : Tagged d r) where
+  module _ (r : Record) (e : Event) (es : List Event) (y : Steady r (e ∷ es)) (t : Tagged d r) where
+    reported : isReport (kindOf (e .call)) && isAccepted (e .told) ≡ true → Settled d r
+    reported h = ⊎-elim (λ s. s) (λ n. none-reports (kindOf (e .call)) (isAccepted (e .told)) (takenBack es) n h) y
+
+    steady-next : Steady (nextRecord r e) es
+    steady-next =
+        ⊎-elim (λ s. inl (settled-turn (kindOf (e .call)) (isAccepted (e .told)) (value 0 (e .told)) r t s))
+        (λ n. steady-turn (kindOf (e .call)) (isAccepted (e .told)) (value 0 (e .told)) r es t n) y
+
     abbrev keeps : Bool
     keeps = blocked (guardsIn (r .whole)) (d .epoch)
 
     turned : waitsIn d (nextRecord r e) ≡ cond (reopens e) false (cond (vacuums e) (keeps && waitsIn d r) (waitsIn d r))
-    turned = waits-turn (kindOf (e .call)) (isAccepted (e .told)) (value 0 (e .told)) r t
+    turned = waits-turn (kindOf (e .call)) (isAccepted (e .told)) (value 0 (e .told)) r reported t
 
     tagged-next : Tagged d (nextRecord r e)
-    tagged-next = tagged-turn (kindOf (e .call)) (isAccepted (e .told)) (value 0 (e .told)) r t
+    tagged-next = tagged-turn (kindOf (e .call)) (isAccepted (e .told)) (value 0 (e .told)) r reported t
 
     gone-next : waitsIn d r ≡ false → waitsIn d (nextRecord r e) ≡ false
     gone-next h = turned ∙ after-gone (reopens e) (vacuums e) keeps (waitsIn d r) h
@@ -312,29 +406,33 @@ module _ (d : Waiting) where
       stayed-next : reopens e ≡ false → frees d e ≡ false → waitsIn d r ≡ true → waitsIn d (nextRecord r e) ≡ true
       stayed-next n f h = turned ∙ after-stayed (reopens e) (vacuums e) keeps (waitsIn d r) n (sym frees-by ∙ f) h
 
-  never : (r : Record) (es : List Event) → Tagged d r → AllSeen r es → waitsIn d r ≡ false → NeverListed d r es
-  never r [] t b h = tt
-  never r (e ∷ es) t b h =
-      (listing r e t (b .0) false (rw h (by-cases (frees d e) (λ f. rw f) (λ f. rw f))), never (nextRecord r e) es (tagged-next r e t) (b .1) (gone-next r e t h))
+  never : (r : Record) (es : List Event) → Steady r es → Tagged d r → AllSeen r es → waitsIn d r ≡ false → NeverListed d r es
+  never r [] y t b h = tt
+  never r (e ∷ es) y t b h = (
+    listing r e t (b .0) false (rw h (by-cases (frees d e) (λ f. rw f) (λ f. rw f))),
+    never (nextRecord r e) es (steady-next r e es y t) (tagged-next r e es y t) (b .1) (gone-next r e es y t h),
+  )
 
-  first : (r : Record) (es : List Event) → Tagged d r → AllSeen r es → anyOf reopens es ≡ false → waitsIn d r ≡ true
+  first : (r : Record) (es : List Event) → Steady r es → Tagged d r → AllSeen r es → anyOf reopens es ≡ false → waitsIn d r ≡ true
       → ListedFirst d r es
-  first r [] t b n h = tt
-  first r (e ∷ es) t b n h =
+  first r [] y t b n h = tt
+  first r (e ∷ es) y t b n h =
       let m = neither (reopens e) (anyOf reopens es) n in
-      let l = listing r e t (b .0) in (
-        λ f. (l true (join f h), never (nextRecord r e) es (tagged-next r e t) (b .1) (freed-next r e t (b .0 .guards) f)),
-        λ f. (l false (ap (λ (x : Bool). x && waitsIn d r) f), first (nextRecord r e) es (tagged-next r e t) (b .1) (m .1) (stayed-next r e t (b .0 .guards) (m .0) f h)),
+      let l = listing r e t (b .0) in
+      let z = steady-next r e es y t in
+      let x = tagged-next r e es y t in (
+        λ f. (l true (join f h), never (nextRecord r e) es z x (b .1) (freed-next r e es y t (b .0 .guards) f)),
+        λ f. (l false (ap (λ (x : Bool). x && waitsIn d r) f), first (nextRecord r e) es z x (b .1) (m .1) (stayed-next r e es y t (b .0 .guards) (m .0) f h)),
       )
 
 -- a deletion that has just begun to wait
 abbrev Begun : Record → Waiting → Type 0
 Begun r d = Tagged d r × (waitsIn d r ≡ true)
 
-each : (ws : List Waiting) (r : Record) (es : List Event) → All (Begun r) ws → AllSeen r es → anyOf reopens es ≡ false
+each : (ws : List Waiting) (r : Record) (es : List Event) → All (Begun r) ws → AllSeen r es → anyOf reopens es ≡ false → takenBack es ≡ false
     → EachListed ws r es
-each [] r es a b n = tt
-each (w ∷ ws) r es a b n = (first w r es (a .0 .0) b n (a .0 .1), each ws r es (a .1) b n)
+each [] r es a b n c = tt
+each (w ∷ ws) r es a b n c = (first w r es (inr c) (a .0 .0) b n (a .0 .1), each ws r es (a .1) b n c)
 
 is-itself : (d : Waiting) → isIt d d ≡ true
 is-itself d = rw (eq-eqb (d .commit) (d .commit) refl, eq-eqb (d .operation) (d .operation) refl)
@@ -376,19 +474,20 @@ module _ (os : List Operation) (r : Record) (b : Below r) (q : Record) (place : 
       all-map made (λ d p. begins d (p .0 .0) (p .0 .1) (p .1))
       (all-both (λ d. Of (r .place) (epochOf (r .whole) + 1) d × From 0 os d) (λ d. anyOf (isIt d) made ≡ true) made made-all (all-there made))
 
-opened : (k : Kind) (a : Bool) (id : ℕ) (r : Record) (es : List Event) → a ≡ true → Below r → AllSeen (turn k a id r) es → anyOf reopens es ≡ false
+opened : (k : Kind) (a : Bool) (id : ℕ) (r : Record) (es : List Event) → a ≡ true → Below r → AllSeen (turn k a id r) es → anyOf reopens es ≡ false → takenBack es ≡ false
     → EachListed (deletionsBy r id k) (turn k a id r) es
-opened quiet a id r es t b k n = tt
-opened (asCommit made missing) true id r es t b k n =
+opened quiet a id r es t b k n c = tt
+opened (asCommit made missing) true id r es t b k n c =
     let os = made id (r .whole .now) in
     let q = turn (asCommit made missing) true id r in
-    each (deletions (r .place) (epochOf (r .whole) + 1) 0 os) q es (all-begun os r b q refl refl) k n
-opened (asCommit made missing) false id r es t b k n = clash t refl
-opened asPin a id r es t b k n = tt
-opened (asUnpin e) a id r es t b k n = tt
-opened asVacuum a id r es t b k n = tt
-opened (asCheckpoint lent) a id r es t b k n = tt
-opened (asReopen lent) a id r es t b k n = tt
+    each (deletions (r .place) (epochOf (r .whole) + 1) 0 os) q es (all-begun os r b q refl refl) k n c
+opened (asCommit made missing) false id r es t b k n c = clash t refl
+opened asPin a id r es t b k n c = tt
+opened (asUnpin e) a id r es t b k n c = tt
+opened asVacuum a id r es t b k n c = tt
+opened (asReport m) a id r es t b k n c = tt
+opened (asCheckpoint lent) a id r es t b k n c = tt
+opened (asReopen lent) a id r es t b k n c = tt
 
 pub deletions-hold : (r : Record) (es : List Event) → Below r → AllSeen r es → Deletions r es
 deletions-hold r [] b k = tt
@@ -396,4 +495,4 @@ deletions-hold r (e ∷ es) b k =
     let c = kindOf (e .call) in
     let a = isAccepted (e .told) in
     let id = value 0 (e .told) in
-    (λ t n. opened c a id r es t b (k .1) (not-true _ n), deletions-hold (nextRecord r e) es (below-turn c a id r b) (k .1))
+    (λ t n u. opened c a id r es t b (k .1) (not-true _ n) u, deletions-hold (nextRecord r e) es (below-turn c a id r b) (k .1))

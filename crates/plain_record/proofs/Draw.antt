@@ -18,6 +18,7 @@ use Rattle.version_manager.specs.Managers.{heldBy, badManager, HandsBack}
 use Rattle.version_manager.specs.Draw.{rowsetVerdict, vectorVerdict, rowsetDrawn, vectorDrawn}
 use Rattle.version_manager.specs.Group.{vectorsDrawn, groupedBy, groupVerdict}
 use Rattle.version_manager.specs.Lock.{lockVerdict, RelockSays}
+use Rattle.version_manager.proofs.Managers.{inner-passes, nothing-passes}
 use Rattle.version_manager.proofs.Laws.{draw-laws}
 use Rattle.plain_record.specs.Calls.{quiet}
 use Rattle.plain_record.specs.Plain.{Record, turn}
@@ -50,7 +51,9 @@ module _ (id : ℕ) (w : World) (r : Record) (t : Told) (l : List (List ℕ)) (v
       record { epoch = refl; tables = tables-kept n b s; pairs = refl; vectors = refl; manifest = refl; next = record { table = omega arith; rowset = omega arith; vector = omega arith } }
 
   relock-sound : (m o : VersionManager) (n : ℕ) (b : Bool) (x : Verdict) → badManager m ≡ false → HandsBack x m (relocked n b (heldBy m)) o → x ≡ Accepted → badManager o ≡ false
-  relock-sound m o n b x h k q = relocked-sound n b (m .inner) (o .inner) h (subst (λ (y : Verdict). HandsBack y m (relocked n b (heldBy m)) o) q k)
+  relock-sound m o n b x h k q =
+      let g = subst (λ (y : Verdict). HandsBack y m (relocked n b (heldBy m)) o) q k in
+      nothing-passes o (relocked-sound n b (m .inner) (o .inner) (inner-passes m h) (g .hands)) (g .nothing)
 
   pub relock-kept : (b : Bool) (n : TableNo) → DidLock port w t l v (λ m o x. RelockSays m o b x) n → Inv v (turn quiet (isAccepted t) id r)
   relock-kept b n d =

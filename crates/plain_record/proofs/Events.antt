@@ -26,6 +26,7 @@ use Rattle.snapshot.specs.declared.tables.Tables.{Tables}
 use Rattle.snapshot.specs.declared.vectors.Vectors.{Vectors}
 use Rattle.snapshot.specs.Tables.{nameBytes}
 use Rattle.snapshot.specs.Entries.{goneAt, shownAt}
+use Rattle.version_state.specs.declared.VersionManagerInner.{VersionManagerInner}
 use Rattle.version_state.specs.State.{Fit}
 use Rattle.pins.specs.declared.PinBook.{PinBook}
 use Rattle.pins.specs.Book.{mostPinned, Keeps}
@@ -46,6 +47,8 @@ use Rattle.version_manager.specs.declared.CreateAnswer.the-variants.{Table as N
 use Rattle.version_manager.specs.declared.Created.{Created}
 use Rattle.version_manager.specs.declared.VacuumAnswer.the-variants.{Listed}
 use Rattle.version_manager.specs.declared.Vacuumed.{Vacuumed}
+use Rattle.version_manager.specs.declared.ReportAnswer.the-variants.{TakenBack}
+use Rattle.version_manager.specs.declared.Reported.{Reported}
 use Rattle.version_manager.specs.declared.CheckpointAnswer.the-variants as checkpointAnswer
 use Rattle.version_manager.specs.declared.Checkpointed.{Checkpointed}
 use Rattle.version_manager.specs.Managers.{heldBy, FreshSays}
@@ -57,8 +60,8 @@ use Rattle.pinning.specs.declared.UnpinAnswer.the-variants.{Unpinned}
 use Rattle.show.specs.declared.ShowAnswer.the-variants.{Shown, Refused as NotShown}
 use Rattle.storage.specs.declared.Reopened.{Reopened}
 use Rattle.storage.specs.declared.ReopenAnswer.the-variants.{Rewritten}
-use Rattle.plain_record.specs.Calls.{drawRowset, drawVector, lock, commit, create, drop, compact, pin, unpin, vacuum, checkpoint, reopen}
-use Rattle.plain_record.specs.Run.{Steps, World, world, Event, onward, afterCommit, afterCheckpoint, afterReopen, pairsIn, Starts, Link, Chain}
+use Rattle.plain_record.specs.Calls.{drawRowset, drawVector, lock, commit, create, drop, compact, pin, unpin, vacuum, report, checkpoint, reopen}
+use Rattle.plain_record.specs.Run.{Steps, noAppend, World, world, Event, onward, afterCommit, afterReport, afterCheckpoint, afterReopen, pairsIn, Starts, Link, Chain}
 use Rattle.plain_record.specs.Claim.{Claim, Holds}
 use Rattle.plain_record.specs.Shows.{ShowsTables, ShowsPairs}
 
@@ -104,18 +107,26 @@ holdsVectors t r v a d n =
 abbrev pub noVectors : Vectors
 noVectors = holdsVectors [] [] [] [] [] 0
 
+abbrev innerAll : ℕ → ℕ → ℕ → ℕ → Tables → Rowsets → Vectors → ℕ → VersionManagerInner
+innerAll e t r v ts rs vs n =
+    record {
+      epoch = e;
+      next = record { table = record { 0 = t }; rowset = record { 0 = r }; vector = record { 0 = v } };
+      tables = ts;
+      rowsets = rs;
+      vectors = vs;
+      manifest = n;
+    }
+
+-- with nothing kept
 abbrev pub holdingAll : ℕ → ℕ → ℕ → ℕ → Tables → Rowsets → Vectors → ℕ → VersionManager
 holdingAll e t r v ts rs vs n =
-    record {
-      inner = record {
-        epoch = e;
-        next = record { table = record { 0 = t }; rowset = record { 0 = r }; vector = record { 0 = v } };
-        tables = ts;
-        rowsets = rs;
-        vectors = vs;
-        manifest = n;
-      };
-    }
+    let i = innerAll e t r v ts rs vs n in
+    record { inner = i; kept = i; append = 0 }
+
+-- n, after a commit of k bytes by m
+abbrev pub following : VersionManager → ℕ → VersionManager → VersionManager
+following m k n = record { inner = n .inner; kept = m .inner; append = k }
 
 -- without vectors
 abbrev pub holding : ℕ → ℕ → ℕ → Tables → Rowsets → ℕ → VersionManager
@@ -141,7 +152,7 @@ abbrev pub first : Opened
 first = record { manager = holding 0 0 0 noTables noPairs 0; book = unpinned }
 
 abbrev pub begun : World
-begun = world (first .manager) unpinned [] []
+begun = world (first .manager) unpinned [] [] noAppend
 
 -- Accepted calls. A commit, a checkpoint and a reopen are lent what they then write, a vacuum a place in each slice.
 abbrev telling : List ℕ → Told
@@ -172,6 +183,9 @@ lockedBy m = record { manager = m; answer = Accepted }
 abbrev pub listedBy : VersionManager → ℕ → Vacuumed
 listedBy m n = record { manager = m; answer = Listed n }
 
+abbrev pub reportedBy : VersionManager → ℕ → ℕ → Reported
+reportedBy m e n = record { manager = m; answer = TakenBack e n }
+
 abbrev pub checkpointedBy : VersionManager → ℕ → Checkpointed
 checkpointedBy m n = record { manager = m; answer = checkpointAnswer.Rewritten n }
 
@@ -187,7 +201,7 @@ draws = drawsOn begun (drawn .manager) 0
 
 abbrev pub drawsVector : Event
 drawsVector =
-    record { before = draws .after; call = drawVector; told = telling (0 ∷ []); listed = []; after = world (drawnVector .manager) unpinned [] [] }
+    record { before = draws .after; call = drawVector; told = telling (0 ∷ []); listed = []; after = world (drawnVector .manager) unpinned [] [] noAppend }
 
 abbrev pub commits : World → List Operation → VersionManager → ℕ → ℕ → List ℕ → ℕ → Event
 commits w os m e n out missing =
@@ -246,6 +260,16 @@ vacuums w m n ts rs =
       told = telling (n ∷ []);
       listed = pairsIn n ts rs;
       after = onward m (w .book) (telling (n ∷ [])) w;
+    }
+
+abbrev pub reports : World → ℕ → VersionManager → ℕ → ℕ → Event
+reports w landed m e n =
+    record {
+      before = w;
+      call = report landed;
+      told = telling (e ∷ n ∷ []);
+      listed = [];
+      after = afterReport m (telling (e ∷ n ∷ [])) landed w;
     }
 
 abbrev pub checkpoints : World → VersionManager → ℕ → List ℕ → Event
@@ -328,6 +352,9 @@ module _ (S : Steps) where
   vacuumed w m n ts rs h =
       record { result = listedBy m n; tables = ts; rowsets = rs; says = h; told = refl; listed = refl; after = refl }
 
+  pub reported : (w : World) (landed : ℕ) (m : VersionManager) (e n : ℕ) → S .report (w .manager) (w .book) landed (reportedBy m e n) → Link S (reports w landed m e n)
+  reported w landed m e n h = record { result = reportedBy m e n; says = h; told = refl; none = refl; after = refl }
+
   pub checkpointed : (w : World) (m : VersionManager) (n : ℕ) (out : List ℕ) → Narrow (heldBy (w .manager)) → S .checkpoint (w .manager) out (checkpointedBy m n) out → Link S (checkpoints w m n out)
   checkpointed w m n out k h = record { narrow = k; result = checkpointedBy m n; left = out; says = h; told = refl; none = refl; after = refl }
 
@@ -336,16 +363,16 @@ module _ (S : Steps) where
 
 pub fresh-says : FreshSays first
 unfolding rows
-fresh-says = record { manager = record { fits = few 0 0 0 noTables noPairs 0 (omega arith) (omega arith); state = refl }; book = no-pins }
+fresh-says = record { manager = record { hands = record { fits = few 0 0 0 noTables noPairs 0 (omega arith) (omega arith); state = refl }; nothing = refl }; book = no-pins }
 
 pub draw-says : DrawRowsetSays (first .manager) drawn
 unfolding rows
-draw-says = record { answer = refl; manager = record { fits = few 0 0 1 noTables noPairs 0 (omega arith) (omega arith); state = refl } }
+draw-says = record { answer = refl; manager = record { hands = record { fits = few 0 0 1 noTables noPairs 0 (omega arith) (omega arith); state = refl }; nothing = refl } }
 
 pub draw-vector-says : DrawVectorSays (drawn .manager) drawnVector
 unfolding rows
 draw-vector-says =
-    record { answer = refl; manager = record { fits = few-all 0 0 1 1 noTables noPairs noVectors 0 (omega arith) (omega arith) (omega arith); state = refl } }
+    record { answer = refl; manager = record { hands = record { fits = few-all 0 0 1 1 noTables noPairs noVectors 0 (omega arith) (omega arith) (omega arith); state = refl }; nothing = refl } }
 
 -- What is committed: a table `a` of id 0 and shape 7, its rowset 0, and the rowset's vector 0.
 abbrev pub name : List ℕ
@@ -381,72 +408,75 @@ abbrev pub opsTAD : List Operation
 opsTAD = creates ∷ adds ∷ deletes ∷ []
 
 abbrev pub frameTAD : List ℕ
-frameTAD = 66 ∷ 10 ∷ 84 ∷ 44 ∷ 48 ∷ 44 ∷ 55 ∷ 44 ∷ 97 ∷ 10 ∷ 65 ∷ 44 ∷ 48 ∷ 44 ∷ 48 ∷ 10 ∷ 68 ∷ 44 ∷ 48 ∷ 44 ∷ 48 ∷ 10 ∷ 69 ∷ 10 ∷ []
+frameTAD = 33 ∷ 10 ∷ 66 ∷ 10 ∷ 84 ∷ 44 ∷ 48 ∷ 44 ∷ 55 ∷ 44 ∷ 97 ∷ 10 ∷ 65 ∷ 44 ∷ 48 ∷ 44 ∷ 48 ∷ 10 ∷ 68 ∷ 44 ∷ 48 ∷ 44 ∷ 48 ∷ 10 ∷ 69 ∷ 10 ∷ []
+
+abbrev pub heldTAD : VersionManager
+heldTAD = holding 1 1 1 tables (pair 1 1) 26
 
 abbrev pub afterTAD : VersionManager
-afterTAD = holding 1 1 1 tables (pair 1 1) 24
+afterTAD = following (drawn .manager) 26 heldTAD
 
 abbrev pub commitTAD : Event
-commitTAD = commits (draws .after) opsTAD afterTAD 1 24 frameTAD 0
+commitTAD = commits (draws .after) opsTAD afterTAD 1 26 frameTAD 0
 
 pub fits-TAD : Fit (afterTAD .inner)
-fits-TAD = few 1 1 1 tables (pair 1 1) 24 (omega arith) (omega arith)
+fits-TAD = few 1 1 1 tables (pair 1 1) 26 (omega arith) (omega arith)
 
 -- the deletion let go
 abbrev pub sweptTAD : VersionManager
-sweptTAD = holding 1 1 1 tables noPairs 24
+sweptTAD = holding 1 1 1 tables noPairs 26
 
-pub says-TAD : CommitSays (drawn .manager) (length opsTAD) opsTAD frameTAD (appended afterTAD 1 24) frameTAD
+pub says-TAD : CommitSays (drawn .manager) (length opsTAD) opsTAD frameTAD (appended afterTAD 1 26) frameTAD
 unfolding rows stepOf textOf fieldsText digits digitsBy isName isNameByte isDigit isLower goneAt shownAt
-says-TAD = (refl, record { fits = fits-TAD; state = refl }, refl)
+says-TAD = (refl, record { hands = record { fits = fits-TAD; state = refl }; former = record { fits = draw-says .manager .hands .fits; state = refl }; append = refl }, refl)
 
 abbrev CommitsTAD : Steps → Type 0
-CommitsTAD S = S .commit (drawn .manager) (length opsTAD) opsTAD frameTAD (appended afterTAD 1 24) frameTAD
+CommitsTAD S = S .commit (drawn .manager) (length opsTAD) opsTAD frameTAD (appended afterTAD 1 26) frameTAD
 
 -- the claim of a draw, this commit and further calls
 pub on-TAD : (S : Steps) → Claim S → S .fresh first → S .drawRowset (first .manager) drawn → CommitsTAD S → (es : List Event) → Chain S (commitTAD .after) es → Holds S begun (draws ∷ commitTAD ∷ es)
 on-TAD S claim fresh draw says es c =
-    claim begun (draws ∷ commitTAD ∷ es) (begins S fresh) (refl, drew S draw, (refl, committed S (draws .after) opsTAD afterTAD 1 24 frameTAD 0 says, c))
+    claim begun (draws ∷ commitTAD ∷ es) (begins S fresh) (refl, drew S draw, (refl, committed S (draws .after) opsTAD afterTAD 1 26 frameTAD 0 says, c))
 
 -- An empty commit, then one that creates the table.
 abbrev pub opsNone : List Operation
 opsNone = []
 
 abbrev pub frameNone : List ℕ
-frameNone = 66 ∷ 10 ∷ 69 ∷ 10 ∷ []
+frameNone = 33 ∷ 10 ∷ 66 ∷ 10 ∷ 69 ∷ 10 ∷ []
 
 abbrev pub afterNone : VersionManager
-afterNone = holding 1 0 0 noTables noPairs 4
+afterNone = following (first .manager) 6 (holding 1 0 0 noTables noPairs 6)
 
 abbrev pub opsT : List Operation
 opsT = creates ∷ []
 
 abbrev pub frameT : List ℕ
-frameT = 66 ∷ 10 ∷ 84 ∷ 44 ∷ 48 ∷ 44 ∷ 55 ∷ 44 ∷ 97 ∷ 10 ∷ 69 ∷ 10 ∷ []
+frameT = 33 ∷ 10 ∷ 66 ∷ 10 ∷ 84 ∷ 44 ∷ 48 ∷ 44 ∷ 55 ∷ 44 ∷ 97 ∷ 10 ∷ 69 ∷ 10 ∷ []
 
 abbrev pub afterT : Tables → VersionManager
-afterT l = holding 2 1 0 l noPairs 16
+afterT l = following afterNone 14 (holding 2 1 0 l noPairs 20)
 
 abbrev pub commitNone : Event
-commitNone = commits begun opsNone afterNone 1 4 frameNone 0
+commitNone = commits begun opsNone afterNone 1 6 frameNone 0
 
 abbrev pub commitT : Tables → ℕ → Event
-commitT l missing = commits (commitNone .after) opsT (afterT l) 2 12 frameT missing
+commitT l missing = commits (commitNone .after) opsT (afterT l) 2 14 frameT missing
 
-pub says-none : CommitSays (first .manager) (length opsNone) opsNone frameNone (appended afterNone 1 4) frameNone
+pub says-none : CommitSays (first .manager) (length opsNone) opsNone frameNone (appended afterNone 1 6) frameNone
 unfolding rows
-says-none = (refl, record { fits = few 1 0 0 noTables noPairs 4 (omega arith) (omega arith); state = refl }, refl)
+says-none = (refl, record { hands = record { fits = few 1 0 0 noTables noPairs 6 (omega arith) (omega arith); state = refl }; former = record { fits = fresh-says .manager .hands .fits; state = refl }; append = refl }, refl)
 
-pub says-T : CommitSays afterNone (length opsT) opsT frameT (appended (afterT tables) 2 12) frameT
+pub says-T : CommitSays afterNone (length opsT) opsT frameT (appended (afterT tables) 2 14) frameT
 unfolding rows stepOf textOf fieldsText digits digitsBy isName isNameByte isDigit isLower goneAt shownAt
-says-T = (refl, record { fits = few 2 1 0 tables noPairs 16 (omega arith) (omega arith); state = refl }, refl)
+says-T = (refl, record { hands = record { fits = few 2 1 0 tables noPairs 20 (omega arith) (omega arith); state = refl }; former = record { fits = says-none .1 .hands .fits; state = refl }; append = refl }, refl)
 
--- the table is created at epoch 1
-abbrev pub createdT : VersionManager
-createdT = holding 1 1 0 tables noPairs 12
+-- the table is created at epoch 1, by an append of n bytes
+abbrev pub createdT : ℕ → VersionManager
+createdT n = following (first .manager) n (holding 1 1 0 tables noPairs 14)
 
-pub fits-T : Fit (createdT .inner)
-fits-T = few 1 1 0 tables noPairs 12 (omega arith) (omega arith)
+pub fits-T : Fit (createdT 14 .inner)
+fits-T = few 1 1 0 tables noPairs 14 (omega arith) (omega arith)
 
 -- a manager without tables, where the record has one; and one with a table, where it has none
 pub no-table : (S : Steps) (w : World) (d : ℕ) (t : Table) → S .showTables (w .manager) (w .book) d [] [] [] [] (Shown 0) [] [] [] [] → ShowsTables S w d (t ∷ []) → ⊥
@@ -463,79 +493,79 @@ abbrev pub opsTA : List Operation
 opsTA = creates ∷ adds ∷ []
 
 abbrev pub frameTA : List ℕ
-frameTA = 66 ∷ 10 ∷ 84 ∷ 44 ∷ 48 ∷ 44 ∷ 55 ∷ 44 ∷ 97 ∷ 10 ∷ 65 ∷ 44 ∷ 48 ∷ 44 ∷ 48 ∷ 10 ∷ 69 ∷ 10 ∷ []
+frameTA = 33 ∷ 10 ∷ 66 ∷ 10 ∷ 84 ∷ 44 ∷ 48 ∷ 44 ∷ 55 ∷ 44 ∷ 97 ∷ 10 ∷ 65 ∷ 44 ∷ 48 ∷ 44 ∷ 48 ∷ 10 ∷ 69 ∷ 10 ∷ []
 
 abbrev pub afterTA : VersionManager
-afterTA = holding 1 1 1 tables (pair 1 0) 18
+afterTA = following (drawn .manager) 20 (holding 1 1 1 tables (pair 1 0) 20)
 
 abbrev pub commitTA : Event
-commitTA = commits (draws .after) opsTA afterTA 1 18 frameTA 0
+commitTA = commits (draws .after) opsTA afterTA 1 20 frameTA 0
 
-pub says-TA : CommitSays (drawn .manager) (length opsTA) opsTA frameTA (appended afterTA 1 18) frameTA
+pub says-TA : CommitSays (drawn .manager) (length opsTA) opsTA frameTA (appended afterTA 1 20) frameTA
 unfolding rows stepOf textOf fieldsText digits digitsBy isName isNameByte isDigit isLower goneAt shownAt
-says-TA = (refl, record { fits = few 1 1 1 tables (pair 1 0) 18 (omega arith) (omega arith); state = refl }, refl)
+says-TA = (refl, record { hands = record { fits = few 1 1 1 tables (pair 1 0) 20 (omega arith) (omega arith); state = refl }; former = record { fits = draw-says .manager .hands .fits; state = refl }; append = refl }, refl)
 
 abbrev CommitsTA : Steps → Type 0
-CommitsTA S = S .commit (drawn .manager) (length opsTA) opsTA frameTA (appended afterTA 1 18) frameTA
+CommitsTA S = S .commit (drawn .manager) (length opsTA) opsTA frameTA (appended afterTA 1 20) frameTA
 
 -- the claim of a draw, this commit and further calls
 pub on-TA : (S : Steps) → Claim S → S .fresh first → S .drawRowset (first .manager) drawn → CommitsTA S → (es : List Event) → Chain S (commitTA .after) es → Holds S begun (draws ∷ commitTA ∷ es)
 on-TA S claim fresh draw says es c =
-    claim begun (draws ∷ commitTA ∷ es) (begins S fresh) (refl, drew S draw, (refl, committed S (draws .after) opsTA afterTA 1 18 frameTA 0 says, c))
+    claim begun (draws ∷ commitTA ∷ es) (begins S fresh) (refl, drew S draw, (refl, committed S (draws .after) opsTA afterTA 1 20 frameTA 0 says, c))
 
 -- And the rowset's vector.
 abbrev pub opsTAV : List Operation
 opsTAV = creates ∷ adds ∷ addVector 0 0 0 ∷ []
 
 abbrev pub frameTAV : List ℕ
-frameTAV = 66 ∷ 10 ∷ 84 ∷ 44 ∷ 48 ∷ 44 ∷ 55 ∷ 44 ∷ 97 ∷ 10 ∷ 65 ∷ 44 ∷ 48 ∷ 44 ∷ 48 ∷ 10 ∷ 86 ∷ 44 ∷ 48 ∷ 44 ∷ 48 ∷ 44 ∷ 48 ∷ 10 ∷ 69 ∷ 10 ∷ []
+frameTAV = 33 ∷ 10 ∷ 66 ∷ 10 ∷ 84 ∷ 44 ∷ 48 ∷ 44 ∷ 55 ∷ 44 ∷ 97 ∷ 10 ∷ 65 ∷ 44 ∷ 48 ∷ 44 ∷ 48 ∷ 10 ∷ 86 ∷ 44 ∷ 48 ∷ 44 ∷ 48 ∷ 44 ∷ 48 ∷ 10 ∷ 69 ∷ 10 ∷ []
 
 abbrev pub afterTAV : VersionManager
-afterTAV = holdingAll 1 1 1 1 tables (pair 1 0) (vectorOf 1 0) 26
+afterTAV = following (drawnVector .manager) 28 (holdingAll 1 1 1 1 tables (pair 1 0) (vectorOf 1 0) 28)
 
 abbrev pub commitTAV : Event
-commitTAV = commits (drawsVector .after) opsTAV afterTAV 1 26 frameTAV 0
+commitTAV = commits (drawsVector .after) opsTAV afterTAV 1 28 frameTAV 0
 
-pub says-TAV : CommitSays (drawnVector .manager) (length opsTAV) opsTAV frameTAV (appended afterTAV 1 26) frameTAV
+pub says-TAV : CommitSays (drawnVector .manager) (length opsTAV) opsTAV frameTAV (appended afterTAV 1 28) frameTAV
 unfolding rows stepOf textOf fieldsText digits digitsBy isName isNameByte isDigit isLower goneAt shownAt
 says-TAV =
-    (refl, record { fits = few-all 1 1 1 1 tables (pair 1 0) (vectorOf 1 0) 26 (omega arith) (omega arith) (omega arith); state = refl }, refl)
+    (refl, record { hands = record { fits = few-all 1 1 1 1 tables (pair 1 0) (vectorOf 1 0) 28 (omega arith) (omega arith) (omega arith); state = refl }; former = record { fits = draw-vector-says .manager .hands .fits; state = refl }; append = refl }, refl)
 
 -- the rowset alone is deleted
 abbrev pub frameD : List ℕ
-frameD = 66 ∷ 10 ∷ 68 ∷ 44 ∷ 48 ∷ 44 ∷ 48 ∷ 10 ∷ 69 ∷ 10 ∷ []
+frameD = 33 ∷ 10 ∷ 66 ∷ 10 ∷ 68 ∷ 44 ∷ 48 ∷ 44 ∷ 48 ∷ 10 ∷ 69 ∷ 10 ∷ []
 
 -- The rowset is added at epoch 1, epoch 1 is pinned, and the rowset is deleted at epoch 2.
 abbrev pub opsD : List Operation
 opsD = deletes ∷ []
 
-abbrev pub afterD : Rowsets → VersionManager
-afterD l = holding 2 1 1 tables l 28
+abbrev pub afterD : VersionManager
+afterD = following afterTA 12 (holding 2 1 1 tables (pair 1 2) 32)
 
 abbrev pub pinTA : Event
 pinTA = pins (commitTA .after) 1 once
 
 abbrev pub commitD : Event
-commitD = commits (pinTA .after) opsD (afterD (pair 1 2)) 2 10 frameD 0
+commitD = commits (pinTA .after) opsD afterD 2 12 frameD 0
 
 pub pin-says-TA : PinSays afterTA unpinned (Pinned 1) once
 unfolding rows isName isNameByte isDigit isLower goneAt shownAt
 pin-says-TA = record { answer = refl; book = record { fits = omega arith; pins = refl } }
 
-pub says-D : CommitSays afterTA (length opsD) opsD frameD (appended (afterD (pair 1 2)) 2 10) frameD
+pub says-D : CommitSays afterTA (length opsD) opsD frameD (appended afterD 2 12) frameD
 unfolding rows stepOf textOf fieldsText digits digitsBy isName isNameByte isDigit isLower goneAt shownAt
-says-D = (refl, record { fits = few 2 1 1 tables (pair 1 2) 28 (omega arith) (omega arith); state = refl }, refl)
+says-D = (refl, record { hands = record { fits = few 2 1 1 tables (pair 1 2) 32 (omega arith) (omega arith); state = refl }; former = record { fits = says-TA .1 .hands .fits; state = refl }; append = refl }, refl)
 
 -- the claim of these calls and further ones, by a manager that draws, commits and pins as the port does
 module _ (S : Steps) (claim : Claim S) (fresh : S .fresh first) (draw : S .drawRowset (first .manager) drawn)
-    (add : S .commit (drawn .manager) (length opsTA) opsTA frameTA (appended afterTA 1 18) frameTA) (guard : S .pin afterTA unpinned (Pinned 1) once)
-    (delete : S .commit afterTA (length opsD) opsD frameD (appended (afterD (pair 1 2)) 2 10) frameD) where
+    (add : S .commit (drawn .manager) (length opsTA) opsTA frameTA (appended afterTA 1 20) frameTA) (guard : S .pin afterTA unpinned (Pinned 1) once)
+    (delete : S .commit afterTA (length opsD) opsD frameD (appended afterD 2 12) frameD) where
   pub on-D : (es : List Event) → Chain S (commitD .after) es → Holds S begun (draws ∷ commitTA ∷ pinTA ∷ commitD ∷ es)
   on-D es c =
       on-TA S claim fresh draw add (pinTA ∷ commitD ∷ es) (
         refl,
         pinned S (commitTA .after) 1 once guard,
-        (refl, committed S (pinTA .after) opsD (afterD (pair 1 2)) 2 10 frameD 0 delete, c),
+        (refl, committed S (pinTA .after) opsD afterD 2 12 frameD 0 delete, c),
       )
 
 -- a show without pairs, where the record has one

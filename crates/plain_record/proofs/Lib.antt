@@ -15,6 +15,7 @@ pub mod Draw
 pub mod Pin
 pub mod Unpin
 pub mod Vacuum
+pub mod Report
 pub mod Standing
 pub mod Reopen
 pub mod Checkpoint
@@ -25,8 +26,10 @@ pub mod Theorem
 pub mod Worked
 pub mod Events
 pub mod WrongManifests
+pub mod WrongReports
 pub mod WrongCheckpoints
 pub mod WrongTables
 pub mod Wrong
 pub mod Story
 pub mod Either
+pub mod ShortWrite

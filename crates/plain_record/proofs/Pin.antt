@@ -14,16 +14,17 @@ use Rattle.pins.specs.Book.{PinEntry, pinsOf, placeOn, Keeps, badBook}
 use Rattle.pins.specs.Guards.{guardsOf, bound}
 use Rattle.pins.specs.Counts.{pinsAt, withPin}
 use Rattle.pins.proofs.Bound.{bound-le, bound-recounted}
-use Rattle.version_manager.specs.Managers.{heldBy}
+use Rattle.version_manager.specs.declared.VersionManager.{VersionManager}
+use Rattle.version_manager.specs.Managers.{heldBy, formerBy}
 use Rattle.pinning.specs.Says.{BookAfter, pinVerdict}
 use Rattle.pinning.proofs.Laws.{pin-laws}
 use Rattle.plain_record.specs.Calls.{asPin}
-use Rattle.plain_record.specs.Plain.{Plain, epochOf, onePin, withPins, Record, turn}
-use Rattle.plain_record.specs.Run.{World, isAccepted, value, port, DidPin}
-use Rattle.plain_record.proofs.Invariant.{Filed, Inv}
+use Rattle.plain_record.specs.Plain.{Plain, epochOf, onePin, withPins, Former, gone, former, Record, turn}
+use Rattle.plain_record.specs.Run.{Append, World, isAccepted, value, port, DidPin}
+use Rattle.plain_record.proofs.Invariant.{Filed, Recalled, Inv}
 use Rattle.plain_record.proofs.Stands.{Stands, stands-of, accepted-stands, by-verdict, onward-kept}
 
-filed-pins : (f : List ℕ) (s : State) (l : List PinEntry) (p : Plain) → Filed f s p → Filed f s (withPins l p)
+pub filed-pins : (f : List ℕ) (s : State) (l : List PinEntry) (p : Plain) → Filed f s p → Filed f s (withPins l p)
 filed-pins f s l p k = record { state = k .state; holds = k .holds; same = k .same; long = k .long; next = k .next }
 
 pub with-pin : (e : ℕ) (l : List PinEntry) → withPin (placeOn e) l ≡ onePin e l
@@ -45,6 +46,24 @@ stands-pins s b b′ f l p k g e h =
       file = filed-pins f s l p (k .file);
     }
 
+-- and what is kept for a report, beside such a book
+pub recalled-book : (m : VersionManager) (b b′ : PinBook) (a : Append) (p : Plain) (f : Former) (l : List PinEntry) → Recalled m b a p f
+    → (formerBy m .epoch ≤ epochOf p → bound (guardsOf (formerBy m) b) ≤ bound (guardsOf (formerBy m) b′)) → Recalled m b′ a (withPins l p) f
+recalled-book m b b′ a p gone l k h = k
+recalled-book m b b′ a p (former q) l k h =
+    let g = h (omega (arith, k .current)) in
+    record {
+      current = k .current;
+      long = k .long;
+      epoch = k .epoch;
+      tables = k .tables;
+      pairs = λ d x. k .pairs d (omega arith);
+      vectors = λ d x. k .vectors d (omega arith);
+      waiting = k .waiting;
+      next = k .next;
+      cut = k .cut;
+    }
+
 module _ (w : World) (r : Record) (t : Told) (l : List (List ℕ)) (v : World) (i : Inv w r) (d : DidPin port w t l v) where
   abbrev epoch : ℕ
   epoch = w .manager .inner .epoch
@@ -58,6 +77,13 @@ module _ (w : World) (r : Record) (t : Told) (l : List (List ℕ)) (v : World) (
       stands-pins (heldBy (w .manager)) (w .book) (d .book) (w .file) (onePin (epochOf (r .whole)) (r .whole .pinned)) (r .whole) (stands-of w r i)
       (pin-laws .pin (w .manager) (w .book) (d .answer) (d .book) (d .says) (i .book)) e h
 
+  recalled-pinned : Keeps (d .book) (withPin (placeOn epoch) (pinsOf (w .book)))
+      → Recalled (w .manager) (d .book) (w .last) (withPins (onePin (epochOf (r .whole)) (r .whole .pinned)) (r .whole)) (r .former)
+  recalled-pinned k =
+      let f = formerBy (w .manager) in
+      recalled-book (w .manager) (w .book) (d .book) (w .last) (r .whole) (r .former) _ (i .recalled)
+      (λ h. bound-recounted f (w .book) (d .book) (placeOn epoch) (pinsAt (placeOn epoch) (pinsOf (w .book)) + 1) k (omega (arith, i .epoch, bound-le (guardsOf f (w .book)))))
+
   abbrev After : Verdict → Type 0
   After x = BookAfter x (w .book) (withPin (placeOn epoch) (pinsOf (w .book))) (d .book)
 
@@ -65,7 +91,7 @@ module _ (w : World) (r : Record) (t : Told) (l : List (List ℕ)) (v : World) (
   pin-kept id =
       let p = withPins (onePin (epochOf (r .whole)) (r .whole .pinned)) (r .whole) in
       onward-kept asPin id w r (w .manager) (d .book) (pinVerdict (w .manager) (w .book)) (epoch ∷ []) t v i (d .after) (d .told ∙ d .says .answer)
-      (λ a. accepted-stands (w .manager) (d .book) (w .file) (heldBy (w .manager)) p (r .place + 1) (i .sound) refl (stands-pinned (subst After a (d .says .book))))
+      (λ a. accepted-stands (w .manager) (d .book) (w .file) (w .last) (heldBy (w .manager)) p (r .former) (r .place + 1) (i .sound) refl (stands-pinned (subst After a (d .says .book))) (recalled-pinned (subst After a (d .says .book))))
       (λ k a. (refl, subst After a (d .says .book)))
 
   pub pin-answers : isAccepted t ≡ true → value 0 t ≡ epochOf (r .whole)

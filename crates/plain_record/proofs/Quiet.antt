@@ -13,7 +13,7 @@ use Rattle.version_manager.specs.declared.VersionManager.{VersionManager}
 use Rattle.version_manager.specs.Managers.{heldBy, badManager, HandsBack}
 use Rattle.version_state.specs.Sets.{unlocked}
 use Rattle.plain_record.specs.Calls.{quiet}
-use Rattle.plain_record.specs.Plain.{Plain, Record, turn}
+use Rattle.plain_record.specs.Plain.{Plain, gone, Record, turn}
 use Rattle.plain_record.specs.Run.{World, isAccepted, onward}
 use Rattle.plain_record.proofs.Invariant.{plainTable, Inv}
 use Rattle.plain_record.proofs.CommitSets.{plain-unlocked}
@@ -61,8 +61,8 @@ pub quiet-kept : (id : ℕ) (w : World) (r : Record) (m : VersionManager) (s : S
     → Inv v (turn quiet (isAccepted t) id r)
 quiet-kept id w r m s x vs t v i after e back sound a =
     onward-kept quiet id w r m (w .book) x vs t v i after e
-    (λ q. accepted-stands m (w .book) (w .file) s (r .whole) (r .place + 1) (sound q) (handed Accepted q .state)
-    (stands-unmoved (heldBy (w .manager)) s (w .book) (w .file) (r .whole) a (stands-of w r i)))
+    (λ q. accepted-stands m (w .book) (w .file) (w .last) s (r .whole) gone (r .place + 1) (sound q) (handed Accepted q .hands .state)
+    (stands-unmoved (heldBy (w .manager)) s (w .book) (w .file) (r .whole) a (stands-of w r i)) (handed Accepted q .nothing))
     (λ j q. (handed (Refused j) q, refl))
   where
     handed : (y : Verdict) → x ≡ y → HandsBack y (w .manager) s m

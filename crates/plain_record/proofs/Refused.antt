@@ -3,7 +3,7 @@ use mathlib.Core.Path.{_≡_, refl}
 use mathlib.Core.Bool.{false}
 use lib.Dec.{eqb}
 use Rattle.ids.specs.declared.refusal.Refusal.{Refusal}
-use Rattle.ids.specs.declared.refusal.Refusal.the-variants.{ManifestTooLong, Malformed, TableConflict, OverLimit, RowsetWithoutTable, TooManyOperations, BadRecord, WrongCount, OutputTooShort, PinAtEpochZero, TableNotLive, PairNotShown, VectorNotShown, IdNotDrawn, NameTaken, StillHeld, LeftBehind, PinsFull, PinnedEpochsFull, EpochsFull, TablesFull, HeldFull, ManifestFull, EpochNotPinned, LockHeld, IdsUsedUp, LockNotHeld, BadPinBook, BadManager}
+use Rattle.ids.specs.declared.refusal.Refusal.the-variants.{ManifestTooLong, Malformed, TableConflict, OverLimit, RowsetWithoutTable, TooManyOperations, BadRecord, WrongCount, OutputTooShort, PinAtEpochZero, TableNotLive, PairNotShown, VectorNotShown, IdNotDrawn, NameTaken, StillHeld, LeftBehind, PinsFull, PinnedEpochsFull, EpochsFull, TablesFull, HeldFull, ManifestFull, EpochNotPinned, LockHeld, IdsUsedUp, LockNotHeld, BadPinBook, BadManager, NotReportable}
 use Rattle.ids.specs.Refusals.{numberOf}
 
 pub refused-number : (k : Refusal) → eqb (numberOf k) 0 ≡ false
@@ -36,3 +36,4 @@ refused-number IdsUsedUp = refl
 refused-number LockNotHeld = refl
 refused-number BadPinBook = refl
 refused-number BadManager = refl
+refused-number NotReportable = refl

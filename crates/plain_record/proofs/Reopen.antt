@@ -16,12 +16,14 @@ use Rattle.ids.specs.Answers.{Told, told}
 use Rattle.ids.specs.declared.refusal.Verdict.the-variants.{Accepted}
 use Rattle.ids.specs.Results.{given}
 use Rattle.snapshot.specs.Entries.{Entry, byDeletion}
-use Rattle.version_state.specs.State.{State, stateOf, withEpoch, Hands, pairsAt, vectorsAt}
+use Rattle.version_state.specs.State.{State, stateOf, withEpoch, pairsAt, vectorsAt}
 use Rattle.version_state.specs.Sets.{setsOf}
 use Rattle.pins.specs.declared.PinBook.{PinBook}
 use Rattle.pins.specs.Book.{badBook, Keeps}
 use Rattle.pins.specs.Guards.{guardsOf, bound}
 use Rattle.version_manager.specs.declared.VersionManager.{VersionManager}
+use Rattle.version_manager.specs.Managers.{Manages}
+use Rattle.version_manager.proofs.Managers.{nothing-passes}
 use Rattle.rewrite.specs.Rewritten.{rewrittenOf, longestRewritten}
 use Rattle.replay.specs.Replay.{stands, replayOf}
 use Rattle.recovery.specs.Holds as manifest
@@ -31,7 +33,7 @@ use Rattle.recovery.proofs.Again.{replay-room, replay-again}
 use Rattle.recovery.proofs.Appending.{holds-replayed}
 use Rattle.plain_record.specs.Sets.{Sets}
 use Rattle.plain_record.specs.Calls.{asReopen}
-use Rattle.plain_record.specs.Plain.{Plain, setsAt, kept, Record, recorded, turn}
+use Rattle.plain_record.specs.Plain.{Plain, setsAt, kept, gone, Record, recorded, turn}
 use Rattle.plain_record.specs.Run.{port, World, isAccepted, replaced, DidReopen}
 use Rattle.plain_record.specs.Claim.{waitingIn}
 use Rattle.plain_record.proofs.Invariant.{plainTable, Torn, Inv}
@@ -103,14 +105,14 @@ module _ (w : World) (r : Record) (i : Inv w r) (m : VersionManager) (b : PinBoo
   old-torn : Torn (w .torn) (kept (r .torn))
   old-torn = record { state = s; replayed = t .replayed; sets = t .sets; next = t .next }
 
-  pub handed-on : (stale : Bool) (place : ℕ) → Hands (m .inner) (withEpoch s (s .epoch) n) → Keeps b []
-      → Inv (replaced m b (w .torn) (rewrittenOf s) stale) (recorded (kept (r .torn)) (kept (r .torn)) place)
+  pub handed-on : (stale : Bool) (place : ℕ) → Manages m (withEpoch s (s .epoch) n) → Keeps b []
+      → Inv (replaced m b (w .torn) (rewrittenOf s) stale) (recorded (kept (r .torn)) (kept (r .torn)) gone place)
   handed-on stale place k e =
-      let z = k .state in
+      let z = k .hands .state in
       let one : m .inner .epoch ≡ 1 = ap (λ (u : State). u .epoch) z ∙ at-one (w .torn) s (t .replayed) in
       let low : bound (guardsOf (stateOf (m .inner)) b) ≡ 1 = rw (e .pins) one in
       record {
-        sound = replay-sound (w .torn) s (m .inner) n (t .replayed) (omega (arith, room)) k;
+        sound = nothing-passes m (replay-sound (w .torn) s (m .inner) n (t .replayed) (omega (arith, room)) (k .hands)) (k .nothing);
         book = empty-book (m .inner .epoch) b e;
         epoch = one;
         tables = ap (λ (u : State). map plainTable (u .tables)) z ∙ ap (λ (u : Sets). u .tables) (t .sets);
@@ -132,6 +134,7 @@ module _ (w : World) (r : Record) (i : Inv w r) (m : VersionManager) (b : PinBoo
               next = t .next;
             };
         torn = replaced-torn (w .torn) (rewrittenOf s) (kept (r .torn)) stale old-torn file-torn;
+        recalled = k .nothing;
       }
 
 -- the bytes of a run that was written over the start of a buffer
@@ -151,7 +154,7 @@ module _ (w : World) (t : Told) (l : List (List ℕ)) (v : World) (out : List �
   short-stays : (id : ℕ) → isAccepted t ≡ false → Inv v (turn (asReopen (length out)) (isAccepted t) id r)
   short-stays id e =
       let z : v ≡ w = d .after ∙ rw e in
-      rw (z, e) (inv-stays w w r (r .place + 1) refl refl refl refl i)
+      rw (z, e) (inv-stays w w r (r .place + 1) refl refl refl refl refl i)
 
   pub reopen-keeps : (id : ℕ) → Inv v (turn (asReopen (length out)) (isAccepted t) id r)
   reopen-keeps id =

@@ -18,12 +18,13 @@ use Rattle.pins.specs.Guards.{guardsOf, bound}
 use Rattle.pins.proofs.Bound.{bound-le}
 use Rattle.version_manager.specs.declared.VersionManager.{VersionManager}
 use Rattle.version_manager.specs.Managers.{heldBy, badManager}
+use Rattle.version_manager.proofs.Managers.{inner-passes}
 use Rattle.plain_record.specs.Sets.{Sets, sets}
 use Rattle.plain_record.specs.Calls.{Kind}
-use Rattle.plain_record.specs.Plain.{Plain, epochOf, setsAt, Record, recorded, accepts, turn}
-use Rattle.plain_record.specs.Run.{World, world, isAccepted, onward}
+use Rattle.plain_record.specs.Plain.{Plain, epochOf, setsAt, Former, Record, recorded, accepts, turn}
+use Rattle.plain_record.specs.Run.{Append, World, world, isAccepted, onward}
 use Rattle.plain_record.specs.Claim.{waitingIn, waitingOf, belowNext}
-use Rattle.plain_record.proofs.Invariant.{plainTable, plainSets, Filed, Torn, Inv}
+use Rattle.plain_record.proofs.Invariant.{plainTable, plainSets, Filed, Torn, Recalled, Inv}
 use Rattle.plain_record.proofs.Landed.{landed}
 use Rattle.plain_record.proofs.Refused.{refused-number}
 
@@ -43,10 +44,10 @@ pub stands-of : (w : World) (r : Record) → Inv w r → Stands (heldBy (w .mana
 stands-of w r i =
     record { book = i .book; epoch = i .epoch; tables = i .tables; pairs = i .pairs; vectors = i .vectors; pins = i .pins; waiting = i .waiting; next = i .next; file = i .file }
 
-pub of-stands : (m : VersionManager) (b : PinBook) (f t : List ℕ) (p q : Plain) (n : ℕ) → badManager m ≡ false → Stands (heldBy m) b f p → Torn t q
-    → Inv (world m b f t) (recorded p q n)
-of-stands m b f t p q n good s k =
-    record { sound = good; book = s .book; epoch = s .epoch; tables = s .tables; pairs = s .pairs; vectors = s .vectors; pins = s .pins; waiting = s .waiting; next = s .next; file = s .file; torn = k }
+pub of-stands : (m : VersionManager) (b : PinBook) (f t : List ℕ) (a : Append) (p q : Plain) (x : Former) (n : ℕ) → badManager m ≡ false → Stands (heldBy m) b f p → Torn t q → Recalled m b a p x
+    → Inv (world m b f t a) (recorded p q x n)
+of-stands m b f t a p q x n good s k c =
+    record { sound = good; book = s .book; epoch = s .epoch; tables = s .tables; pairs = s .pairs; vectors = s .vectors; pins = s .pins; waiting = s .waiting; next = s .next; file = s .file; torn = k; recalled = c }
 
 -- the current epoch is the record's last
 sets-now : (p : Plain) → setsAt (epochOf p) p ≡ p .now
@@ -60,16 +61,16 @@ shows-now s b f p k =
     λ i. sets (k .tables i) (x i) (y i)
 
 -- an accepted call that hands on a manager in the state s
-pub accepted-stands : (m : VersionManager) (b : PinBook) (f : List ℕ) (s : State) (p : Plain) (n : ℕ) → badManager m ≡ false → heldBy m ≡ s → Stands s b f p
-    → Inv (world m b f f) (recorded p p n)
-accepted-stands m b f s p n good e k =
+pub accepted-stands : (m : VersionManager) (b : PinBook) (f : List ℕ) (a : Append) (s : State) (p : Plain) (x : Former) (n : ℕ) → badManager m ≡ false → heldBy m ≡ s → Stands s b f p → Recalled m b a p x
+    → Inv (world m b f f a) (recorded p p x n)
+accepted-stands m b f a s p x n good e k c =
     let q = subst (λ (u : State). Stands u b f p) (sym e) k in
-    of-stands m b f f p p n good q (landed f (heldBy m) p (sound-of (m .inner) good .manifest) (shows-now (heldBy m) b f p q) (q .file))
+    of-stands m b f f a p p x n good q (landed f (heldBy m) p (sound-of (m .inner) (inner-passes m good) .manifest) (shows-now (heldBy m) b f p q) (q .file)) c
 
 -- after a refused call all stands as it stood, but the place
-pub inv-stays : (w v : World) (r : Record) (n : ℕ) → v .manager ≡ w .manager → v .book ≡ w .book → v .file ≡ w .file → v .torn ≡ w .torn
-    → Inv w r → Inv v (recorded (r .whole) (r .torn) n)
-inv-stays w v r n m b f t i =
+pub inv-stays : (w v : World) (r : Record) (n : ℕ) → v .manager ≡ w .manager → v .book ≡ w .book → v .file ≡ w .file → v .torn ≡ w .torn → v .last ≡ w .last
+    → Inv w r → Inv v (recorded (r .whole) (r .torn) (r .former) n)
+inv-stays w v r n m b f t a i =
     record {
       sound = rw m (i .sound);
       book = rw (m, b) (i .book);
@@ -82,11 +83,12 @@ inv-stays w v r n m b f t i =
       next = rw m (i .next);
       file = rw (m, f) (i .file);
       torn = rw t (i .torn);
+      recalled = rw (m, b, a) (i .recalled);
     }
 
 pub refused-stands : (w : World) (r : Record) (m : VersionManager) (b : PinBook) → m ≡ w .manager → b ≡ w .book → Inv w r
-    → Inv (world m b (w .file) (w .torn)) (recorded (r .whole) (r .torn) (r .place + 1))
-refused-stands w r m b e h i = inv-stays w (world m b (w .file) (w .torn)) r (r .place + 1) e h refl refl i
+    → Inv (world m b (w .file) (w .torn) (w .last)) (recorded (r .whole) (r .torn) (r .former) (r .place + 1))
+refused-stands w r m b e h i = inv-stays w (world m b (w .file) (w .torn) (w .last)) r (r .place + 1) e h refl refl refl i
 
 -- the two turns of a call, by its verdict v; t is what its answer tells
 pub by-verdict : (P : Bool → Type 0) (v : Verdict) (vs : List ℕ) (t : Told) → t ≡ told v vs → (v ≡ Accepted → P true) → ((k : Refusal) → v ≡ Refused k → P false) → P (isAccepted t)
@@ -95,9 +97,9 @@ by-verdict P (Refused k) vs t e a r = subst (λ (u : Told). P (isAccepted u)) (s
 
 -- a call of the kind k that appends nothing and hands on the manager m and the book b; x is its verdict
 pub onward-kept : (k : Kind) (id : ℕ) (w : World) (r : Record) (m : VersionManager) (b : PinBook) (x : Verdict) (vs : List ℕ) (t : Told) (v : World) → Inv w r
-    → v ≡ onward m b t w → t ≡ told x vs → (x ≡ Accepted → Inv (world m b (w .file) (w .file)) (accepts k id r)) → ((j : Refusal) → x ≡ Refused j → (m ≡ w .manager) × (b ≡ w .book))
+    → v ≡ onward m b t w → t ≡ told x vs → (x ≡ Accepted → Inv (world m b (w .file) (w .file) (w .last)) (accepts k id r)) → ((j : Refusal) → x ≡ Refused j → (m ≡ w .manager) × (b ≡ w .book))
     → Inv v (turn k (isAccepted t) id r)
 onward-kept k id w r m b x vs t v i after e took stayed =
     subst (λ (u : World). Inv u (turn k (isAccepted t) id r)) (sym after)
-    (by-verdict (λ a. Inv (world m b (w .file) (cond a (w .file) (w .torn))) (turn k a id r)) x vs t e took
+    (by-verdict (λ a. Inv (world m b (w .file) (cond a (w .file) (w .torn)) (w .last)) (turn k a id r)) x vs t e took
     (λ j q. refused-stands w r m b (stayed j q .0) (stayed j q .1) i))

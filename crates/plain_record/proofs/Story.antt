@@ -19,7 +19,7 @@ use Rattle.table.specs.Made.{deleteVectorOf, isOver, compactOperations}
 use Rattle.table.specs.Laws.{pairsWith, putAll}
 use Rattle.version_manager.specs.Managers.{heldBy}
 use Rattle.plain_record.specs.Sets.{Sets, applyAll}
-use Rattle.plain_record.specs.Calls.{Call, Kind, quiet, asCommit, asPin, asUnpin, asVacuum, asCheckpoint, asReopen, kindOf}
+use Rattle.plain_record.specs.Calls.{Call, Kind, quiet, asCommit, asPin, asUnpin, asVacuum, asReport, asCheckpoint, asReopen, kindOf}
 use Rattle.plain_record.specs.Plain.{Plain, epochOf, Record, atStart, turn}
 use Rattle.plain_record.specs.Run.{Steps, World, Event, isAccepted, value, port, Chain, lastOf}
 use Rattle.plain_record.specs.Shows.{ShowsPairs}
@@ -95,6 +95,7 @@ still-turn b z (asCommit made missing) true id r s h = clash s refl
 still-turn b z asPin true id r s h = settled b z r _ h refl refl
 still-turn b z (asUnpin e) true id r s h = settled b z r _ h refl refl
 still-turn b z asVacuum true id r s h = settled b z r _ h refl refl
+still-turn b z (asReport n) true id r s h = clash s refl
 still-turn b z (asCheckpoint lent) true id r s h = settled b z r _ h refl refl
 still-turn b z (asReopen lent) true id r s h = clash s refl
 still-turn b z k false id r s h = record { whole = h .whole; landed = h .landed; torn = h .torn }

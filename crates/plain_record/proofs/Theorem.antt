@@ -11,10 +11,10 @@ use Rattle.version_manager.proofs.Laws.{draw-laws}
 use Rattle.replay.specs.Replay.{reopened}
 use Rattle.recovery.proofs.Appending.{empty-holds, holds-replayed}
 use Rattle.plain_record.specs.Sets.{Sets, none}
-use Rattle.plain_record.specs.Calls.{Call, drawRowset, drawVector, group, lock, unlock, commit, create, drop, compact, pin, unpin, vacuum, checkpoint, reopen, kindOf}
+use Rattle.plain_record.specs.Calls.{Call, drawRowset, drawVector, group, lock, unlock, commit, create, drop, compact, pin, unpin, vacuum, report, checkpoint, reopen, kindOf}
 use Rattle.plain_record.specs.Plain.{Record, atStart}
 use Rattle.plain_record.specs.Plain.{start as plain-start}
-use Rattle.plain_record.specs.Run.{World, world, Event, value, port, LinkBy, Starts}
+use Rattle.plain_record.specs.Run.{noAppend, World, world, Event, value, port, LinkBy, Starts}
 use Rattle.plain_record.specs.Claim.{waitingIn, Claim}
 use Rattle.plain_record.proofs.Invariant.{plainTable, Torn, Inv, Kept}
 use Rattle.plain_record.proofs.CommitShows.{shows-now}
@@ -23,6 +23,7 @@ use Rattle.plain_record.proofs.Commit.{commit-keeps, create-keeps, drop
 use Rattle.plain_record.proofs.Pin.{pin-kept, pin-answers}
 use Rattle.plain_record.proofs.Unpin.{unpin-kept}
 use Rattle.plain_record.proofs.Vacuum.{vacuum-kept, vacuum-lists}
+use Rattle.plain_record.proofs.Report.{report-kept, report-refused, report-answers}
 use Rattle.plain_record.proofs.Checkpoint.{checkpoint-kept, checkpoint-accepted}
 use Rattle.plain_record.proofs.Reopen.{empty-book, reopen-keeps, reopen-accepted}
 use Rattle.plain_record.proofs.Through.{claimed}
@@ -32,9 +33,9 @@ use Rattle.plain_record.proofs.Through.{claimed}
 nothing-yet : Torn [] plain-start
 nothing-yet = record { state = withEpoch start reopened 0; replayed = holds-replayed [] (withEpoch start reopened 0) empty-holds (omega arith); sets = refl; next = refl }
 
-start-inv : (o : Opened) → FreshSays o → Inv (world (o .manager) (o .book) [] []) atStart
+start-inv : (o : Opened) → FreshSays o → Inv (world (o .manager) (o .book) [] [] noAppend) atStart
 start-inv o f =
-    let z = f .manager .state in
+    let z = f .manager .hands .state in
     record {
       sound = draw-laws .fresh o f;
       book = empty-book (o .manager .inner .epoch) (o .book) (f .book);
@@ -54,6 +55,7 @@ start-inv o f =
             next = refl;
           };
       torn = nothing-yet;
+      recalled = f .manager .nothing;
     }
 
 pub starts : (w : World) → Starts port w → Inv w atStart
@@ -78,6 +80,11 @@ turned (vacuum ts rs) e r i d =
     record {
       inv = vacuum-kept (e .before) r (e .told) (e .listed) (e .after) ts rs i d (value 0 (e .told));
       answer = vacuum-lists (e .before) r (e .told) (e .listed) (e .after) ts rs i d;
+    }
+turned (report n) e r i d =
+    record {
+      inv = report-kept (e .before) r (e .told) (e .listed) (e .after) n i d (value 0 (e .told));
+      answer = (report-refused (e .before) r (e .told) (e .listed) (e .after) n i d, report-answers (e .before) r (e .told) (e .listed) (e .after) n i d);
     }
 turned (checkpoint out stale) e r i d =
     record {

@@ -15,15 +15,15 @@ use Rattle.pins.specs.Book.{PinEntry, pinsOf, placeOn, Keeps, hasPlace}
 use Rattle.pins.specs.Guards.{guardsOf}
 use Rattle.pins.specs.Counts.{pinsAt, leftOn, withoutPin}
 use Rattle.pins.proofs.Bound.{bound-guarded, held-pinned, bound-recounted}
-use Rattle.version_manager.specs.Managers.{heldBy}
+use Rattle.version_manager.specs.Managers.{heldBy, formerBy}
 use Rattle.pinning.specs.Says.{BookAfter, unpinRules, unpinVerdict, isDue, flag, readyOf}
 use Rattle.pinning.proofs.Laws.{pin-laws}
 use Rattle.plain_record.specs.Calls.{asUnpin}
 use Rattle.plain_record.specs.Plain.{oneLess, withPins, Record, turn}
 use Rattle.plain_record.specs.Run.{World, isAccepted, port, DidUnpin}
-use Rattle.plain_record.proofs.Invariant.{Inv}
+use Rattle.plain_record.proofs.Invariant.{Recalled, Inv}
 use Rattle.plain_record.proofs.Stands.{Stands, stands-of, accepted-stands, onward-kept}
-use Rattle.plain_record.proofs.Pin.{stands-pins}
+use Rattle.plain_record.proofs.Pin.{stands-pins, recalled-book}
 
 pub without-pin : (e : ℕ) (l : List PinEntry) → withoutPin (placeOn e) l ≡ oneLess e l
 without-pin e l =
@@ -48,6 +48,13 @@ module _ (w : World) (r : Record) (t : Told) (l : List (List ℕ)) (v : World) (
       stands-pins (heldBy (w .manager)) (w .book) (d .book) (w .file) (oneLess e (r .whole .pinned)) (r .whole) (stands-of w r i)
       (pin-laws .unpin (w .manager) e (w .book) (d .answer) (d .book) (d .says) (i .book)) q h
 
+  recalled-unpinned : hasPlace (placeOn e) pinsHeld ≡ true → Keeps (d .book) (withoutPin (placeOn e) pinsHeld)
+      → Recalled (w .manager) (d .book) (w .last) (withPins (oneLess e (r .whole .pinned)) (r .whole)) (r .former)
+  recalled-unpinned on k =
+      let f = formerBy (w .manager) in
+      recalled-book (w .manager) (w .book) (d .book) (w .last) (r .whole) (r .former) _ (i .recalled)
+      (λ h. bound-recounted f (w .book) (d .book) (placeOn e) (leftOn (placeOn e) pinsHeld) k (bound-guarded (guardsOf f (w .book)) e (held-pinned (placeOn e) pinsHeld on)))
+
   is-held : unpinVerdict (w .manager) e (w .book) ≡ Accepted → hasPlace (placeOn e) pinsHeld ≡ true
   is-held a = not-false (hasPlace (placeOn e) pinsHeld) (none-judged (unpinRules (w .manager) e (w .book)) a .1 .1 .0)
 
@@ -58,5 +65,5 @@ module _ (w : World) (r : Record) (t : Told) (l : List (List ℕ)) (v : World) (
   unpin-kept id =
       let p = withPins (oneLess e (r .whole .pinned)) (r .whole) in
       onward-kept (asUnpin e) id w r (w .manager) (d .book) (unpinVerdict (w .manager) e (w .book)) (flag (isDue (w .manager) e (w .book)) ∷ readyOf (d .answer) ∷ []) t v i (d .after) (d .told ∙ d .says .answer)
-      (λ a. accepted-stands (w .manager) (d .book) (w .file) (heldBy (w .manager)) p (r .place + 1) (i .sound) refl (stands-unpinned (is-held a) (subst After a (d .says .book))))
+      (λ a. accepted-stands (w .manager) (d .book) (w .file) (w .last) (heldBy (w .manager)) p (r .former) (r .place + 1) (i .sound) refl (stands-unpinned (is-held a) (subst After a (d .says .book))) (recalled-unpinned (is-held a) (subst After a (d .says .book))))
       (λ k a. (refl, subst After a (d .says .book)))

@@ -28,12 +28,13 @@ use Rattle.vacuum.specs.LetGo.{vacuumList, staysBy, vacuumed}
 use Rattle.vacuum.specs.Says.{boundOf, listOf}
 use Rattle.vacuum.proofs.Laws.{pairs-after, vectors-after, vacuum-sound}
 use Rattle.version_manager.specs.Managers.{heldBy, HandsBack}
+use Rattle.version_manager.proofs.Managers.{nothing-passes}
 use Rattle.version_manager.specs.Vacuum.{vacuumVerdict}
 use Rattle.plain_record.specs.Calls.{asVacuum}
-use Rattle.plain_record.specs.Plain.{Waiting, byEpochAndPair, Plain, guardsIn, listed, swept, Record, turn}
+use Rattle.plain_record.specs.Plain.{Waiting, byEpochAndPair, Plain, guardsIn, listed, swept, gone, Record, turn}
 use Rattle.plain_record.specs.Run.{port, World, isAccepted, value, paired, pairsIn, listedIf, DidVacuum}
 use Rattle.plain_record.specs.Claim.{waitingIn, waitingOf, pairsOf}
-use Rattle.plain_record.proofs.Invariant.{Inv, guards-alike}
+use Rattle.plain_record.proofs.Invariant.{passes, Inv, guards-alike}
 use Rattle.plain_record.proofs.Refused.{refused-number}
 use Rattle.plain_record.proofs.Stands.{Stands, accepted-stands, onward-kept}
 use Rattle.plain_record.proofs.CommitIds.{next-rise}
@@ -168,7 +169,7 @@ module _ (w : World) (r : Record) (t : Told) (l : List (List ℕ)) (v : World) (
       (λ (x : Entry) h.
       let a = both (leb (x .added) (inner .epoch)) (leb (x .deleted) (inner .epoch) && belowNext (x .ids) next) h in
       leb-true (x .deleted) (inner .epoch) (both (leb (x .deleted) (inner .epoch)) (belowNext (x .ids) next) (a .1) .0))
-      (allOf-all (within (inner .epoch) next) (stateOf inner .pairs) (sound-of inner (i .sound) .pairs))
+      (allOf-all (within (inner .epoch) next) (stateOf inner .pairs) (sound-of inner (passes w r i) .pairs))
 
   sets-stay : setsOf swept-state ≡ setsOf (stateOf inner)
   sets-stay =
@@ -196,8 +197,8 @@ module _ (w : World) (r : Record) (t : Told) (l : List (List ℕ)) (v : World) (
   vacuum-kept id =
       onward-kept asVacuum id w r (d .result .manager) (w .book) verdict (length (listOf (heldBy (w .manager)) (w .book)) ∷ []) t v i (d .after) tells
       (λ a. let h = subst Handed a (d .says .manager) in
-      accepted-stands (d .result .manager) (w .book) (w .file) swept-state (swept (r .whole)) (r .place + 1)
-      (vacuum-sound inner (d .result .manager .inner) to (bound-le (guardsOf (stateOf inner) (w .book))) (i .sound) h) (h .state) stands-swept)
+      accepted-stands (d .result .manager) (w .book) (w .file) (w .last) swept-state (swept (r .whole)) gone (r .place + 1)
+      (nothing-passes (d .result .manager) (vacuum-sound inner (d .result .manager .inner) to (bound-le (guardsOf (stateOf inner) (w .book))) (passes w r i) (h .hands)) (h .nothing)) (h .hands .state) stands-swept (h .nothing))
       (λ k a. (subst Handed a (d .says .manager), refl))
 
   abbrev list : List Entry

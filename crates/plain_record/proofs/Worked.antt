@@ -26,6 +26,7 @@ worked =
       zero = refl;
       told = refl;
       kept = refl;
+      takenBack = refl;
       undrawn = refl;
       drawn = refl;
     }

@@ -38,47 +38,54 @@ use Rattle.plain_record.specs.Run.{Steps, World, Event, Chain}
 use Rattle.plain_record.specs.Claim.{Claim, Holds}
 use Rattle.plain_record.specs.Shows.{ShowsVectors}
 use Rattle.plain_record.specs.Wrong.{unchanged, keepsSets, unraised, leavesEpoch, unjudged, judgesNothing, unaware, forgetsWaiting, CommitLeaves, leavesPart, PinsNext, answersNext, PinsNothing, countsNoPin, PinsAnyway, countsRefused, UnpinsNothing, keepsPin, VacuumsTo, nothing, listsNothing, portBound, keepsListed, countsOneMore, loweredBound, keepsOwnEpoch, unguarded, ignoresPins, losesPairs, losesVectors, VacuumsAnyway, letsGoRefused, showsCurrent, showsCurrentVectors, refusesShow, Refuted, WrongRefuted}
-use Rattle.plain_record.proofs.Events.{apart, not-empty, holdsPairs, noTables, noPairs, noVectors, holdingAll, holding, few-all, few, unpinned, once, first, begun, drawn, drawnVector, appended, listedBy, draws, drawsVector, commits, pins, unpins, vacuums, commitRefused, pinRefused, vacuumRefused, begins, drew, drew-vector, committed, pinned, released, vacuumed, fresh-says, draw-says, draw-vector-says, adds, deletes, tables, pair, vectorOf, opsTAD, frameTAD, afterTAD, commitTAD, sweptTAD, fits-TAD, says-TAD, on-TAD, opsNone, frameNone, afterNone, opsT, frameT, afterT, commitNone, commitT, says-none, no-table, a-table, recorded, opsTA, frameTA, afterTA, commitTA, says-TA, on-TA, opsTAV, frameTAV, afterTAV, commitTAV, says-TAV, opsD, frameD, afterD, pinTA, commitD, pin-says-TA, says-D, on-D, no-pair, recordedPair}
+use Rattle.plain_record.proofs.Events.{apart, not-empty, holdsPairs, noTables, noPairs, noVectors, holdingAll, holding, following, few-all, few, unpinned, once, first, begun, drawn, drawnVector, appended, listedBy, draws, drawsVector, commits, pins, unpins, vacuums, commitRefused, pinRefused, vacuumRefused, begins, drew, drew-vector, committed, pinned, released, vacuumed, fresh-says, draw-says, draw-vector-says, adds, deletes, tables, pair, vectorOf, opsTAD, frameTAD, heldTAD, afterTAD, commitTAD, sweptTAD, fits-TAD, says-TAD, on-TAD, opsNone, frameNone, afterNone, opsT, frameT, afterT, commitNone, commitT, says-none, no-table, a-table, recorded, opsTA, frameTA, afterTA, commitTA, says-TA, on-TA, opsTAV, frameTAV, afterTAV, commitTAV, says-TAV, opsD, frameD, afterD, pinTA, commitD, pin-says-TA, says-D, on-D, no-pair, recordedPair}
 use Rattle.plain_record.proofs.WrongManifests.{opens-empty, reads-first, reads-to-room, counts-early, forgets-ids, appends-no-end, rewrites-no-end, refuses-reopen}
+use Rattle.plain_record.proofs.WrongReports.{stays-at-epoch, keeps-deletions, loses-pinned, reads-torn, appends-no-mark}
 use Rattle.plain_record.proofs.WrongCheckpoints.{writes-waiting, forgets-let-go, keeps-length, drops-older}
 use Rattle.plain_record.proofs.WrongTables.{forgets-pairs, reuses-id, creates-refused, leaves-rowsets, leaves-vectors, keeps-taken, appends-new-alone}
 
 -- a vacuum lists nothing
-nothing-says : VacuumsTo 0 nothing nothing nothing afterTAD unpinned (5 ∷ []) (5 ∷ []) (listedBy afterTAD 0) (5 ∷ []) (5 ∷ [])
+nothing-says : VacuumsTo 0 nothing nothing nothing afterTAD unpinned (5 ∷ []) (5 ∷ []) (listedBy heldTAD 0) (5 ∷ []) (5 ∷ [])
 unfolding rows isName isNameByte isDigit isLower goneAt shownAt
-nothing-says = record { answer = refl; tables = refl; rowsets = refl; manager = record { fits = fits-TAD; state = refl } }
+nothing-says = record { answer = refl; tables = refl; rowsets = refl; manager = record { hands = record { fits = fits-TAD; state = refl }; nothing = refl } }
 
 lists-nothing : Refuted listsNothing
 lists-nothing claim =
     let S = listsNothing in
     let w = commitTAD .after in
     let h =
-    on-TAD S claim fresh-says draw-says says-TAD (vacuums w afterTAD 0 (5 ∷ []) (5 ∷ []) ∷ []) (refl, vacuumed S w afterTAD 0 (5 ∷ []) (5 ∷ []) nothing-says, tt) in
-    true≢false (sym (h .deletions .1 .0 refl refl .0 .0 refl .0 .1))
+    on-TAD S claim fresh-says draw-says says-TAD (vacuums w heldTAD 0 (5 ∷ []) (5 ∷ []) ∷ []) (refl, vacuumed S w heldTAD 0 (5 ∷ []) (5 ∷ []) nothing-says, tt) in
+    true≢false (sym (h .deletions .1 .0 refl refl refl .0 .0 refl .0 .1))
 
 -- a vacuum lists the deletion and keeps it, so that the next one lists it again
-listed-says : VacuumsTo 0 portBound nothing nothing afterTAD unpinned (5 ∷ []) (5 ∷ []) (listedBy afterTAD 1) (0 ∷ []) (0 ∷ [])
+listed-says : VacuumsTo 0 portBound nothing nothing afterTAD unpinned (5 ∷ []) (5 ∷ []) (listedBy heldTAD 1) (0 ∷ []) (0 ∷ [])
 unfolding rows isName isNameByte isDigit isLower goneAt shownAt
-listed-says = record { answer = refl; tables = refl; rowsets = refl; manager = record { fits = fits-TAD; state = refl } }
+listed-says =
+    record { answer = refl; tables = refl; rowsets = refl; manager = record { hands = record { fits = fits-TAD; state = refl }; nothing = refl } }
+
+listed-again : VacuumsTo 0 portBound nothing nothing heldTAD unpinned (5 ∷ []) (5 ∷ []) (listedBy heldTAD 1) (0 ∷ []) (0 ∷ [])
+unfolding rows isName isNameByte isDigit isLower goneAt shownAt
+listed-again =
+    record { answer = refl; tables = refl; rowsets = refl; manager = record { hands = record { fits = fits-TAD; state = refl }; nothing = refl } }
 
 keeps-listed : Refuted keepsListed
 keeps-listed claim =
     let S = keepsListed in
     let w = commitTAD .after in
-    let v = vacuums w afterTAD 1 (0 ∷ []) (0 ∷ []) in
+    let v = vacuums w heldTAD 1 (0 ∷ []) (0 ∷ []) in
     let h =
-    on-TAD S claim fresh-says draw-says says-TAD (v ∷ vacuums (v .after) afterTAD 1 (0 ∷ []) (0 ∷ []) ∷ []) (
+    on-TAD S claim fresh-says draw-says says-TAD (v ∷ vacuums (v .after) heldTAD 1 (0 ∷ []) (0 ∷ []) ∷ []) (
       refl,
-      vacuumed S w afterTAD 1 (0 ∷ []) (0 ∷ []) listed-says,
-      (refl, vacuumed S (v .after) afterTAD 1 (0 ∷ []) (0 ∷ []) listed-says, tt),
+      vacuumed S w heldTAD 1 (0 ∷ []) (0 ∷ []) listed-says,
+      (refl, vacuumed S (v .after) heldTAD 1 (0 ∷ []) (0 ∷ []) listed-again, tt),
     ) in
-    true≢false (h .deletions .1 .0 refl refl .0 .0 refl .1 .0 .1)
+    true≢false (h .deletions .1 .0 refl refl refl .0 .0 refl .1 .0 .1)
 
 -- a vacuum lists the deletion, lets it go and answers 2
 more-says : VacuumsTo 1 portBound portBound portBound afterTAD unpinned (5 ∷ []) (5 ∷ []) (listedBy sweptTAD 2) (0 ∷ []) (0 ∷ [])
 unfolding rows isName isNameByte isDigit isLower goneAt shownAt
 more-says =
-    record { answer = refl; tables = refl; rowsets = refl; manager = record { fits = few 1 1 1 tables noPairs 24 (omega arith) (omega arith); state = refl } }
+    record { answer = refl; tables = refl; rowsets = refl; manager = record { hands = record { fits = few 1 1 1 tables noPairs 26 (omega arith) (omega arith); state = refl }; nothing = refl } }
 
 counts-one-more : Refuted countsOneMore
 counts-one-more claim =
@@ -95,7 +102,7 @@ notListed = record { manager = sweptTAD; answer = NotListed OutputTooShort }
 anyway-says : VacuumsAnyway afterTAD unpinned [] [] notListed [] []
 unfolding rows isName isNameByte isDigit isLower goneAt shownAt
 anyway-says =
-    record { answer = refl; tables = refl; rowsets = refl; manager = record { fits = few 1 1 1 tables noPairs 24 (omega arith) (omega arith); state = refl } }
+    record { answer = refl; tables = refl; rowsets = refl; manager = record { hands = record { fits = few 1 1 1 tables noPairs 26 (omega arith) (omega arith); state = refl }; nothing = refl } }
 
 lets-go-refused : Refuted letsGoRefused
 unfolding rows
@@ -115,21 +122,21 @@ pin-says : PinSays afterTAD unpinned (Pinned 1) once
 unfolding rows isName isNameByte isDigit isLower goneAt shownAt
 pin-says = record { answer = refl; book = record { fits = omega arith; pins = refl } }
 
-own-says : VacuumsTo 0 loweredBound loweredBound loweredBound afterTAD once (5 ∷ []) (5 ∷ []) (listedBy afterTAD 0) (5 ∷ []) (5 ∷ [])
+own-says : VacuumsTo 0 loweredBound loweredBound loweredBound afterTAD once (5 ∷ []) (5 ∷ []) (listedBy heldTAD 0) (5 ∷ []) (5 ∷ [])
 unfolding rows isName isNameByte isDigit isLower goneAt shownAt
-own-says = record { answer = refl; tables = refl; rowsets = refl; manager = record { fits = fits-TAD; state = refl } }
+own-says = record { answer = refl; tables = refl; rowsets = refl; manager = record { hands = record { fits = fits-TAD; state = refl }; nothing = refl } }
 
 keeps-own-epoch : Refuted keepsOwnEpoch
 keeps-own-epoch claim =
     let S = keepsOwnEpoch in
     let p = pins (commitTAD .after) 1 once in
     let h =
-    on-TAD S claim fresh-says draw-says says-TAD (p ∷ vacuums (p .after) afterTAD 0 (5 ∷ []) (5 ∷ []) ∷ []) (
+    on-TAD S claim fresh-says draw-says says-TAD (p ∷ vacuums (p .after) heldTAD 0 (5 ∷ []) (5 ∷ []) ∷ []) (
       refl,
       pinned S (commitTAD .after) 1 once pin-says,
-      (refl, vacuumed S (p .after) afterTAD 0 (5 ∷ []) (5 ∷ []) own-says, tt),
+      (refl, vacuumed S (p .after) heldTAD 0 (5 ∷ []) (5 ∷ []) own-says, tt),
     ) in
-    true≢false (sym (h .deletions .1 .0 refl refl .0 .1 refl .1 .0 refl .0 .1))
+    true≢false (sym (h .deletions .1 .0 refl refl refl .0 .1 refl .1 .0 refl .0 .1))
 
 -- a pin answers the next epoch
 next-says : PinsNext afterTAD unpinned (Pinned 2) once
@@ -179,18 +186,18 @@ abbrev opsA : List Operation
 opsA = adds ∷ []
 
 abbrev frameA : List ℕ
-frameA = 66 ∷ 10 ∷ 65 ∷ 44 ∷ 48 ∷ 44 ∷ 48 ∷ 10 ∷ 69 ∷ 10 ∷ []
+frameA = 33 ∷ 10 ∷ 66 ∷ 10 ∷ 65 ∷ 44 ∷ 48 ∷ 44 ∷ 48 ∷ 10 ∷ 69 ∷ 10 ∷ []
 
 abbrev afterA : VersionManager
-afterA = holding 2 1 1 tables (pair 2 0) 34
+afterA = following afterTAD 12 (holding 2 1 1 tables (pair 2 0) 38)
 
-unjudged-TAD : CommitEnds (unjudged (drawn .manager) (length opsTAD) opsTAD 24) (drawn .manager) opsTAD frameTAD (appended afterTAD 1 24) frameTAD
+unjudged-TAD : CommitEnds (unjudged (drawn .manager) (length opsTAD) opsTAD 26) (drawn .manager) opsTAD frameTAD (appended afterTAD 1 26) frameTAD
 unfolding rows textOf fieldsText digits digitsBy isName isNameByte isDigit isLower goneAt shownAt
-unjudged-TAD = (refl, record { fits = fits-TAD; state = refl }, refl)
+unjudged-TAD = (refl, record { hands = record { fits = fits-TAD; state = refl }; former = record { fits = draw-says .manager .hands .fits; state = refl }; append = refl }, refl)
 
-unjudged-A : CommitEnds (unjudged afterTAD (length opsA) opsA 10) afterTAD opsA frameA (appended afterA 2 10) frameA
+unjudged-A : CommitEnds (unjudged afterTAD (length opsA) opsA 12) afterTAD opsA frameA (appended afterA 2 12) frameA
 unfolding rows textOf fieldsText digits digitsBy isName isNameByte isDigit isLower goneAt shownAt
-unjudged-A = (refl, record { fits = few 2 1 1 tables (pair 2 0) 34 (omega arith) (omega arith); state = refl }, refl)
+unjudged-A = (refl, record { hands = record { fits = few 2 1 1 tables (pair 2 0) 38 (omega arith) (omega arith); state = refl }; former = record { fits = fits-TAD; state = refl }; append = refl }, refl)
 
 judges-nothing : Refuted judgesNothing
 unfolding rows
@@ -198,7 +205,7 @@ judges-nothing claim =
     let S = judgesNothing in
     let w = commitTAD .after in
     let h =
-    on-TAD S claim fresh-says draw-says unjudged-TAD (commits w opsA afterA 2 10 frameA 0 ∷ []) (refl, committed S w opsA afterA 2 10 frameA 0 unjudged-A, tt) in
+    on-TAD S claim fresh-says draw-says unjudged-TAD (commits w opsA afterA 2 12 frameA 0 ∷ []) (refl, committed S w opsA afterA 2 12 frameA 0 unjudged-A, tt) in
     not-empty (h .agrees .waiting)
 
 -- It is added and deleted again, beside itself.
@@ -206,73 +213,76 @@ abbrev opsAD : List Operation
 opsAD = adds ∷ deletes ∷ []
 
 abbrev frameAD : List ℕ
-frameAD = 66 ∷ 10 ∷ 65 ∷ 44 ∷ 48 ∷ 44 ∷ 48 ∷ 10 ∷ 68 ∷ 44 ∷ 48 ∷ 44 ∷ 48 ∷ 10 ∷ 69 ∷ 10 ∷ []
+frameAD = 33 ∷ 10 ∷ 66 ∷ 10 ∷ 65 ∷ 44 ∷ 48 ∷ 44 ∷ 48 ∷ 10 ∷ 68 ∷ 44 ∷ 48 ∷ 44 ∷ 48 ∷ 10 ∷ 69 ∷ 10 ∷ []
 
 abbrev pairTwice : Rowsets
 pairTwice = holdsPairs (0 ∷ 0 ∷ []) (0 ∷ 0 ∷ []) (1 ∷ 2 ∷ []) (1 ∷ 2 ∷ []) 2
 
 abbrev afterAD : VersionManager
-afterAD = holding 2 1 1 tables pairTwice 40
+afterAD = following afterTAD 18 (holding 2 1 1 tables pairTwice 44)
 
-unaware-TAD : CommitEnds (unaware (drawn .manager) (length opsTAD) opsTAD 24) (drawn .manager) opsTAD frameTAD (appended afterTAD 1 24) frameTAD
+unaware-TAD : CommitEnds (unaware (drawn .manager) (length opsTAD) opsTAD 26) (drawn .manager) opsTAD frameTAD (appended afterTAD 1 26) frameTAD
 unfolding rows stepOf textOf fieldsText digits digitsBy isName isNameByte isDigit isLower goneAt shownAt
-unaware-TAD = (refl, record { fits = fits-TAD; state = refl }, refl)
+unaware-TAD = (refl, record { hands = record { fits = fits-TAD; state = refl }; former = record { fits = draw-says .manager .hands .fits; state = refl }; append = refl }, refl)
 
-unaware-AD : CommitEnds (unaware afterTAD (length opsAD) opsAD 16) afterTAD opsAD frameAD (appended afterAD 2 16) frameAD
+unaware-AD : CommitEnds (unaware afterTAD (length opsAD) opsAD 18) afterTAD opsAD frameAD (appended afterAD 2 18) frameAD
 unfolding rows stepOf textOf fieldsText digits digitsBy isName isNameByte isDigit isLower goneAt shownAt
-unaware-AD = (refl, record { fits = few 2 1 1 tables pairTwice 40 (omega arith) (omega arith); state = refl }, refl)
+unaware-AD = (refl, record { hands = record { fits = few 2 1 1 tables pairTwice 44 (omega arith) (omega arith); state = refl }; former = record { fits = fits-TAD; state = refl }; append = refl }, refl)
 
 forgets-waiting : Refuted forgetsWaiting
 forgets-waiting claim =
     let S = forgetsWaiting in
     let w = commitTAD .after in
     let h =
-    on-TAD S claim fresh-says draw-says unaware-TAD (commits w opsAD afterAD 2 16 frameAD 0 ∷ []) (refl, committed S w opsAD afterAD 2 16 frameAD 0 unaware-AD, tt) in
+    on-TAD S claim fresh-says draw-says unaware-TAD (commits w opsAD afterAD 2 18 frameAD 0 ∷ []) (refl, committed S w opsAD afterAD 2 18 frameAD 0 unaware-AD, tt) in
     true≢false (sym (h .agrees .apart))
 
 -- a vacuum ignores the pin
-fits-D : Fit (afterD noPairs .inner)
-fits-D = few 2 1 1 tables noPairs 28 (omega arith) (omega arith)
+abbrev sweptD : VersionManager
+sweptD = holding 2 1 1 tables noPairs 32
 
-all-says : VacuumsTo 0 unguarded unguarded unguarded (afterD (pair 1 2)) once (5 ∷ []) (5 ∷ []) (listedBy (afterD noPairs) 1) (0 ∷ []) (0 ∷ [])
+fits-D : Fit (sweptD .inner)
+fits-D = few 2 1 1 tables noPairs 32 (omega arith) (omega arith)
+
+all-says : VacuumsTo 0 unguarded unguarded unguarded afterD once (5 ∷ []) (5 ∷ []) (listedBy sweptD 1) (0 ∷ []) (0 ∷ [])
 unfolding rows isName isNameByte isDigit isLower goneAt shownAt
-all-says = record { answer = refl; tables = refl; rowsets = refl; manager = record { fits = fits-D; state = refl } }
+all-says = record { answer = refl; tables = refl; rowsets = refl; manager = record { hands = record { fits = fits-D; state = refl }; nothing = refl } }
 
 ignores-pins : Refuted ignoresPins
 ignores-pins claim =
     let S = ignoresPins in
     let w = commitD .after in
     let h =
-    on-D S claim fresh-says draw-says says-TA pin-says-TA says-D (vacuums w (afterD noPairs) 1 (0 ∷ []) (0 ∷ []) ∷ []) (
+    on-D S claim fresh-says draw-says says-TA pin-says-TA says-D (vacuums w sweptD 1 (0 ∷ []) (0 ∷ []) ∷ []) (
       refl,
-      vacuumed S w (afterD noPairs) 1 (0 ∷ []) (0 ∷ []) all-says,
+      vacuumed S w sweptD 1 (0 ∷ []) (0 ∷ []) all-says,
       tt,
     ) in
     not-empty (sym (h .answers .1 .1 .1 .1 .0 refl .0))
 
 -- it lists nothing and lets the pair go
-pairs-lost : VacuumsTo 0 portBound unguarded portBound (afterD (pair 1 2)) once (5 ∷ []) (5 ∷ []) (listedBy (afterD noPairs) 0) (5 ∷ []) (5 ∷ [])
+pairs-lost : VacuumsTo 0 portBound unguarded portBound afterD once (5 ∷ []) (5 ∷ []) (listedBy sweptD 0) (5 ∷ []) (5 ∷ [])
 unfolding rows isName isNameByte isDigit isLower goneAt shownAt
-pairs-lost = record { answer = refl; tables = refl; rowsets = refl; manager = record { fits = fits-D; state = refl } }
+pairs-lost = record { answer = refl; tables = refl; rowsets = refl; manager = record { hands = record { fits = fits-D; state = refl }; nothing = refl } }
 
-lost-shows : ShowPairsSays (afterD noPairs) once 1 [] [] (Shown 0) [] []
+lost-shows : ShowPairsSays sweptD once 1 [] [] (Shown 0) [] []
 unfolding rows isName isNameByte isDigit isLower goneAt shownAt
 lost-shows = record { answer = refl; tables = refl; rowsets = refl }
 
 loses-pairs : Refuted losesPairs
 loses-pairs claim =
     let S = losesPairs in
-    let v = vacuums (commitD .after) (afterD noPairs) 0 (5 ∷ []) (5 ∷ []) in
+    let v = vacuums (commitD .after) sweptD 0 (5 ∷ []) (5 ∷ []) in
     let h =
     on-D S claim fresh-says draw-says says-TA pin-says-TA says-D (v ∷ []) (
       refl,
-      vacuumed S (commitD .after) (afterD noPairs) 0 (5 ∷ []) (5 ∷ []) pairs-lost,
+      vacuumed S (commitD .after) sweptD 0 (5 ∷ []) (5 ∷ []) pairs-lost,
       tt,
     ) in
     no-pair S (v .after) 1 recordedPair lost-shows (h .agrees .pairs 1 refl)
 
 -- a show of epoch 1 gives what epoch 2 has
-current-says : ShowPairsSays (afterD (pair 1 2)) once 2 [] [] (Shown 0) [] []
+current-says : ShowPairsSays afterD once 2 [] [] (Shown 0) [] []
 unfolding rows isName isNameByte isDigit isLower goneAt shownAt
 current-says = record { answer = refl; tables = refl; rowsets = refl }
 
@@ -287,30 +297,33 @@ abbrev opsW : List Operation
 opsW = deleteVector 0 0 0 ∷ []
 
 abbrev frameW : List ℕ
-frameW = 66 ∷ 10 ∷ 87 ∷ 44 ∷ 48 ∷ 44 ∷ 48 ∷ 44 ∷ 48 ∷ 10 ∷ 69 ∷ 10 ∷ []
+frameW = 33 ∷ 10 ∷ 66 ∷ 10 ∷ 87 ∷ 44 ∷ 48 ∷ 44 ∷ 48 ∷ 44 ∷ 48 ∷ 10 ∷ 69 ∷ 10 ∷ []
 
-abbrev afterW : Vectors → VersionManager
-afterW l = holdingAll 2 1 1 1 tables (pair 1 0) l 38
+abbrev heldW : Vectors → VersionManager
+heldW l = holdingAll 2 1 1 1 tables (pair 1 0) l 42
+
+abbrev afterW : VersionManager
+afterW = following afterTAV 14 (heldW (vectorOf 1 2))
 
 abbrev pinTAV : Event
 pinTAV = pins (commitTAV .after) 1 once
 
 abbrev commitW : Event
-commitW = commits (pinTAV .after) opsW (afterW (vectorOf 1 2)) 2 12 frameW 0
+commitW = commits (pinTAV .after) opsW afterW 2 14 frameW 0
 
 pin-says-TAV : PinSays afterTAV unpinned (Pinned 1) once
 unfolding rows isName isNameByte isDigit isLower goneAt shownAt
 pin-says-TAV = record { answer = refl; book = record { fits = omega arith; pins = refl } }
 
-says-W : CommitSays afterTAV (length opsW) opsW frameW (appended (afterW (vectorOf 1 2)) 2 12) frameW
+says-W : CommitSays afterTAV (length opsW) opsW frameW (appended afterW 2 14) frameW
 unfolding rows stepOf textOf fieldsText digits digitsBy isName isNameByte isDigit isLower goneAt shownAt
 says-W =
-    (refl, record { fits = few-all 2 1 1 1 tables (pair 1 0) (vectorOf 1 2) 38 (omega arith) (omega arith) (omega arith); state = refl }, refl)
+    (refl, record { hands = record { fits = few-all 2 1 1 1 tables (pair 1 0) (vectorOf 1 2) 42 (omega arith) (omega arith) (omega arith); state = refl }; former = record { fits = says-TAV .1 .hands .fits; state = refl }; append = refl }, refl)
 
 -- the claim of these calls and further ones, by a manager that draws, commits and pins as the port does
 module _ (S : Steps) (claim : Claim S) (fresh : S .fresh first) (draw : S .drawRowset (first .manager) drawn) (draw-v : S .drawVector (drawn .manager) drawnVector)
-    (add : S .commit (drawnVector .manager) (length opsTAV) opsTAV frameTAV (appended afterTAV 1 26) frameTAV) (guard : S .pin afterTAV unpinned (Pinned 1) once)
-    (delete : S .commit afterTAV (length opsW) opsW frameW (appended (afterW (vectorOf 1 2)) 2 12) frameW) where
+    (add : S .commit (drawnVector .manager) (length opsTAV) opsTAV frameTAV (appended afterTAV 1 28) frameTAV) (guard : S .pin afterTAV unpinned (Pinned 1) once)
+    (delete : S .commit afterTAV (length opsW) opsW frameW (appended afterW 2 14) frameW) where
   on-W : (es : List Event) → Chain S (commitW .after) es → Holds S begun (draws ∷ drawsVector ∷ commitTAV ∷ pinTAV ∷ commitW ∷ es)
   on-W es c =
       claim begun (draws ∷ drawsVector ∷ commitTAV ∷ pinTAV ∷ commitW ∷ es) (begins S fresh) (
@@ -321,11 +334,11 @@ module _ (S : Steps) (claim : Claim S) (fresh : S .fresh first) (draw : S .drawR
           drew-vector S draw-v,
           (
             refl,
-            committed S (drawsVector .after) opsTAV afterTAV 1 26 frameTAV 0 add,
+            committed S (drawsVector .after) opsTAV afterTAV 1 28 frameTAV 0 add,
             (
               refl,
               pinned S (commitTAV .after) 1 once guard,
-              (refl, committed S (pinTAV .after) opsW (afterW (vectorOf 1 2)) 2 12 frameW 0 delete, c),
+              (refl, committed S (pinTAV .after) opsW afterW 2 14 frameW 0 delete, c),
             ),
           ),
         ),
@@ -339,7 +352,7 @@ abbrev recordedVector : List ℕ
 recordedVector = 0 ∷ 0 ∷ 0 ∷ []
 
 -- a show of epoch 1 gives the vectors that epoch 2 has
-current-vectors : ShowVectorsSays (afterW (vectorOf 1 2)) once 2 [] [] [] (Shown 0) [] [] []
+current-vectors : ShowVectorsSays afterW once 2 [] [] [] (Shown 0) [] [] []
 unfolding rows isName isNameByte isDigit isLower goneAt shownAt
 current-vectors = record { answer = refl; tables = refl; rowsets = refl; vectors = refl }
 
@@ -350,47 +363,47 @@ shows-current-vectors claim =
     no-vector S (commitW .after) 1 recordedVector current-vectors (h .agrees .vectors 1 refl)
 
 -- a vacuum lets the vector go
-vectors-lost : VacuumsTo 0 portBound portBound unguarded (afterW (vectorOf 1 2)) once (5 ∷ []) (5 ∷ []) (listedBy (afterW noVectors) 0) (5 ∷ []) (5 ∷ [])
+vectors-lost : VacuumsTo 0 portBound portBound unguarded afterW once (5 ∷ []) (5 ∷ []) (listedBy (heldW noVectors) 0) (5 ∷ []) (5 ∷ [])
 unfolding rows isName isNameByte isDigit isLower goneAt shownAt
 vectors-lost =
     record {
       answer = refl;
       tables = refl;
       rowsets = refl;
-      manager = record { fits = few-all 2 1 1 1 tables (pair 1 0) noVectors 38 (omega arith) (omega arith) (omega arith); state = refl };
+      manager = record { hands = record { fits = few-all 2 1 1 1 tables (pair 1 0) noVectors 42 (omega arith) (omega arith) (omega arith); state = refl }; nothing = refl };
     }
 
-lost-vectors : ShowVectorsSays (afterW noVectors) once 1 [] [] [] (Shown 0) [] [] []
+lost-vectors : ShowVectorsSays (heldW noVectors) once 1 [] [] [] (Shown 0) [] [] []
 unfolding rows isName isNameByte isDigit isLower goneAt shownAt
 lost-vectors = record { answer = refl; tables = refl; rowsets = refl; vectors = refl }
 
 loses-vectors : Refuted losesVectors
 loses-vectors claim =
     let S = losesVectors in
-    let v = vacuums (commitW .after) (afterW noVectors) 0 (5 ∷ []) (5 ∷ []) in
+    let v = vacuums (commitW .after) (heldW noVectors) 0 (5 ∷ []) (5 ∷ []) in
     let h =
     on-W S claim fresh-says draw-says draw-vector-says says-TAV pin-says-TAV says-W (v ∷ []) (
       refl,
-      vacuumed S (commitW .after) (afterW noVectors) 0 (5 ∷ []) (5 ∷ []) vectors-lost,
+      vacuumed S (commitW .after) (heldW noVectors) 0 (5 ∷ []) (5 ∷ []) vectors-lost,
       tt,
     ) in
     no-vector S (v .after) 1 recordedVector lost-vectors (h .agrees .vectors 1 refl)
 
 -- the empty commit leaves the epoch
 abbrev unraisedNone : VersionManager
-unraisedNone = holding 0 0 0 noTables noPairs 4
+unraisedNone = following (first .manager) 6 (holding 0 0 0 noTables noPairs 6)
 
-unraised-says : CommitEnds (unraised (first .manager) (length opsNone) opsNone 4) (first .manager) opsNone frameNone (appended unraisedNone 0 4) frameNone
+unraised-says : CommitEnds (unraised (first .manager) (length opsNone) opsNone 6) (first .manager) opsNone frameNone (appended unraisedNone 0 6) frameNone
 unfolding rows
-unraised-says = (refl, record { fits = few 0 0 0 noTables noPairs 4 (omega arith) (omega arith); state = refl }, refl)
+unraised-says = (refl, record { hands = record { fits = few 0 0 0 noTables noPairs 6 (omega arith) (omega arith); state = refl }; former = record { fits = fresh-says .manager .hands .fits; state = refl }; append = refl }, refl)
 
 leaves-epoch : Refuted leavesEpoch
 leaves-epoch claim =
     let S = leavesEpoch in
     let h =
-    claim begun (commits begun opsNone unraisedNone 0 4 frameNone 0 ∷ []) (begins S fresh-says) (
+    claim begun (commits begun opsNone unraisedNone 0 6 frameNone 0 ∷ []) (begins S fresh-says) (
       refl,
-      committed S begun opsNone unraisedNone 0 4 frameNone 0 unraised-says,
+      committed S begun opsNone unraisedNone 0 6 frameNone 0 unraised-says,
       tt,
     ) in
     apart (h .agrees .epoch) refl
@@ -411,7 +424,7 @@ keeps-pin claim =
     let h =
     claim begun (commitNone ∷ p ∷ unpins (p .after) 1 once ∷ []) (begins S fresh-says) (
       refl,
-      committed S begun opsNone afterNone 1 4 frameNone 0 says-none,
+      committed S begun opsNone afterNone 1 6 frameNone 0 says-none,
       (
         refl,
         pinned S (commitNone .after) 1 once pin-says-none,
@@ -421,9 +434,9 @@ keeps-pin claim =
     not-empty (sym (h .agrees .book))
 
 -- a commit keeps the old sets
-unchanged-T : CommitEnds (unchanged afterNone (length opsT) opsT 12) afterNone opsT frameT (appended (afterT noTables) 2 12) frameT
+unchanged-T : CommitEnds (unchanged afterNone (length opsT) opsT 14) afterNone opsT frameT (appended (afterT noTables) 2 14) frameT
 unfolding rows stepOf textOf fieldsText digits digitsBy isName isNameByte isDigit isLower goneAt shownAt
-unchanged-T = (refl, record { fits = few 2 1 0 noTables noPairs 16 (omega arith) (omega arith); state = refl }, refl)
+unchanged-T = (refl, record { hands = record { fits = few 2 1 0 noTables noPairs 20 (omega arith) (omega arith); state = refl }; former = record { fits = says-none .1 .hands .fits; state = refl }; append = refl }, refl)
 
 unchanged-shows : ShowTablesSays (afterT noTables) unpinned 2 [] [] [] [] (Shown 0) [] [] [] []
 unfolding rows
@@ -436,8 +449,8 @@ keeps-sets claim =
     let h =
     claim begun (commitNone ∷ commitT noTables 0 ∷ []) (begins S fresh-says) (
       refl,
-      committed S begun opsNone afterNone 1 4 frameNone 0 says-none,
-      (refl, committed S (commitNone .after) opsT (afterT noTables) 2 12 frameT 0 unchanged-T, tt),
+      committed S begun opsNone afterNone 1 6 frameNone 0 says-none,
+      (refl, committed S (commitNone .after) opsT (afterT noTables) 2 14 frameT 0 unchanged-T, tt),
     ) in
     no-table S (commitT noTables 0 .after) 2 recorded unchanged-shows (h .agrees .tables)
 
@@ -450,7 +463,7 @@ notAppended = record { manager = partT; answer = NotAppended (IdNotDrawn 1) }
 
 part-says : CommitLeaves (outcomeOf (first .manager) (length opsTA) opsTA 0) (first .manager) opsTA [] notAppended []
 unfolding rows stepOf isName isNameByte isDigit isLower
-part-says = (refl, record { fits = few 0 1 0 tables noPairs 0 (omega arith) (omega arith); state = refl }, refl)
+part-says = (refl, record { hands = record { fits = few 0 1 0 tables noPairs 0 (omega arith) (omega arith); state = refl }; nothing = refl }, refl)
 
 part-shows : ShowTablesSays partT unpinned 0 [] [] [] [] (NotShown OutputTooShort) [] [] [] []
 unfolding rows isName isNameByte isDigit isLower
@@ -487,6 +500,7 @@ wrong-refuted =
       judgesNothing = judges-nothing;
       forgetsWaiting = forgets-waiting;
       appendsNoEnd = appends-no-end;
+      appendsNoMark = appends-no-mark;
       leavesPart = leaves-part;
       reusesId = reuses-id;
       createsRefused = creates-refused;
@@ -506,6 +520,9 @@ wrong-refuted =
       losesPairs = loses-pairs;
       losesVectors = loses-vectors;
       letsGoRefused = lets-go-refused;
+      staysAtEpoch = stays-at-epoch;
+      keepsDeletions = keeps-deletions;
+      losesPinned = loses-pinned;
       writesWaiting = writes-waiting;
       forgetsLetGo = forgets-let-go;
       keepsLength = keeps-length;
@@ -514,6 +531,7 @@ wrong-refuted =
       readsFirst = reads-first;
       readsToRoom = reads-to-room;
       countsEarly = counts-early;
+      readsTorn = reads-torn;
       forgetsIds = forgets-ids;
       rewritesNoEnd = rewrites-no-end;
       refusesReopen = refuses-reopen;

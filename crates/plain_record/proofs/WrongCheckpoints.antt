@@ -44,14 +44,14 @@ checkedTAD = holding 1 1 1 tables (pair 1 1) 26
 
 waiting-says : ChecksBy allHeld (withLength allHeld) afterTAD withPair (checkpointedBy checkedTAD 26) withPair
 unfolding rows textOf fieldsText digits digitsBy isName isNameByte isDigit isLower goneAt shownAt
-waiting-says = record { answer = refl; bytes = refl; manager = record { fits = few 1 1 1 tables (pair 1 1) 26 (omega arith) (omega arith); state = refl } }
+waiting-says = record { answer = refl; bytes = refl; manager = record { hands = record { fits = few 1 1 1 tables (pair 1 1) 26 (omega arith) (omega arith); state = refl }; nothing = refl } }
 
 abbrev foundPair : VersionManager
 foundPair = holding 1 1 1 tables (pair 1 0) 26
 
 pair-opens : ReopenSays withPair withPair (rewrittenBy foundPair 26) withPair
 unfolding rows textOf fieldsText digits digitsBy lines linesOn lineOf lineBy twoFields threeFields tableFields fieldAt namedAt readAt readIn readOn isName isNameByte isDigit isLower goneAt shownAt
-pair-opens = (refl, record { fits = few 1 1 1 tables (pair 1 0) 26 (omega arith) (omega arith); state = refl }, no-pins, refl)
+pair-opens = (refl, record { hands = record { fits = few 1 1 1 tables (pair 1 0) 26 (omega arith) (omega arith); state = refl }; nothing = refl }, no-pins, refl)
 
 pair-shows : ShowPairsSays foundPair unpinned 1 [] [] (NotShown OutputTooShort) [] []
 unfolding rows isName isNameByte isDigit isLower goneAt shownAt
@@ -79,7 +79,7 @@ forgetting = writtenT 48 ending
 vacuum-says : VacuumSays afterTAD unpinned (5 ∷ []) (5 ∷ []) (listedBy sweptTAD 1) (0 ∷ []) (0 ∷ [])
 unfolding rows isName isNameByte isDigit isLower goneAt shownAt
 vacuum-says =
-    record { answer = refl; tables = refl; rowsets = refl; manager = record { fits = few 1 1 1 tables noPairs 24 (omega arith) (omega arith); state = refl } }
+    record { answer = refl; tables = refl; rowsets = refl; manager = record { hands = record { fits = few 1 1 1 tables noPairs 26 (omega arith) (omega arith); state = refl }; nothing = refl } }
 
 narrow-swept : Narrow (heldBy sweptTAD)
 narrow-swept = record { table = omega arith; rowset = omega arith; vector = omega arith }
@@ -89,14 +89,14 @@ checkedSwept = holding 1 1 1 tables noPairs 20
 
 forgetting-says : ChecksBy pastHeld (withLength pastHeld) sweptTAD forgetting (checkpointedBy checkedSwept 20) forgetting
 unfolding rows textOf fieldsText digits digitsBy isName isNameByte isDigit isLower goneAt shownAt
-forgetting-says = record { answer = refl; bytes = refl; manager = record { fits = few 1 1 1 tables noPairs 20 (omega arith) (omega arith); state = refl } }
+forgetting-says = record { answer = refl; bytes = refl; manager = record { hands = record { fits = few 1 1 1 tables noPairs 20 (omega arith) (omega arith); state = refl }; nothing = refl } }
 
 abbrev forgot : VersionManager
 forgot = holding 1 1 0 tables noPairs 20
 
 forgetting-opens : ReopenSays forgetting forgetting (rewrittenBy forgot 20) forgetting
 unfolding rows textOf fieldsText digits digitsBy lines linesOn lineOf lineBy threeFields tableFields fieldAt namedAt readAt readIn readOn isName isNameByte isDigit isLower goneAt shownAt
-forgetting-opens = (refl, record { fits = few 1 1 0 tables noPairs 20 (omega arith) (omega arith); state = refl }, no-pins, refl)
+forgetting-opens = (refl, record { hands = record { fits = few 1 1 0 tables noPairs 20 (omega arith) (omega arith); state = refl }; nothing = refl }, no-pins, refl)
 
 pub forgets-let-go : Refuted forgetsLetGo
 unfolding rows
@@ -141,15 +141,15 @@ keeps-length claim =
 abbrev shownNow : List ℕ
 shownNow = writtenT 49 ending
 
-narrow-D : Narrow (heldBy (afterD (pair 1 2)))
+narrow-D : Narrow (heldBy afterD)
 narrow-D = record { table = omega arith; rowset = omega arith; vector = omega arith }
 
 abbrev checkedD : VersionManager
 checkedD = holding 2 1 1 tables noPairs 20
 
-older-says : ChecksBy rewrittenOf (λ s. withLength rewrittenOf (onlyNow s)) (afterD (pair 1 2)) shownNow (checkpointedBy checkedD 20) shownNow
+older-says : ChecksBy rewrittenOf (λ s. withLength rewrittenOf (onlyNow s)) afterD shownNow (checkpointedBy checkedD 20) shownNow
 unfolding rows textOf fieldsText digits digitsBy isName isNameByte isDigit isLower goneAt shownAt
-older-says = record { answer = refl; bytes = refl; manager = record { fits = few 2 1 1 tables noPairs 20 (omega arith) (omega arith); state = refl } }
+older-says = record { answer = refl; bytes = refl; manager = record { hands = record { fits = few 2 1 1 tables noPairs 20 (omega arith) (omega arith); state = refl }; nothing = refl } }
 
 older-shows : ShowPairsSays checkedD once 1 [] [] (Shown 0) [] []
 unfolding rows isName isNameByte isDigit isLower goneAt shownAt

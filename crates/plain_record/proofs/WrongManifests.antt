@@ -15,6 +15,7 @@ use Rattle.manifest.specs.Split.{linesOn, restOn, lines}
 use Rattle.snapshot.specs.Entries.{goneAt, shownAt}
 use Rattle.operations.specs.Steps.{stepOf}
 use Rattle.version_manager.specs.declared.VersionManager.{VersionManager}
+use Rattle.commit.specs.Commit.{appendOf}
 use Rattle.version_manager.specs.Commit.{outcomeOf, CommitSays}
 use Rattle.version_manager.specs.Show.{ShowTablesSays}
 use Rattle.show.specs.declared.ShowAnswer.the-variants.{Shown, Refused as NotShown}
@@ -23,7 +24,7 @@ use Rattle.storage.specs.declared.ReopenAnswer.the-variants.{Refused as NotOpen
 use Rattle.storage.specs.Reopen.{reopenOf, ReopenIs, ReopenSays}
 use Rattle.plain_record.specs.Calls.{reopen}
 use Rattle.plain_record.specs.Run.{Steps, Event, Link}
-use Rattle.plain_record.specs.Wrong.{CommitEndsEarly, appendsNoEnd, opensEmpty, firstFrame, readsFirst, readsToRoom, closed, countsEarly, forgotten, forgetsIds, ReopenEndsEarly, rewritesNoEnd, refusesReopen, Refuted}
+use Rattle.plain_record.specs.Wrong.{unended, CommitAppends, appendsNoEnd, opensEmpty, firstFrame, readsFirst, readsToRoom, closed, countsEarly, forgotten, forgetsIds, ReopenEndsEarly, rewritesNoEnd, refusesReopen, Refuted}
 use Rattle.plain_record.proofs.Events.{places, noTables, noPairs, holding, few, unpinned, no-pins, first, begun, appended, rewrittenBy, commits, reopens, refusing, begins, committed, reopened, fresh-says, draw-says, tables, frameTAD, commitTAD, says-TAD, on-TAD, opsNone, frameNone, afterNone, opsT, frameT, afterT, commitNone, commitT, createdT, fits-T, says-none, says-T, no-table, a-table, recorded}
 
 -- a reopen that leaves nothing
@@ -37,8 +38,8 @@ empty-shows : ShowTablesSays empty unpinned 1 [] [] [] [] (Shown 0) [] [] [] []
 unfolding rows
 empty-shows = record { answer = refl; ids = refl; shapes = refl; lengths = refl; names = refl }
 
-module _ (S : Steps) (fresh : S .fresh first) (none : S .commit (first .manager) (length opsNone) opsNone frameNone (appended afterNone 1 4) frameNone)
-    (one : S .commit afterNone (length opsT) opsT frameT (appended (afterT tables) 2 12) frameT)
+module _ (S : Steps) (fresh : S .fresh first) (none : S .commit (first .manager) (length opsNone) opsNone frameNone (appended afterNone 1 6) frameNone)
+    (one : S .commit afterNone (length opsT) opsT frameT (appended (afterT tables) 2 14) frameT)
     (opens : S .reopen (frameNone ++ frameT) rewritten (rewrittenBy empty 12) rewritten) (shows : S .showTables empty unpinned 1 [] [] [] [] (Shown 0) [] [] [] []) where
   all-gone : Refuted S
   all-gone claim =
@@ -47,10 +48,10 @@ module _ (S : Steps) (fresh : S .fresh first) (none : S .commit (first .manager)
       let h =
       claim begun (commitNone ∷ commitT tables 0 ∷ o ∷ []) (begins S fresh) (
         refl,
-        committed S begun opsNone afterNone 1 4 frameNone 0 none,
+        committed S begun opsNone afterNone 1 6 frameNone 0 none,
         (
           refl,
-          committed S (commitNone .after) opsT (afterT tables) 2 12 frameT 0 one,
+          committed S (commitNone .after) opsT (afterT tables) 2 14 frameT 0 one,
           (refl, reopened S w empty 12 rewritten false opens, tt),
         ),
       ) in
@@ -58,19 +59,19 @@ module _ (S : Steps) (fresh : S .fresh first) (none : S .commit (first .manager)
 
 empty-says : ReopenSays [] rewritten (rewrittenBy empty 12) rewritten
 unfolding rows textOf fieldsText digits digitsBy lines linesOn
-empty-says = (refl, record { fits = few 1 0 0 noTables noPairs 12 (omega arith) (omega arith); state = refl }, no-pins, refl)
+empty-says = (refl, record { hands = record { fits = few 1 0 0 noTables noPairs 12 (omega arith) (omega arith); state = refl }; nothing = refl }, no-pins, refl)
 
 pub opens-empty : Refuted opensEmpty
 opens-empty = all-gone opensEmpty fresh-says says-none says-T empty-says empty-shows
 
 first-says : ReopenSays (firstFrame (frameNone ++ frameT)) rewritten (rewrittenBy empty 12) rewritten
 unfolding rows textOf fieldsText digits digitsBy lines linesOn lineOf lineBy
-first-says = (refl, record { fits = few 1 0 0 noTables noPairs 12 (omega arith) (omega arith); state = refl }, no-pins, refl)
+first-says = (refl, record { hands = record { fits = few 1 0 0 noTables noPairs 12 (omega arith) (omega arith); state = refl }; nothing = refl }, no-pins, refl)
 
 pub reads-first : Refuted readsFirst
 reads-first = all-gone readsFirst fresh-says says-none says-T first-says empty-shows
 
--- The manifest has 24 bytes and the rewritten one 20. A reopen that is lent 24 finds the table; one that is lent 20 would find it again in
+-- The manifest has 26 bytes and the rewritten one 20. A reopen that is lent 26 finds the table; one that is lent 20 would find it again in
 -- the rewritten manifest, but the old one still stands, and of its frame the end is cut off.
 abbrev rewrittenTAD : List ℕ
 rewrittenTAD = 66 ∷ 10 ∷ 78 ∷ 44 ∷ 49 ∷ 44 ∷ 49 ∷ 44 ∷ 48 ∷ 10 ∷ 84 ∷ 44 ∷ 48 ∷ 44 ∷ 55 ∷ 44 ∷ 97 ∷ 10 ∷ 69 ∷ 10 ∷ []
@@ -78,25 +79,25 @@ rewrittenTAD = 66 ∷ 10 ∷ 78 ∷ 44 ∷ 49 ∷ 44 ∷ 49 ∷ 44 ∷ 48 ∷ 10
 abbrev foundTAD : VersionManager
 foundTAD = holding 1 1 1 tables noPairs 20
 
-whole-says : ReopenSays (take 24 frameTAD) (places 24 rewrittenTAD) (rewrittenBy foundTAD 20) (places 24 rewrittenTAD)
+whole-says : ReopenSays (take 26 frameTAD) (places 26 rewrittenTAD) (rewrittenBy foundTAD 20) (places 26 rewrittenTAD)
 unfolding rows textOf fieldsText digits digitsBy lines linesOn lineOf lineBy twoFields tableFields fieldAt namedAt readAt readIn readOn isName isNameByte isDigit isLower goneAt shownAt
-whole-says = (refl, record { fits = few 1 1 1 tables noPairs 20 (omega arith) (omega arith); state = refl }, no-pins, refl)
+whole-says = (refl, record { hands = record { fits = few 1 1 1 tables noPairs 20 (omega arith) (omega arith); state = refl }; nothing = refl }, no-pins, refl)
 
 cut-says : ReopenSays (take 20 frameTAD) (places 20 rewritten) (rewrittenBy empty 12) (places 20 rewritten)
 unfolding rows textOf fieldsText digits digitsBy lines linesOn lineOf lineBy twoFields tableFields fieldAt namedAt readAt readIn readOn isName isNameByte isDigit isLower
-cut-says = (refl, record { fits = few 1 0 0 noTables noPairs 12 (omega arith) (omega arith); state = refl }, no-pins, refl)
+cut-says = (refl, record { hands = record { fits = few 1 0 0 noTables noPairs 12 (omega arith) (omega arith); state = refl }; nothing = refl }, no-pins, refl)
 
 pub reads-to-room : Refuted readsToRoom
 unfolding rows
 reads-to-room claim =
     let S = readsToRoom in
     let w = commitTAD .after in
-    let o = reopens w foundTAD 20 (places 24 rewrittenTAD) true in
+    let o = reopens w foundTAD 20 (places 26 rewrittenTAD) true in
     let q = reopens (o .after) empty 12 (places 20 rewritten) false in
     let h =
     on-TAD S claim fresh-says draw-says says-TAD (o ∷ q ∷ []) (
       refl,
-      reopened S w foundTAD 20 (places 24 rewrittenTAD) true whole-says,
+      reopened S w foundTAD 20 (places 26 rewrittenTAD) true whole-says,
       (refl, reopened S (o .after) empty 12 (places 20 rewritten) false cut-says, tt),
     ) in
     no-table S (q .after) 1 recorded empty-shows (h .agrees .tables)
@@ -110,11 +111,11 @@ found n = holding 1 n 0 tables noPairs 20
 
 -- of a file that lacks the last newline
 abbrev torn : List ℕ
-torn = 66 ∷ 10 ∷ 69 ∷ 10 ∷ 66 ∷ 10 ∷ 84 ∷ 44 ∷ 48 ∷ 44 ∷ 55 ∷ 44 ∷ 97 ∷ 10 ∷ 69 ∷ []
+torn = 33 ∷ 10 ∷ 66 ∷ 10 ∷ 69 ∷ 10 ∷ 33 ∷ 10 ∷ 66 ∷ 10 ∷ 84 ∷ 44 ∷ 48 ∷ 44 ∷ 55 ∷ 44 ∷ 97 ∷ 10 ∷ 69 ∷ []
 
 early-says : ReopenSays (closed torn) (rewrittenT 49) (rewrittenBy (found 1) 20) (rewrittenT 49)
 unfolding rows textOf fieldsText digits digitsBy lines linesOn restOn lineOf lineBy tableFields fieldAt namedAt readAt readIn readOn isName isNameByte isDigit isLower goneAt shownAt
-early-says = (refl, record { fits = few 1 1 0 tables noPairs 20 (omega arith) (omega arith); state = refl }, no-pins, refl)
+early-says = (refl, record { hands = record { fits = few 1 1 0 tables noPairs 20 (omega arith) (omega arith); state = refl }; nothing = refl }, no-pins, refl)
 
 found-shows : ShowTablesSays (found 1) unpinned 1 [] [] [] [] (NotShown OutputTooShort) [] [] [] []
 unfolding rows isName isNameByte isDigit isLower
@@ -128,10 +129,10 @@ counts-early claim =
     let h =
     claim begun (commitNone ∷ commitT tables 1 ∷ o ∷ []) (begins S fresh-says) (
       refl,
-      committed S begun opsNone afterNone 1 4 frameNone 0 says-none,
+      committed S begun opsNone afterNone 1 6 frameNone 0 says-none,
       (
         refl,
-        committed S (commitNone .after) opsT (afterT tables) 2 12 frameT 1 says-T,
+        committed S (commitNone .after) opsT (afterT tables) 2 14 frameT 1 says-T,
         (refl, reopened S w (found 1) 20 (rewrittenT 49) false early-says, tt),
       ),
     ) in
@@ -140,7 +141,7 @@ counts-early claim =
 -- the used ids are forgotten
 forgets-says : ReopenIs (forgotten (frameNone ++ frameT) 20) (rewrittenT 48) (rewrittenBy (found 0) 20) (rewrittenT 48)
 unfolding rows textOf fieldsText digits digitsBy lines linesOn lineOf lineBy tableFields fieldAt namedAt readAt readIn readOn isName isNameByte isDigit isLower goneAt shownAt
-forgets-says = (refl, record { fits = few 1 0 0 tables noPairs 20 (omega arith) (omega arith); state = refl }, no-pins, refl)
+forgets-says = (refl, record { hands = record { fits = few 1 0 0 tables noPairs 20 (omega arith) (omega arith); state = refl }; nothing = refl }, no-pins, refl)
 
 pub forgets-ids : Refuted forgetsIds
 forgets-ids claim =
@@ -150,10 +151,10 @@ forgets-ids claim =
     let h =
     claim begun (commitNone ∷ commitT tables 0 ∷ o ∷ []) (begins S fresh-says) (
       refl,
-      committed S begun opsNone afterNone 1 4 frameNone 0 says-none,
+      committed S begun opsNone afterNone 1 6 frameNone 0 says-none,
       (
         refl,
-        committed S (commitNone .after) opsT (afterT tables) 2 12 frameT 0 says-T,
+        committed S (commitNone .after) opsT (afterT tables) 2 14 frameT 0 says-T,
         (refl, reopened S w (found 0) 20 (rewrittenT 48) false forgets-says, tt),
       ),
     ) in
@@ -161,53 +162,53 @@ forgets-ids claim =
 
 -- The table is created at epoch 1. The append, and the rewritten manifest, lack their last line.
 abbrev createsT : ℕ → Event
-createsT n = commits begun opsT createdT 1 n frameT 0
+createsT n = commits begun opsT (createdT n) 1 n frameT 0
 
-early-T : CommitEndsEarly (outcomeOf (first .manager) (length opsT) opsT 12) (first .manager) opsT frameT (appended createdT 1 10) frameT
+early-T : CommitAppends (λ l. unended (appendOf l)) (outcomeOf (first .manager) (length opsT) opsT 14) (first .manager) opsT frameT (appended (createdT 12) 1 12) frameT
 unfolding rows stepOf textOf fieldsText digits digitsBy isName isNameByte isDigit isLower goneAt shownAt
-early-T = (refl, record { fits = fits-T; state = refl }, refl)
+early-T = (refl, record { hands = record { fits = fits-T; state = refl }; former = record { fits = fresh-says .manager .hands .fits; state = refl }; append = refl }, refl)
 
-unended-opens : ReopenSays (take 10 frameT) rewritten (rewrittenBy empty 12) rewritten
+unended-opens : ReopenSays (take 12 frameT) rewritten (rewrittenBy empty 12) rewritten
 unfolding rows textOf fieldsText digits digitsBy lines linesOn lineOf lineBy tableFields fieldAt namedAt readAt readIn readOn isName isNameByte isDigit isLower
-unended-opens = (refl, record { fits = few 1 0 0 noTables noPairs 12 (omega arith) (omega arith); state = refl }, no-pins, refl)
+unended-opens = (refl, record { hands = record { fits = few 1 0 0 noTables noPairs 12 (omega arith) (omega arith); state = refl }; nothing = refl }, no-pins, refl)
 
 pub appends-no-end : Refuted appendsNoEnd
 unfolding rows
 appends-no-end claim =
     let S = appendsNoEnd in
-    let w = createsT 10 .after in
+    let w = createsT 12 .after in
     let o = reopens w empty 12 rewritten false in
     let h =
-    claim begun (createsT 10 ∷ o ∷ []) (begins S fresh-says) (
+    claim begun (createsT 12 ∷ o ∷ []) (begins S fresh-says) (
       refl,
-      committed S begun opsT createdT 1 10 frameT 0 early-T,
+      committed S begun opsT (createdT 12) 1 12 frameT 0 early-T,
       (refl, reopened S w empty 12 rewritten false unended-opens, tt),
     ) in
     no-table S (o .after) 1 recorded empty-shows (h .agrees .tables)
 
-says-created : CommitSays (first .manager) (length opsT) opsT frameT (appended createdT 1 12) frameT
+says-created : CommitSays (first .manager) (length opsT) opsT frameT (appended (createdT 14) 1 14) frameT
 unfolding rows stepOf textOf fieldsText digits digitsBy isName isNameByte isDigit isLower goneAt shownAt
-says-created = (refl, record { fits = fits-T; state = refl }, refl)
+says-created = (refl, record { hands = record { fits = fits-T; state = refl }; former = record { fits = fresh-says .manager .hands .fits; state = refl }; append = refl }, refl)
 
 early-found : ReopenEndsEarly (reopenOf frameT 20) (rewrittenT 49) (rewrittenBy (found 1) 18) (rewrittenT 49)
 unfolding rows textOf fieldsText digits digitsBy lines linesOn lineOf lineBy tableFields fieldAt namedAt readAt readIn readOn isName isNameByte isDigit isLower goneAt shownAt
-early-found = (refl, record { fits = few 1 1 0 tables noPairs 20 (omega arith) (omega arith); state = refl }, no-pins, refl)
+early-found = (refl, record { hands = record { fits = few 1 1 0 tables noPairs 20 (omega arith) (omega arith); state = refl }; nothing = refl }, no-pins, refl)
 
 early-empty : ReopenEndsEarly (reopenOf (take 18 (rewrittenT 49)) 12) rewritten (rewrittenBy empty 10) rewritten
 unfolding rows textOf fieldsText digits digitsBy lines linesOn lineOf lineBy threeFields tableFields fieldAt namedAt readAt readIn readOn isName isNameByte isDigit isLower
-early-empty = (refl, record { fits = few 1 0 0 noTables noPairs 12 (omega arith) (omega arith); state = refl }, no-pins, refl)
+early-empty = (refl, record { hands = record { fits = few 1 0 0 noTables noPairs 12 (omega arith) (omega arith); state = refl }; nothing = refl }, no-pins, refl)
 
 pub rewrites-no-end : Refuted rewritesNoEnd
 unfolding rows
 rewrites-no-end claim =
     let S = rewritesNoEnd in
-    let w = createsT 12 .after in
+    let w = createsT 14 .after in
     let o = reopens w (found 1) 18 (rewrittenT 49) false in
     let q = reopens (o .after) empty 10 rewritten false in
     let h =
-    claim begun (createsT 12 ∷ o ∷ q ∷ []) (begins S fresh-says) (
+    claim begun (createsT 14 ∷ o ∷ q ∷ []) (begins S fresh-says) (
       refl,
-      committed S begun opsT createdT 1 12 frameT 0 says-created,
+      committed S begun opsT (createdT 14) 1 14 frameT 0 says-created,
       (
         refl,
         reopened S w (found 1) 18 (rewrittenT 49) false early-found,

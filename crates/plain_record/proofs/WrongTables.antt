@@ -17,7 +17,6 @@ use Rattle.manifest.specs.Operations.{Operation, createTable, dropTable, addRow
 use Rattle.manifest.specs.Lines.{fieldAt, named as namedAt, twoFields, tableFields, lineBy, lineOf, fieldsText, textOf}
 use Rattle.manifest.specs.Split.{linesOn, lines}
 use Rattle.snapshot.specs.declared.rowsets.Rowsets.{Rowsets}
-use Rattle.snapshot.specs.declared.tables.Tables.{Tables}
 use Rattle.snapshot.specs.Entries.{goneAt, shownAt}
 use Rattle.operations.specs.Steps.{stepOf}
 use Rattle.version_state.specs.Widths.{Narrow}
@@ -38,7 +37,7 @@ use Rattle.plain_record.specs.Run.{Steps, World, Event, Chain}
 use Rattle.plain_record.specs.Claim.{Claim, Holds}
 use Rattle.plain_record.specs.Shows.{ShowsPairs}
 use Rattle.plain_record.specs.Wrong.{Like, compacting, LocksForgetting, forgetsPairs, reusesId, createsRefused, leavesRowsets, leavesVectors, keepsTaken, appendsNewAlone, Refuted}
-use Rattle.plain_record.proofs.Events.{apart, not-empty, places, holds, holdsPairs, noTables, noPairs, holdingAll, holding, few-all, few, unpinned, no-pins, first, begun, drawnBy, drawnTo, appended, createdBy, lockedBy, rewrittenBy, drawsOn, draws, drawsVector, commits, createsTable, drops, compacts, locks, reopens, createRefused, begins, drew-on, drew, drew-vector, committed, made-table, dropped, compacted, took-lock, reopened, fresh-says, draw-says, draw-vector-says, name, tables, locked, pair, vectorOf, frameT, createdT, fits-T, afterTA, commitTA, says-TA, on-TA, opsTAV, frameTAV, afterTAV, commitTAV, says-TAV, frameD, no-pair, recordedPair}
+use Rattle.plain_record.proofs.Events.{apart, not-empty, places, holds, holdsPairs, noTables, noPairs, holdingAll, holding, following, few-all, few, unpinned, no-pins, first, begun, drawnBy, drawnTo, appended, createdBy, lockedBy, rewrittenBy, drawsOn, draws, drawsVector, commits, createsTable, drops, compacts, locks, reopens, createRefused, begins, drew-on, drew, drew-vector, committed, made-table, dropped, compacted, took-lock, reopened, fresh-says, draw-says, draw-vector-says, name, tables, locked, pair, vectorOf, frameT, createdT, fits-T, afterTA, commitTA, says-TA, on-TA, opsTAV, frameTAV, afterTAV, commitTAV, says-TAV, frameD, no-pair, recordedPair}
 
 abbrev table : TableNo
 table = record { 0 = 0 }
@@ -48,56 +47,56 @@ abbrev opsTXTX : List Operation
 opsTXTX = createTable 0 7 name ∷ dropTable 0 ∷ createTable 1 7 name ∷ dropTable 1 ∷ []
 
 abbrev frameTXTX : List ℕ
-frameTXTX = 66 ∷ 10 ∷ 84 ∷ 44 ∷ 48 ∷ 44 ∷ 55 ∷ 44 ∷ 97 ∷ 10 ∷ 88 ∷ 44 ∷ 48 ∷ 10 ∷ 84 ∷ 44 ∷ 49 ∷ 44 ∷ 55 ∷ 44 ∷ 97 ∷ 10 ∷ 88 ∷ 44 ∷ 49 ∷ 10 ∷ 69 ∷ 10 ∷ []
+frameTXTX = 33 ∷ 10 ∷ 66 ∷ 10 ∷ 84 ∷ 44 ∷ 48 ∷ 44 ∷ 55 ∷ 44 ∷ 97 ∷ 10 ∷ 88 ∷ 44 ∷ 48 ∷ 10 ∷ 84 ∷ 44 ∷ 49 ∷ 44 ∷ 55 ∷ 44 ∷ 97 ∷ 10 ∷ 88 ∷ 44 ∷ 49 ∷ 10 ∷ 69 ∷ 10 ∷ []
 
 abbrev afterTXTX : VersionManager
-afterTXTX = holding 1 2 0 noTables noPairs 28
+afterTXTX = following (first .manager) 30 (holding 1 2 0 noTables noPairs 30)
 
 abbrev commitTXTX : Event
-commitTXTX = commits begun opsTXTX afterTXTX 1 28 frameTXTX 0
+commitTXTX = commits begun opsTXTX afterTXTX 1 30 frameTXTX 0
 
 abbrev again : VersionManager
-again = holding 2 1 0 tables noPairs 40
+again = following afterTXTX 14 (holding 2 1 0 tables noPairs 44)
 
-says-TXTX : CommitSays (first .manager) (length opsTXTX) opsTXTX frameTXTX (appended afterTXTX 1 28) frameTXTX
+says-TXTX : CommitSays (first .manager) (length opsTXTX) opsTXTX frameTXTX (appended afterTXTX 1 30) frameTXTX
 unfolding rows stepOf textOf fieldsText digits digitsBy isName isNameByte isDigit isLower goneAt shownAt
-says-TXTX = (refl, record { fits = few 1 2 0 noTables noPairs 28 (omega arith) (omega arith); state = refl }, refl)
+says-TXTX = (refl, record { hands = record { fits = few 1 2 0 noTables noPairs 30 (omega arith) (omega arith); state = refl }; former = record { fits = fresh-says .manager .hands .fits; state = refl }; append = refl }, refl)
 
-again-says : reusesId .create afterTXTX 7 name frameT (createdBy again 0 2 12) frameT
+again-says : reusesId .create afterTXTX 7 name frameT (createdBy again 0 2 14) frameT
 unfolding rows textOf fieldsText digits digitsBy isName isNameByte isDigit isLower
 again-says =
-    record { answer = refl; manager = record { fits = few 2 1 0 tables noPairs 40 (omega arith) (omega arith); state = refl }; bytes = refl }
+    record { answer = refl; manager = record { hands = record { fits = few 2 1 0 tables noPairs 44 (omega arith) (omega arith); state = refl }; former = record { fits = few 1 2 0 noTables noPairs 30 (omega arith) (omega arith); state = refl }; append = refl }; bytes = refl }
 
 pub reuses-id : Refuted reusesId
 reuses-id claim =
     let S = reusesId in
     let w = commitTXTX .after in
     let h =
-    claim begun (commitTXTX ∷ createsTable w 7 name again 0 2 12 frameT ∷ []) (begins S fresh-says) (
+    claim begun (commitTXTX ∷ createsTable w 7 name again 0 2 14 frameT ∷ []) (begins S fresh-says) (
       refl,
-      committed S begun opsTXTX afterTXTX 1 28 frameTXTX 0 says-TXTX,
-      (refl, made-table S w 7 name again 0 2 12 frameT (omega arith) again-says, tt),
+      committed S begun opsTXTX afterTXTX 1 30 frameTXTX 0 says-TXTX,
+      (refl, made-table S w 7 name again 0 2 14 frameT (omega arith) again-says, tt),
     ) in
     true≢false (sym (h .agrees .next))
 
 -- A table's name is taken: 15 refuses the create, which leaves a second table of that name.
 abbrev createT : Event
-createT = createsTable begun 7 name createdT 0 1 12 frameT
+createT = createsTable begun 7 name (createdT 14) 0 1 14 frameT
 
 abbrev twice : VersionManager
-twice = holding 2 2 0 (holds (0 ∷ 1 ∷ []) (7 ∷ 7 ∷ []) (1 ∷ 1 ∷ []) (places longestName name ++ name) [] 2) noPairs 24
+twice = following (createdT 14) 14 (holding 2 2 0 (holds (0 ∷ 1 ∷ []) (7 ∷ 7 ∷ []) (1 ∷ 1 ∷ []) (places longestName name ++ name) [] 2) noPairs 28)
 
 abbrev notCreated : Created
 notCreated = record { manager = twice; answer = NotCreated (NameTaken 0) }
 
-create-says : createsRefused .create (first .manager) 7 name frameT (createdBy createdT 0 1 12) frameT
+create-says : createsRefused .create (first .manager) 7 name frameT (createdBy (createdT 14) 0 1 14) frameT
 unfolding rows textOf fieldsText digits digitsBy isName isNameByte isDigit isLower
-create-says = record { answer = refl; manager = record { fits = fits-T; state = refl }; bytes = refl }
+create-says = record { answer = refl; manager = record { hands = record { fits = fits-T; state = refl }; former = record { fits = fresh-says .manager .hands .fits; state = refl }; append = refl }; bytes = refl }
 
-anyway-says : createsRefused .create createdT 7 name [] notCreated []
+anyway-says : createsRefused .create (createdT 14) 7 name [] notCreated []
 unfolding rows textOf fieldsText digits digitsBy isName isNameByte isDigit isLower
 anyway-says =
-    record { answer = refl; manager = record { fits = few 2 2 0 (twice .inner .tables) noPairs 24 (omega arith) (omega arith); state = refl }; bytes = refl }
+    record { answer = refl; manager = record { hands = record { fits = few 2 2 0 (twice .inner .tables) noPairs 28 (omega arith) (omega arith); state = refl }; former = record { fits = fits-T; state = refl }; append = refl }; bytes = refl }
 
 pub creates-refused : Refuted createsRefused
 creates-refused claim =
@@ -106,7 +105,7 @@ creates-refused claim =
     let h =
     claim begun (createT ∷ createRefused w 7 name twice (NameTaken 0) ∷ []) (begins S fresh-says) (
       refl,
-      made-table S begun 7 name createdT 0 1 12 frameT (omega arith) create-says,
+      made-table S begun 7 name (createdT 14) 0 1 14 frameT (omega arith) create-says,
       (
         refl,
         record { narrow = omega arith; result = notCreated; left = []; says = anyway-says; told = refl; none = refl; after = refl },
@@ -117,11 +116,11 @@ creates-refused claim =
 
 -- a lock forgets the rowset
 abbrev forgotten : VersionManager
-forgotten = holding 1 1 1 locked noPairs 18
+forgotten = holding 1 1 1 locked noPairs 20
 
 forgotten-says : LocksForgetting afterTA table (lockedBy forgotten)
 unfolding rows isName isNameByte isDigit isLower goneAt shownAt
-forgotten-says = record { answer = refl; manager = record { fits = few 1 1 1 locked noPairs 18 (omega arith) (omega arith); state = refl } }
+forgotten-says = record { answer = refl; manager = record { hands = record { fits = few 1 1 1 locked noPairs 20 (omega arith) (omega arith); state = refl }; nothing = refl } }
 
 forgotten-shows : ShowPairsSays forgotten unpinned 1 [] [] (Shown 0) [] []
 unfolding rows isName isNameByte isDigit isLower goneAt shownAt
@@ -137,18 +136,18 @@ forgets-pairs claim =
 
 -- a drop leaves the rowset; it is lent what the port's append would need
 abbrev frameX : List ℕ
-frameX = 66 ∷ 10 ∷ 88 ∷ 44 ∷ 48 ∷ 10 ∷ 69 ∷ 10 ∷ []
+frameX = 33 ∷ 10 ∷ 66 ∷ 10 ∷ 88 ∷ 44 ∷ 48 ∷ 10 ∷ 69 ∷ 10 ∷ []
 
 abbrev afterX : VersionManager
-afterX = holding 2 1 1 noTables (pair 1 0) 26
+afterX = following afterTA 10 (holding 2 1 1 noTables (pair 1 0) 30)
 
 narrow-TA : Narrow (heldBy afterTA)
 narrow-TA = record { table = omega arith; rowset = omega arith; vector = omega arith }
 
-left-says : leavesRowsets .drop afterTA 0 (places 14 frameX) (appended afterX 2 8) (places 14 frameX)
+left-says : leavesRowsets .drop afterTA 0 (places 16 frameX) (appended afterX 2 10) (places 16 frameX)
 unfolding rows textOf fieldsText digits digitsBy isName isNameByte isDigit isLower goneAt shownAt
 left-says =
-    record { answer = refl; manager = record { fits = few 2 1 1 noTables (pair 1 0) 26 (omega arith) (omega arith); state = refl }; bytes = refl }
+    record { answer = refl; manager = record { hands = record { fits = few 2 1 1 noTables (pair 1 0) 30 (omega arith) (omega arith); state = refl }; former = record { fits = few 1 1 1 tables (pair 1 0) 20 (omega arith) (omega arith); state = refl }; append = refl }; bytes = refl }
 
 pub leaves-rowsets : Refuted leavesRowsets
 unfolding rows
@@ -156,16 +155,16 @@ leaves-rowsets claim =
     let S = leavesRowsets in
     let w = commitTA .after in
     let h =
-    on-TA S claim fresh-says draw-says says-TA (drops w 0 afterX 2 8 (places 14 frameX) ∷ []) (
+    on-TA S claim fresh-says draw-says says-TA (drops w 0 afterX 2 10 (places 16 frameX) ∷ []) (
       refl,
-      dropped S w 0 afterX 2 8 (places 14 frameX) narrow-TA left-says,
+      dropped S w 0 afterX 2 10 (places 16 frameX) narrow-TA left-says,
       tt,
     ) in
     not-empty (h .agrees .waiting)
 
 -- Compactions. The table's lock is taken first.
 abbrev afterLock : VersionManager
-afterLock = holdingAll 1 1 1 1 locked (pair 1 0) (vectorOf 1 0) 26
+afterLock = holdingAll 1 1 1 1 locked (pair 1 0) (vectorOf 1 0) 28
 
 abbrev lockTAV : Event
 lockTAV = locks (commitTAV .after) table afterLock
@@ -175,22 +174,22 @@ unfolding rows isName isNameByte isDigit isLower goneAt shownAt
 lock-says-TAV =
     record {
       answer = refl;
-      manager = record { fits = few-all 1 1 1 1 locked (pair 1 0) (vectorOf 1 0) 26 (omega arith) (omega arith) (omega arith); state = refl };
+      manager = record { hands = record { fits = few-all 1 1 1 1 locked (pair 1 0) (vectorOf 1 0) 28 (omega arith) (omega arith) (omega arith); state = refl }; nothing = refl };
     }
 
 -- The rowset is taken, its vector stays, and nothing is new.
 abbrev stays : VersionManager
-stays = holdingAll 2 1 1 1 locked (pair 1 2) (vectorOf 1 0) 36
+stays = following afterLock 12 (holdingAll 2 1 1 1 locked (pair 1 2) (vectorOf 1 0) 40)
 
 narrow-TAV : Narrow (heldBy afterLock)
 narrow-TAV = record { table = omega arith; rowset = omega arith; vector = omega arith }
 
-stays-says : leavesVectors .compact afterLock 0 [] (0 ∷ []) (places 18 frameD) (appended stays 2 10) (places 18 frameD)
+stays-says : leavesVectors .compact afterLock 0 [] (0 ∷ []) (places 20 frameD) (appended stays 2 12) (places 20 frameD)
 unfolding rows textOf fieldsText digits digitsBy isName isNameByte isDigit isLower goneAt shownAt
 stays-says =
     record {
       answer = refl;
-      manager = record { fits = few-all 2 1 1 1 locked (pair 1 2) (vectorOf 1 0) 36 (omega arith) (omega arith) (omega arith); state = refl };
+      manager = record { hands = record { fits = few-all 2 1 1 1 locked (pair 1 2) (vectorOf 1 0) 40 (omega arith) (omega arith) (omega arith); state = refl }; former = record { fits = lock-says-TAV .manager .hands .fits; state = refl }; append = refl };
       bytes = refl;
     }
 
@@ -203,7 +202,7 @@ pub leaves-vectors : Refuted leavesVectors
 unfolding rows
 leaves-vectors claim =
     let S = leavesVectors in
-    let e = compacts (lockTAV .after) 0 new.None (0 ∷ []) stays 2 10 (places 18 frameD) in
+    let e = compacts (lockTAV .after) 0 new.None (0 ∷ []) stays 2 12 (places 20 frameD) in
     let h =
     claim begun (draws ∷ drawsVector ∷ commitTAV ∷ lockTAV ∷ e ∷ []) (begins S fresh-says) (
       refl,
@@ -213,11 +212,11 @@ leaves-vectors claim =
         drew-vector S draw-vector-says,
         (
           refl,
-          committed S (drawsVector .after) opsTAV afterTAV 1 26 frameTAV 0 says-TAV,
+          committed S (drawsVector .after) opsTAV afterTAV 1 28 frameTAV 0 says-TAV,
           (
             refl,
             took-lock S (commitTAV .after) table afterLock lock-says-TAV,
-            (refl, compacted S (lockTAV .after) 0 new.None (0 ∷ []) stays 2 10 (places 18 frameD) narrow-TAV stays-says, tt),
+            (refl, compacted S (lockTAV .after) 0 new.None (0 ∷ []) stays 2 12 (places 20 frameD) narrow-TAV stays-says, tt),
           ),
         ),
       ),
@@ -235,19 +234,22 @@ abbrev opsTAA : List Operation
 opsTAA = createTable 0 7 name ∷ addRowset 0 0 ∷ addRowset 0 1 ∷ []
 
 abbrev frameTAA : List ℕ
-frameTAA = 66 ∷ 10 ∷ 84 ∷ 44 ∷ 48 ∷ 44 ∷ 55 ∷ 44 ∷ 97 ∷ 10 ∷ 65 ∷ 44 ∷ 48 ∷ 44 ∷ 48 ∷ 10 ∷ 65 ∷ 44 ∷ 48 ∷ 44 ∷ 49 ∷ 10 ∷ 69 ∷ 10 ∷ []
+frameTAA = 33 ∷ 10 ∷ 66 ∷ 10 ∷ 84 ∷ 44 ∷ 48 ∷ 44 ∷ 55 ∷ 44 ∷ 97 ∷ 10 ∷ 65 ∷ 44 ∷ 48 ∷ 44 ∷ 48 ∷ 10 ∷ 65 ∷ 44 ∷ 48 ∷ 44 ∷ 49 ∷ 10 ∷ 69 ∷ 10 ∷ []
 
 abbrev two : Rowsets
 two = holdsPairs (0 ∷ 0 ∷ []) (0 ∷ 1 ∷ []) (1 ∷ 1 ∷ []) (0 ∷ 0 ∷ []) 2
 
-abbrev afterTAA : Tables → VersionManager
-afterTAA l = holding 1 1 3 l two 24
+abbrev afterTAA : VersionManager
+afterTAA = following (drawnTo 3) 26 (holding 1 1 3 tables two 26)
+
+abbrev lockedTAA : VersionManager
+lockedTAA = holding 1 1 3 locked two 26
 
 abbrev commitTAA : Event
-commitTAA = commits (drawsThree .after) opsTAA (afterTAA tables) 1 24 frameTAA 0
+commitTAA = commits (drawsThree .after) opsTAA afterTAA 1 26 frameTAA 0
 
 abbrev lockTAA : Event
-lockTAA = locks (commitTAA .after) table (afterTAA locked)
+lockTAA = locks (commitTAA .after) table lockedTAA
 
 -- the third is added at a, and the two are deleted at d
 abbrev three : ℕ → ℕ → Rowsets
@@ -257,38 +259,38 @@ abbrev merged : NewRowset
 merged = new.One (record { 0 = 2 })
 
 abbrev frameA : List ℕ
-frameA = 66 ∷ 10 ∷ 65 ∷ 44 ∷ 48 ∷ 44 ∷ 50 ∷ 10 ∷ 69 ∷ 10 ∷ []
+frameA = 33 ∷ 10 ∷ 66 ∷ 10 ∷ 65 ∷ 44 ∷ 48 ∷ 44 ∷ 50 ∷ 10 ∷ 69 ∷ 10 ∷ []
 
 abbrev lent : List ℕ
-lent = places 22 frameA
+lent = places 24 frameA
 
 abbrev afterMerge : ℕ → ℕ → VersionManager
-afterMerge d n = holding 2 1 3 locked (three 2 d) n
+afterMerge d n = following lockedTAA 12 (holding 2 1 3 locked (three 2 d) n)
 
 abbrev merges : ℕ → ℕ → Event
-merges d n = compacts (lockTAA .after) 0 merged (0 ∷ 1 ∷ []) (afterMerge d n) 2 10 lent
+merges d n = compacts (lockTAA .after) 0 merged (0 ∷ 1 ∷ []) (afterMerge d n) 2 12 lent
 
 draw-two : DrawRowsetSays (drawnTo 1) (drawnBy (drawnTo 2) 1)
 unfolding rows
-draw-two = record { answer = refl; manager = record { fits = few 0 0 2 noTables noPairs 0 (omega arith) (omega arith); state = refl } }
+draw-two = record { answer = refl; manager = record { hands = record { fits = few 0 0 2 noTables noPairs 0 (omega arith) (omega arith); state = refl }; nothing = refl } }
 
 draw-three : DrawRowsetSays (drawnTo 2) (drawnBy (drawnTo 3) 2)
 unfolding rows
-draw-three = record { answer = refl; manager = record { fits = few 0 0 3 noTables noPairs 0 (omega arith) (omega arith); state = refl } }
+draw-three = record { answer = refl; manager = record { hands = record { fits = few 0 0 3 noTables noPairs 0 (omega arith) (omega arith); state = refl }; nothing = refl } }
 
-says-TAA : CommitSays (drawnTo 3) (length opsTAA) opsTAA frameTAA (appended (afterTAA tables) 1 24) frameTAA
+says-TAA : CommitSays (drawnTo 3) (length opsTAA) opsTAA frameTAA (appended afterTAA 1 26) frameTAA
 unfolding rows stepOf textOf fieldsText digits digitsBy isName isNameByte isDigit isLower goneAt shownAt
-says-TAA = (refl, record { fits = few 1 1 3 tables two 24 (omega arith) (omega arith); state = refl }, refl)
+says-TAA = (refl, record { hands = record { fits = few 1 1 3 tables two 26 (omega arith) (omega arith); state = refl }; former = record { fits = draw-three .manager .hands .fits; state = refl }; append = refl }, refl)
 
-lock-says-TAA : LockSays (afterTAA tables) table (lockedBy (afterTAA locked))
+lock-says-TAA : LockSays afterTAA table (lockedBy lockedTAA)
 unfolding rows isName isNameByte isDigit isLower goneAt shownAt
-lock-says-TAA = record { answer = refl; manager = record { fits = few 1 1 3 locked two 24 (omega arith) (omega arith); state = refl } }
+lock-says-TAA = record { answer = refl; manager = record { hands = record { fits = few 1 1 3 locked two 26 (omega arith) (omega arith); state = refl }; nothing = refl } }
 
-narrow-TAA : Narrow (heldBy (afterTAA locked))
+narrow-TAA : Narrow (heldBy lockedTAA)
 narrow-TAA = record { table = omega arith; rowset = omega arith; vector = omega arith }
 
 -- the claim of these calls and further ones
-module _ (f : Like CompactSays) (claim : Claim (compacting f)) (d n : ℕ) (says : f (afterTAA locked) 0 (2 ∷ []) (0 ∷ 1 ∷ []) lent (appended (afterMerge d n) 2 10) lent) where
+module _ (f : Like CompactSays) (claim : Claim (compacting f)) (d n : ℕ) (says : f lockedTAA 0 (2 ∷ []) (0 ∷ 1 ∷ []) lent (appended (afterMerge d n) 2 12) lent) where
   on-merge : (es : List Event) → Chain (compacting f) (merges d n .after) es → Holds (compacting f) begun (draws ∷ drawsTwo ∷ drawsThree ∷ commitTAA ∷ lockTAA ∷ merges d n ∷ es)
   on-merge es c =
       let S = compacting f in
@@ -303,11 +305,11 @@ module _ (f : Like CompactSays) (claim : Claim (compacting f)) (d n : ℕ) (says
             drew-on S (drawsTwo .after) (drawnTo 3) 2 draw-three,
             (
               refl,
-              committed S (drawsThree .after) opsTAA (afterTAA tables) 1 24 frameTAA 0 says-TAA,
+              committed S (drawsThree .after) opsTAA afterTAA 1 26 frameTAA 0 says-TAA,
               (
                 refl,
-                took-lock S (commitTAA .after) table (afterTAA locked) lock-says-TAA,
-                (refl, compacted S (lockTAA .after) 0 merged (0 ∷ 1 ∷ []) (afterMerge d n) 2 10 lent narrow-TAA says, c),
+                took-lock S (commitTAA .after) table lockedTAA lock-says-TAA,
+                (refl, compacted S (lockTAA .after) 0 merged (0 ∷ 1 ∷ []) (afterMerge d n) 2 12 lent narrow-TAA says, c),
               ),
             ),
           ),
@@ -322,26 +324,26 @@ abbrev mergedPair : List ℕ
 mergedPair = 0 ∷ 2 ∷ []
 
 -- the two stay
-both-says : keepsTaken .compact (afterTAA locked) 0 (2 ∷ []) (0 ∷ 1 ∷ []) lent (appended (afterMerge 0 34) 2 10) lent
+both-says : keepsTaken .compact lockedTAA 0 (2 ∷ []) (0 ∷ 1 ∷ []) lent (appended (afterMerge 0 38) 2 12) lent
 unfolding rows textOf fieldsText digits digitsBy isName isNameByte isDigit isLower goneAt shownAt
 both-says =
-    record { answer = refl; manager = record { fits = few 2 1 3 locked (three 2 0) 34 (omega arith) (omega arith); state = refl }; bytes = refl }
+    record { answer = refl; manager = record { hands = record { fits = few 2 1 3 locked (three 2 0) 38 (omega arith) (omega arith); state = refl }; former = record { fits = lock-says-TAA .manager .hands .fits; state = refl }; append = refl }; bytes = refl }
 
-both-shown : ShowPairsSays (afterMerge 0 34) unpinned 2 (5 ∷ []) (5 ∷ []) (NotShown OutputTooShort) (5 ∷ []) (5 ∷ [])
+both-shown : ShowPairsSays (afterMerge 0 38) unpinned 2 (5 ∷ []) (5 ∷ []) (NotShown OutputTooShort) (5 ∷ []) (5 ∷ [])
 unfolding rows isName isNameByte isDigit isLower goneAt shownAt
 both-shown = record { answer = refl; tables = refl; rowsets = refl }
 
 pub keeps-taken : Refuted keepsTaken
 unfolding rows
 keeps-taken claim =
-    let h = on-merge (keepsTaken .compact) claim 0 34 both-says [] tt in
-    more-pairs keepsTaken (merges 0 34 .after) 2 mergedPair both-shown (h .agrees .pairs 2 refl)
+    let h = on-merge (keepsTaken .compact) claim 0 38 both-says [] tt in
+    more-pairs keepsTaken (merges 0 38 .after) 2 mergedPair both-shown (h .agrees .pairs 2 refl)
 
 -- The two go, but their deletions are not in the manifest: a reopen finds them beside the third.
-alone-says : appendsNewAlone .compact (afterTAA locked) 0 (2 ∷ []) (0 ∷ 1 ∷ []) lent (appended (afterMerge 2 46) 2 10) lent
+alone-says : appendsNewAlone .compact lockedTAA 0 (2 ∷ []) (0 ∷ 1 ∷ []) lent (appended (afterMerge 2 50) 2 12) lent
 unfolding rows textOf fieldsText digits digitsBy isName isNameByte isDigit isLower goneAt shownAt
 alone-says =
-    record { answer = refl; manager = record { fits = few 2 1 3 locked (three 2 2) 46 (omega arith) (omega arith); state = refl }; bytes = refl }
+    record { answer = refl; manager = record { hands = record { fits = few 2 1 3 locked (three 2 2) 50 (omega arith) (omega arith); state = refl }; former = record { fits = lock-says-TAA .manager .hands .fits; state = refl }; append = refl }; bytes = refl }
 
 abbrev rewrittenThree : List ℕ
 rewrittenThree =
@@ -352,7 +354,7 @@ found = holding 1 1 3 tables (three 1 0) 38
 
 found-says : ReopenSays (frameTAA ++ frameA) rewrittenThree (rewrittenBy found 38) rewrittenThree
 unfolding rows textOf fieldsText digits digitsBy lines linesOn lineOf lineBy twoFields tableFields fieldAt namedAt readAt readIn readOn isName isNameByte isDigit isLower goneAt shownAt
-found-says = (refl, record { fits = few 1 1 3 tables (three 1 0) 38 (omega arith) (omega arith); state = refl }, no-pins, refl)
+found-says = (refl, record { hands = record { fits = few 1 1 3 tables (three 1 0) 38 (omega arith) (omega arith); state = refl }; nothing = refl }, no-pins, refl)
 
 found-shows : ShowPairsSays found unpinned 1 (5 ∷ []) (5 ∷ []) (NotShown OutputTooShort) (5 ∷ []) (5 ∷ [])
 unfolding rows isName isNameByte isDigit isLower goneAt shownAt
@@ -362,8 +364,8 @@ pub appends-new-alone : Refuted appendsNewAlone
 unfolding rows
 appends-new-alone claim =
     let S = appendsNewAlone in
-    let w = merges 2 46 .after in
+    let w = merges 2 50 .after in
     let o = reopens w found 38 rewrittenThree false in
     let h =
-    on-merge (S .compact) claim 2 46 alone-says (o ∷ []) (refl, reopened S w found 38 rewrittenThree false found-says, tt) in
+    on-merge (S .compact) claim 2 50 alone-says (o ∷ []) (refl, reopened S w found 38 rewrittenThree false found-says, tt) in
     more-pairs S (o .after) 1 mergedPair found-shows (h .agrees .pairs 1 refl)

@@ -29,6 +29,8 @@ pub data Call : Type 0 where
   unpin : ℕ → Call
   -- the lent slices for tables and rowsets
   vacuum : List ℕ → List ℕ → Call
+  -- how many bytes of the last append landed
+  report : ℕ → Call
   -- the lent buffer, and whether the old manifest still stands where the next accepted call is a reopen
   checkpoint : List ℕ → Bool → Call
   reopen : List ℕ → Bool → Call
@@ -43,6 +45,8 @@ pub data Kind : Type 0 where
   -- the epoch
   asUnpin : ℕ → Kind
   asVacuum : Kind
+  -- how many bytes landed
+  asReport : ℕ → Kind
   -- how many bytes are lent
   asCheckpoint : ℕ → Kind
   asReopen : ℕ → Kind
@@ -60,5 +64,6 @@ kindOf (compact t new taken out missing) = asCommit (λ id s. compactOperations 
 kindOf pin = asPin
 kindOf (unpin e) = asUnpin e
 kindOf (vacuum ts rs) = asVacuum
+kindOf (report landed) = asReport landed
 kindOf (checkpoint out stale) = asCheckpoint (length out)
 kindOf (reopen out stale) = asReopen (length out)

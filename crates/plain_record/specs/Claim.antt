@@ -1,6 +1,6 @@
 -- Demand 3: what is claimed of every run, beside the plain record of its calls. Assumes nothing.
 use mathlib.Core.Path.{_≡_}
-use mathlib.Core.Bool.{Bool, true, false, not, _&&_}
+use mathlib.Core.Bool.{Bool, true, false, cond, not, _&&_}
 use mathlib.Core.List.{List, [], _∷_, map}
 use Prim.Native.Nat.{ℕ, _+_, _≤_}
 use lib.Dec.{eqb, ltb}
@@ -9,12 +9,12 @@ use Rattle.lists.specs.Order.{same}
 use Rattle.lists.specs.Keyed.{keep, allOf, anyOf, arranged}
 use Rattle.snapshot.specs.Entries.{byDeletion, waits}
 use Rattle.version_state.specs.State.{State}
-use Rattle.pins.specs.Book.{pinsOf}
+use Rattle.pins.specs.Book.{pinsOf, pinned}
 use Rattle.pins.specs.Guards.{guardsOf, mayShow, blocked}
 use Rattle.version_manager.specs.Managers.{heldBy}
 use Rattle.rewrite.specs.Rewritten.{longestRewritten}
-use Rattle.plain_record.specs.Calls.{Kind, quiet, asCommit, asPin, asUnpin, asVacuum, asCheckpoint, asReopen, kindOf}
-use Rattle.plain_record.specs.Plain.{Waiting, Id, tableId, rowsetId, vectorId, Plain, epochOf, setsAt, deletions, guardsIn, listed, Record, atStart, turn}
+use Rattle.plain_record.specs.Calls.{Kind, quiet, asCommit, asPin, asUnpin, asVacuum, asReport, asCheckpoint, asReopen, kindOf}
+use Rattle.plain_record.specs.Plain.{Waiting, Id, tableId, rowsetId, vectorId, Plain, epochOf, setsAt, deletions, guardsIn, listed, Former, gone, former, takenOff, Record, atStart, turn}
 use Rattle.plain_record.specs.Run.{Steps, World, Event, isAccepted, value, Chain, lastOf, Starts}
 use Rattle.plain_record.specs.Shows.{ShowsTables, ShowsPairs, ShowsVectors}
 
@@ -55,6 +55,15 @@ pub record Agrees (S : Steps) (w : World) (p : Plain) : Type 0 where
   -- the manager's manifest length is the file's
   pub manifest : heldBy (w .manager) .manifest ≡ length (w .file)
 
+-- there is a commit to take off
+abbrev pub isFormer : Former → Bool
+isFormer gone = false
+isFormer (former p) = true
+
+-- 31 does not hold: fewer bytes than the append's are said to have landed, there is a commit to take off, and no pin is on its epoch
+abbrev pub mayReport : ℕ → Record → World → Bool
+mayReport n r w = ltb n (length (w .last .bytes)) && (isFormer (r .former) && not (pinned (epochOf (r .whole)) (r .whole .pinned)))
+
 -- each answer, where the record was r before the call
 abbrev pub AnswerBy : Record → Event → Kind → Type 0
 AnswerBy r e quiet = Unit {0}
@@ -64,6 +73,10 @@ AnswerBy r e asPin = isAccepted (e .told) ≡ true → value 0 (e .told) ≡ epo
 AnswerBy r e (asUnpin d) = Unit {0}
 -- an accepted vacuum lists what the record lists, in its order, and answers how many these are
 AnswerBy r e asVacuum = isAccepted (e .told) ≡ true → (e .listed ≡ pairsOf (listed (r .whole))) × (value 0 (e .told) ≡ length (e .listed))
+-- a report is refused by 31 alone; an accepted one answers the epoch that is current again and the manifest's length
+AnswerBy r e (asReport n) =
+    (isAccepted (e .told) ≡ mayReport n r (e .before))
+    × (isAccepted (e .told) ≡ true → (value 0 (e .told) ≡ epochOf (takenOff (r .former) (r .whole))) × (value 1 (e .told) ≡ length (e .after .file)))
 -- a checkpoint or a reopen that is lent enough is never refused
 AnswerBy r e (asCheckpoint lent) = longestRewritten ≤ lent → isAccepted (e .told) ≡ true
 AnswerBy r e (asReopen lent) = longestRewritten ≤ lent → isAccepted (e .told) ≡ true
@@ -88,6 +101,7 @@ isVacuum (asCommit made missing) = false
 isVacuum asPin = false
 isVacuum (asUnpin e) = false
 isVacuum asVacuum = true
+isVacuum (asReport n) = false
 isVacuum (asCheckpoint lent) = false
 isVacuum (asReopen lent) = false
 
@@ -97,6 +111,7 @@ isReopen (asCommit made missing) = false
 isReopen asPin = false
 isReopen (asUnpin e) = false
 isReopen asVacuum = false
+isReopen (asReport n) = false
 isReopen (asCheckpoint lent) = false
 isReopen (asReopen lent) = true
 
@@ -142,6 +157,33 @@ ListedFirst w r (e ∷ es) =
 abbrev pub neverReopened : List Event → Bool
 neverReopened es = not (anyOf (λ (e : Event). isReopen (kindOf (e .call)) && isAccepted (e .told)) es)
 
+abbrev pub isReport : Kind → Bool
+isReport quiet = false
+isReport (asCommit made missing) = false
+isReport asPin = false
+isReport (asUnpin e) = false
+isReport asVacuum = false
+isReport (asReport n) = true
+isReport (asCheckpoint lent) = false
+isReport (asReopen lent) = false
+
+abbrev pub isPinning : Kind → Bool
+isPinning quiet = false
+isPinning (asCommit made missing) = false
+isPinning asPin = true
+isPinning (asUnpin e) = true
+isPinning asVacuum = false
+isPinning (asReport n) = false
+isPinning (asCheckpoint lent) = false
+isPinning (asReopen lent) = false
+
+-- of the events after a commit: the first accepted call that is no pin and no unpin is its report
+abbrev pub takenBack : List Event → Bool
+takenBack [] = false
+takenBack (e ∷ es) =
+    let k = kindOf (e .call) in
+    cond (isAccepted (e .told) && not (isPinning k)) (isReport k) (takenBack es)
+
 -- the deletions of an accepted call that answers id
 abbrev pub deletionsBy : Record → ℕ → Kind → List Waiting
 deletionsBy r id quiet = []
@@ -149,6 +191,7 @@ deletionsBy r id (asCommit made missing) = deletions (r .place) (epochOf (r .who
 deletionsBy r id asPin = []
 deletionsBy r id (asUnpin e) = []
 deletionsBy r id asVacuum = []
+deletionsBy r id (asReport n) = []
 deletionsBy r id (asCheckpoint lent) = []
 deletionsBy r id (asReopen lent) = []
 
@@ -156,11 +199,11 @@ abbrev pub EachListed : List Waiting → Record → List Event → Type 0
 EachListed [] r es = Unit {0}
 EachListed (w ∷ ws) r es = ListedFirst w r es × EachListed ws r es
 
--- every deletion since the last accepted reopen
+-- every deletion since the last accepted reopen, if its commit is not reported
 abbrev pub Deletions : Record → List Event → Type 0
 Deletions r [] = Unit {0}
 Deletions r (e ∷ es) =
-    (isAccepted (e .told) ≡ true → neverReopened es ≡ true → EachListed (deletionsBy r (value 0 (e .told)) (kindOf (e .call))) (nextRecord r e) es) × Deletions (nextRecord r e) es
+    (isAccepted (e .told) ≡ true → neverReopened es ≡ true → takenBack es ≡ false → EachListed (deletionsBy r (value 0 (e .told)) (kindOf (e .call))) (nextRecord r e) es) × Deletions (nextRecord r e) es
 
 -- after every list of calls
 pub record Holds (S : Steps) (w : World) (es : List Event) : Type 0 where

@@ -13,7 +13,7 @@ use Rattle.storage.specs.Reopen.{reopenTold}
 use Rattle.plain_record.specs.Sets.{Sets}
 use Rattle.plain_record.specs.Calls.{checkpoint}
 use Rattle.plain_record.specs.Plain.{Plain, Id, atStart}
-use Rattle.plain_record.specs.Run.{Steps, World, world, Event, isAccepted, Chain, Starts}
+use Rattle.plain_record.specs.Run.{Steps, noAppend, World, world, Event, isAccepted, Chain, Starts}
 use Rattle.plain_record.specs.Shows.{ShowsTables, ShowsPairs, ShowsVectors}
 use Rattle.plain_record.specs.Claim.{belowNext, recordOf}
 
@@ -21,9 +21,9 @@ use Rattle.plain_record.specs.Claim.{belowNext, recordOf}
 -- to the other: a checkpoint writes those that were drawn, and a draw alone is in no append.
 pub record Finds (S : Steps) (r : Reopened) (z : Sets) (ids : List Id) : Type 0 where
   pub accepted : isAccepted (reopenTold (r .answer)) ≡ true
-  pub tables : ShowsTables S (world (r .manager) (r .book) [] []) reopened (z .tables)
-  pub pairs : ShowsPairs S (world (r .manager) (r .book) [] []) reopened (z .pairs)
-  pub vectors : ShowsVectors S (world (r .manager) (r .book) [] []) reopened (z .vectors)
+  pub tables : ShowsTables S (world (r .manager) (r .book) [] [] noAppend) reopened (z .tables)
+  pub pairs : ShowsPairs S (world (r .manager) (r .book) [] [] noAppend) reopened (z .pairs)
+  pub vectors : ShowsVectors S (world (r .manager) (r .book) [] [] noAppend) reopened (z .vectors)
   pub next : allOf (belowNext (heldBy (r .manager))) ids ≡ true
 
 -- every reopen of the manifest f that is lent enough

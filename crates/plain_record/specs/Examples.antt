@@ -18,7 +18,7 @@ use Rattle.version_manager.specs.Draw.{rowsetDrawn}
 use Rattle.rewrite.specs.Rewritten.{rewrittenOf}
 use Rattle.replay.specs.Replay.{reopened, replayOf}
 use Rattle.plain_record.specs.Sets.{none, itself, sets}
-use Rattle.plain_record.specs.Calls.{Call, commit, pin, reopen, kindOf}
+use Rattle.plain_record.specs.Calls.{Call, commit, pin, unpin, report, reopen, kindOf}
 use Rattle.plain_record.specs.Plain.{waitingAs, byEpochAndPair, plain, tableId, rowsetId, onePin, oneLess, listed, Record, atStart, turn}
 
 -- the record after accepted calls, none of them a create
@@ -41,6 +41,17 @@ again =
     ∷ reopen [] false
     ∷ pin
     ∷ commit (deleteRowset 0 0 ∷ []) [] 0
+    ∷ []
+
+-- the table with the pair, two pins, and the deletion of the pair, which is reported: an unpin between stays
+abbrev pub short : List Call
+short =
+    commit (createTable 0 7 name ∷ addRowset 0 0 ∷ []) [] 0
+    ∷ pin
+    ∷ pin
+    ∷ commit (deleteRowset 0 0 ∷ []) [] 0
+    ∷ unpin 1
+    ∷ report 3
     ∷ []
 
 pub record Examples : Type 0 where
@@ -68,6 +79,8 @@ pub record Examples : Type 0 where
   pub told : recordAfter again atStart .whole
       ≡ plain (none ∷ sets (table 0 7 name ∷ []) (pair ∷ []) [] ∷ []) (sets (table 0 7 name ∷ []) [] []) (pinsOn (placeOn 1) 1 ∷ []) (waitingAs 2 pair 4 0 ∷ []) (tableId 0 ∷ rowsetId 0 ∷ [])
   pub kept : listed (recordAfter again atStart .whole) ≡ []
+  -- the deletion, its epoch and the set that it left are taken off; one pin is left
+  pub takenBack : recordAfter short atStart .whole ≡ plain (none ∷ []) (sets (table 0 7 name ∷ []) (pair ∷ []) []) (pinsOn (placeOn 1) 1 ∷ []) [] (tableId 0 ∷ rowsetId 0 ∷ [])
   -- a draw and a checkpoint: from the old manifest the same rowset id would be drawn again, from the new one the id after it
   pub undrawn : replayOf [] ≡ given (withNext (withEpoch start reopened 0) 0 0 0)
   pub drawn : replayOf (rewrittenOf (rowsetDrawn start)) ≡ given (withNext (withEpoch start reopened 0) 0 1 0)

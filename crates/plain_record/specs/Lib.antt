@@ -9,3 +9,4 @@ pub mod Examples
 pub mod Wrong
 pub mod Story
 pub mod Either
+pub mod ShortWrite

@@ -1,4 +1,4 @@
--- Document 01's plain record. It is fed the calls' arguments, whether each was accepted, the id that a create answers, and how far an append landed. Assumes nothing.
+-- Document 01's plain record, with document 02's reports. It is fed the calls' arguments, whether each was accepted, the id that a create answers, and how far an append landed. Assumes nothing.
 use mathlib.Core.Bool.{Bool, true, false, cond, not}
 use mathlib.Core.List.{List, [], _∷_, _++_}
 use Prim.Native.Nat.{ℕ, _+_, _-_}
@@ -11,7 +11,7 @@ use Rattle.pins.specs.Book.{PinEntry, placeOn, placeKey, byPlace}
 use Rattle.pins.specs.Guards.{Guards, guardsBy, blocked}
 use Rattle.pins.specs.Counts.{pinsOn, pinsAt}
 use Rattle.plain_record.specs.Sets.{Sets, none, applyAll}
-use Rattle.plain_record.specs.Calls.{Kind, quiet, asCommit, asPin, asUnpin, asVacuum, asCheckpoint, asReopen}
+use Rattle.plain_record.specs.Calls.{Kind, quiet, asCommit, asPin, asUnpin, asVacuum, asReport, asCheckpoint, asReopen}
 
 -- a deletion that waits, told apart from every other by the place of its commit in the list and of its operation in the commit
 pub record Waiting : Type 0 where
@@ -116,38 +116,54 @@ swept p = plain (p .past) (p .now) (p .pinned) (keep (λ w. blocked (guardsIn p)
 abbrev pub kept : Plain → Plain
 kept p = plain (none ∷ []) (p .now) [] [] (p .added)
 
--- The record of a list: as it is if all has landed, and as it is if the next accepted call is a reopen; and the place of the next call.
+-- what a report may take off: nothing, or the last commit, before which the record was p
+pub data Former : Type 0 where
+  gone : Former
+  former : Plain → Former
+
+-- a report takes off the last commit's epoch, sets, waiting deletions and ids; pins stay
+abbrev pub takenOff : Former → Plain → Plain
+takenOff gone p = p
+takenOff (former q) p = withPins (p .pinned) q
+
+-- The record of a list: as it is if all has landed, and as it is if the next accepted call is a reopen; what a report may take off; and the place of the next call.
 pub record Record : Type 0 where
   pub whole : Plain
   pub torn : Plain
+  pub former : Former
   pub place : ℕ
 
-abbrev pub recorded : Plain → Plain → ℕ → Record
-recorded w t n = record { whole = w; torn = t; place = n }
+abbrev pub recorded : Plain → Plain → Former → ℕ → Record
+recorded w t f n = record { whole = w; torn = t; former = f; place = n }
 
 abbrev pub atStart : Record
-atStart = recorded start start 0
+atStart = recorded start start gone 0
 
--- an accepted call after which nothing is missing
+-- an accepted call after which nothing is missing, and nothing is left to report
 abbrev pub landed : Plain → Record → Record
-landed p r = recorded p p (r .place + 1)
+landed p r = recorded p p gone (r .place + 1)
+
+-- pins and unpins may stand between a commit and its report
+abbrev pub repinned : List PinEntry → Record → Record
+repinned l r = recorded (withPins l (r .whole)) (withPins l (r .whole)) (r .former) (r .place + 1)
 
 -- a commit whose last bytes are missing does not count where the next accepted call is a reopen
 abbrev pub counts : List Operation → ℕ → Record → Record
 counts os missing r =
-    recorded (counted (r .place) os (r .whole)) (cond (eqb missing 0) (counted (r .place) os (r .whole)) (r .whole)) (r .place + 1)
+    recorded (counted (r .place) os (r .whole)) (cond (eqb missing 0) (counted (r .place) os (r .whole)) (r .whole)) (former (r .whole)) (r .place + 1)
 
 -- an accepted call, by its kind and the id that it answers
 abbrev pub accepts : Kind → ℕ → Record → Record
 accepts quiet id r = landed (r .whole) r
 accepts (asCommit made missing) id r = counts (made id (r .whole .now)) missing r
-accepts asPin id r = landed (withPins (onePin (epochOf (r .whole)) (r .whole .pinned)) (r .whole)) r
-accepts (asUnpin e) id r = landed (withPins (oneLess e (r .whole .pinned)) (r .whole)) r
+accepts asPin id r = repinned (onePin (epochOf (r .whole)) (r .whole .pinned)) r
+accepts (asUnpin e) id r = repinned (oneLess e (r .whole .pinned)) r
 accepts asVacuum id r = landed (swept (r .whole)) r
+accepts (asReport n) id r = landed (takenOff (r .former) (r .whole)) r
 accepts (asCheckpoint lent) id r = landed (r .whole) r
 accepts (asReopen lent) id r = landed (kept (r .torn)) r
 
 -- a refused call changes nothing
 abbrev pub turn : Kind → Bool → ℕ → Record → Record
 turn k true id r = accepts k id r
-turn k false id r = recorded (r .whole) (r .torn) (r .place + 1)
+turn k false id r = recorded (r .whole) (r .torn) (r .former) (r .place + 1)

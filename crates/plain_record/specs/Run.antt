@@ -26,6 +26,7 @@ use Rattle.version_manager.specs.declared.Locked.{Locked}
 use Rattle.version_manager.specs.declared.Committed.{Committed}
 use Rattle.version_manager.specs.declared.Created.{Created}
 use Rattle.version_manager.specs.declared.Vacuumed.{Vacuumed}
+use Rattle.version_manager.specs.declared.Reported.{Reported}
 use Rattle.version_manager.specs.declared.Checkpointed.{Checkpointed}
 use Rattle.version_manager.specs.Managers.{heldBy, FreshSays}
 use Rattle.version_manager.specs.Draw.{rowsetTold, vectorTold, DrawRowsetSays, DrawVectorSays}
@@ -36,6 +37,7 @@ use Rattle.version_manager.specs.Create.{createTold, CreateSays}
 use Rattle.version_manager.specs.Drop.{DropSays}
 use Rattle.version_manager.specs.Compact.{CompactSays}
 use Rattle.version_manager.specs.Vacuum.{vacuumTold, VacuumSays}
+use Rattle.version_manager.specs.Report.{reportTold, ReportSays}
 use Rattle.version_manager.specs.Checkpoint.{checkpointTold, CheckpointSays}
 use Rattle.version_manager.specs.Show.{ShowTablesSays, ShowPairsSays, ShowVectorsSays}
 use Rattle.pinning.specs.declared.PinAnswer.{PinAnswer}
@@ -43,7 +45,7 @@ use Rattle.pinning.specs.declared.UnpinAnswer.{UnpinAnswer}
 use Rattle.pinning.specs.Says.{pinTold, unpinTold, PinSays, UnpinSays}
 use Rattle.storage.specs.declared.Reopened.{Reopened}
 use Rattle.storage.specs.Reopen.{reopenTold, ReopenSays}
-use Rattle.plain_record.specs.Calls.{Call, drawRowset, drawVector, group, lock, unlock, commit, create, drop, compact, pin, unpin, vacuum, checkpoint, reopen}
+use Rattle.plain_record.specs.Calls.{Call, drawRowset, drawVector, group, lock, unlock, commit, create, drop, compact, pin, unpin, vacuum, report, checkpoint, reopen}
 
 -- what each entry point may return and leave
 pub record Steps : Type 1 where
@@ -60,6 +62,7 @@ pub record Steps : Type 1 where
   pub pin : VersionManager → PinBook → PinAnswer → PinBook → Type 0
   pub unpin : VersionManager → ℕ → PinBook → UnpinAnswer → PinBook → Type 0
   pub vacuum : VersionManager → PinBook → List ℕ → List ℕ → Vacuumed → List ℕ → List ℕ → Type 0
+  pub report : VersionManager → PinBook → ℕ → Reported → Type 0
   pub checkpoint : VersionManager → List ℕ → Checkpointed → List ℕ → Type 0
   pub reopen : List ℕ → List ℕ → Reopened → List ℕ → Type 0
   pub showTables : VersionManager → PinBook → ℕ → List ℕ → List ℕ → List ℕ → List ℕ → ShowAnswer → List ℕ → List ℕ → List ℕ → List ℕ → Type 0
@@ -83,6 +86,7 @@ port =
       pin = PinSays;
       unpin = UnpinSays;
       vacuum = VacuumSays;
+      report = ReportSays;
       checkpoint = CheckpointSays;
       reopen = ReopenSays;
       showTables = ShowTablesSays;
@@ -90,15 +94,28 @@ port =
       showVectors = ShowVectorsSays;
     }
 
--- what stands between two calls: the manager, the book, the manifest file if all landed, and the file if the next accepted call is a reopen
+-- the last append: the manifest that it was put to, and its bytes
+pub record Append : Type 0 where
+  pub before : List ℕ
+  pub bytes : List ℕ
+
+abbrev pub append : List ℕ → List ℕ → Append
+append f l = record { before = f; bytes = l }
+
+abbrev pub noAppend : Append
+noAppend = append [] []
+
+-- what stands between two calls: the manager, the book, the manifest file if all landed, the file if the next accepted call is a reopen, and
+-- the last append
 pub record World : Type 0 where
   pub manager : VersionManager
   pub book : PinBook
   pub file : List ℕ
   pub torn : List ℕ
+  pub last : Append
 
-abbrev pub world : VersionManager → PinBook → List ℕ → List ℕ → World
-world m b f t = record { manager = m; book = b; file = f; torn = t }
+abbrev pub world : VersionManager → PinBook → List ℕ → List ℕ → Append → World
+world m b f t a = record { manager = m; book = b; file = f; torn = t; last = a }
 
 -- a turn of a run: what stood before it, the call, what its answer tells, the pairs that it listed, and what stands after it
 pub record Event : Type 0 where
@@ -117,21 +134,31 @@ value n t = getD (t .values) n 0
 
 -- after a call that appends nothing: an accepted one has found everything landed
 abbrev pub onward : VersionManager → PinBook → Told → World → World
-onward m b t w = world m b (w .file) (cond (isAccepted t) (w .file) (w .torn))
+onward m b t w = world m b (w .file) (cond (isAccepted t) (w .file) (w .torn)) (w .last)
 
 -- the append of a commit, of n bytes, of which the last ones may be missing
 abbrev pub afterCommit : VersionManager → Told → ℕ → List ℕ → ℕ → World → World
 afterCommit m t n out missing w =
-    world m (w .book) (cond (isAccepted t) (w .file ++ take n out) (w .file)) (cond (isAccepted t) (w .file ++ take (n - missing) out) (w .torn))
+    let a = isAccepted t in
+    world m (w .book) (cond a (w .file ++ take n out) (w .file)) (cond a (w .file ++ take (n - missing) out) (w .torn)) (cond a (append (w .file) (take n out)) (w .last))
+
+-- the file with so many bytes of the last append
+abbrev pub reported : ℕ → World → List ℕ
+reported n w = w .last .before ++ take n (w .last .bytes)
+
+-- a report says how far the last append landed, whatever was taken for it so far
+abbrev pub afterReport : VersionManager → Told → ℕ → World → World
+afterReport m t n w =
+    world m (w .book) (cond (isAccepted t) (reported n w) (w .file)) (cond (isAccepted t) (reported n w) (w .torn)) (w .last)
 
 -- a rewritten manifest replaces the old one whole; only where the next accepted call is a reopen may the old one still stand
 abbrev pub replaced : VersionManager → PinBook → List ℕ → List ℕ → Bool → World
-replaced m b old new stale = world m b new (cond stale old new)
+replaced m b old new stale = world m b new (cond stale old new) noAppend
 
 -- a checkpoint replaces the manifest on which everything had landed
 abbrev pub afterCheckpoint : VersionManager → Told → List ℕ → Bool → World → World
 afterCheckpoint m t out stale w =
-    cond (isAccepted t) (replaced m (w .book) (w .file) (take (value 0 t) out) stale) (world m (w .book) (w .file) (w .torn))
+    cond (isAccepted t) (replaced m (w .book) (w .file) (take (value 0 t) out) stale) (world m (w .book) (w .file) (w .torn) (w .last))
 
 -- a reopen replaces the manifest that it read; a refused one hands nothing on
 abbrev pub afterReopen : VersionManager → PinBook → Told → List ℕ → Bool → World → World
@@ -249,6 +276,13 @@ module _ (S : Steps) (w : World) (t : Told) (l : List (List ℕ)) (v : World) wh
     pub listed : l ≡ listedIf t tables rowsets
     pub after : v ≡ onward (result .manager) (w .book) t w
 
+  pub record DidReport (landed : ℕ) : Type 0 where
+    pub result : Reported
+    pub says : S .report (w .manager) (w .book) landed result
+    pub told : t ≡ reportTold (result .answer)
+    pub none : l ≡ []
+    pub after : v ≡ afterReport (result .manager) t landed w
+
   pub record DidCheckpoint (out : List ℕ) (stale : Bool) : Type 0 where
     pub narrow : Narrow (heldBy (w .manager))
     pub result : Checkpointed
@@ -280,6 +314,7 @@ module _ (S : Steps) (w : World) (t : Told) (l : List (List ℕ)) (v : World) wh
   LinkBy pin = DidPin
   LinkBy (unpin e) = DidUnpin e
   LinkBy (vacuum ts rs) = DidVacuum ts rs
+  LinkBy (report landed) = DidReport landed
   LinkBy (checkpoint out stale) = DidCheckpoint out stale
   LinkBy (reopen out stale) = DidReopen out stale
 
@@ -300,7 +335,7 @@ lastOf w (e ∷ es) = lastOf (e .after) es
 pub record Starts (S : Steps) (w : World) : Type 0 where
   pub opened : Opened
   pub says : S .fresh opened
-  pub fresh : w ≡ world (opened .manager) (opened .book) [] []
+  pub fresh : w ≡ world (opened .manager) (opened .book) [] [] noAppend
 
 -- what `DidCommit` asks of a count holds of every typed batch; a commit by lines counts its operations
 abbrev pub BatchCounted : Type 0

@@ -10,7 +10,7 @@ use Rattle.compaction.specs.New.{newOf}
 use Rattle.table.specs.Laws.{pairsWith, putAll}
 use Rattle.version_manager.specs.Managers.{heldBy}
 use Rattle.replay.specs.Replay.{reopened}
-use Rattle.plain_record.specs.Calls.{compact, reopen, Kind, quiet, asCommit, asPin, asUnpin, asVacuum, asCheckpoint, asReopen, kindOf}
+use Rattle.plain_record.specs.Calls.{compact, reopen, Kind, quiet, asCommit, asPin, asUnpin, asVacuum, asReport, asCheckpoint, asReopen, kindOf}
 use Rattle.plain_record.specs.Run.{Steps, World, Event, isAccepted, Chain, Starts}
 use Rattle.plain_record.specs.Shows.{ShowsPairs}
 
@@ -18,13 +18,14 @@ use Rattle.plain_record.specs.Shows.{ShowsPairs}
 abbrev pub merged : ℕ → List ℕ → List ℕ → List (List ℕ) → List (List ℕ)
 merged t new taken l = keep (λ k. not (anyOf (same k) (pairsWith t taken))) (putAll (pairsWith t new) l)
 
--- neither a commit nor a reopen
+-- neither a commit, nor a report of one, nor a reopen
 abbrev pub isStill : Kind → Bool
 isStill quiet = true
 isStill (asCommit made missing) = false
 isStill asPin = true
 isStill (asUnpin e) = true
 isStill asVacuum = true
+isStill (asReport n) = false
 isStill (asCheckpoint lent) = true
 isStill (asReopen lent) = false
 

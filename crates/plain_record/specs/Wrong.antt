@@ -1,8 +1,9 @@
 -- Managers that are wrong in one call each: the claim is false of every one of them. Assumes nothing.
 use mathlib.Core.Path.{_≡_}
-use mathlib.Core.Bool.{true, cond}
+use mathlib.Core.Bool.{true, cond, _&&_}
 use mathlib.Core.List.{List, [], _∷_, _++_, map}
 use Prim.Native.Nat.{ℕ, _+_, _-_, _≤_, max}
+use lib.Dec.{leb, ltb}
 use lib.ListN.{length, take}
 use Rattle.lists.specs.Order.{same}
 use Rattle.lists.specs.Keyed.{keep}
@@ -10,20 +11,21 @@ use Rattle.lists.specs.Written.{over}
 use Rattle.text.specs.Class.{newline}
 use Rattle.ids.specs.Ids.{next}
 use Rattle.ids.specs.declared.TableNo.{TableNo}
-use Rattle.ids.specs.declared.refusal.Refusal.the-variants.{BadManager, EpochNotPinned, OutputTooShort}
+use Rattle.ids.specs.declared.refusal.Refusal.the-variants.{BadManager, BadPinBook, NotReportable, EpochNotPinned, OutputTooShort}
 use Rattle.ids.specs.declared.refusal.Verdict.{Verdict}
 use Rattle.ids.specs.declared.refusal.Verdict.the-variants.{Accepted, Refused}
 use Rattle.ids.specs.Verdicts.{_⇒_, judged}
 use Rattle.ids.specs.Answers.{told, after}
 use Rattle.ids.specs.Results.{Result, refused, given, andThen, onward}
 use Rattle.manifest.specs.Operations.{Operation, end}
-use Rattle.manifest.specs.Lines.{lineText}
+use Rattle.manifest.specs.Lines.{isTorn, lineText}
 use Rattle.manifest.specs.Split.{restOn, lines, joined}
+use Rattle.frames.specs.Frames.{frameOf}
 use Rattle.snapshot.specs.Entries.{Entry, byIds, shownBy, field, waits}
 use Rattle.version_state.specs.State.{State, withTables, withPairs, withVectors, withNext, withEpoch, vectorsAt}
 use Rattle.version_state.specs.Sets.{sets, unlocked, setsOf, nextOf}
 use Rattle.pins.specs.declared.PinBook.{PinBook}
-use Rattle.pins.specs.Book.{PinEntry, pinsOf, placeOn, Keeps}
+use Rattle.pins.specs.Book.{PinEntry, pinsOf, placeOn, Keeps, badBook}
 use Rattle.pins.specs.Guards.{guardsBy, bound}
 use Rattle.pins.specs.Counts.{withPin}
 use Rattle.operations.specs.Steps.{stepOf}
@@ -41,14 +43,16 @@ use Rattle.version_manager.specs.declared.Locked.{Locked}
 use Rattle.version_manager.specs.declared.Committed.{Committed}
 use Rattle.version_manager.specs.declared.Created.{Created}
 use Rattle.version_manager.specs.declared.Vacuumed.{Vacuumed}
+use Rattle.version_manager.specs.declared.Reported.{Reported}
 use Rattle.version_manager.specs.declared.Checkpointed.{Checkpointed}
-use Rattle.version_manager.specs.Managers.{heldBy, badManager, Manages, HandsBack}
+use Rattle.version_manager.specs.Managers.{heldBy, formerBy, badManager, Manages, Follows, HandsBack, HandsOn}
 use Rattle.version_manager.specs.Commit.{outcomeOf, commitTold, CommitEnds}
 use Rattle.version_manager.specs.Lock.{lockVerdict}
 use Rattle.version_manager.specs.Create.{createVerdict, createTold}
 use Rattle.version_manager.specs.Drop.{dropVerdict}
 use Rattle.version_manager.specs.Compact.{compactVerdict}
 use Rattle.version_manager.specs.Vacuum.{vacuumTold, vacuumVerdict}
+use Rattle.version_manager.specs.Report.{reportTold, reportVerdict, reportedState}
 use Rattle.version_manager.specs.Checkpoint.{checkpointTold, checkpointVerdict}
 use Rattle.version_manager.specs.Show.{ShowPairsSays, ShowVectorsSays}
 use Rattle.pinning.specs.declared.PinAnswer.{PinAnswer}
@@ -60,15 +64,15 @@ use Rattle.storage.specs.declared.Reopened.{Reopened}
 use Rattle.storage.specs.Reopen.{openedOf, reopenOf, reopenTold, ReopenIs, ReopenSays}
 use Rattle.plain_record.specs.Run.{Steps, port}
 use Rattle.plain_record.specs.Claim.{Claim}
-open Steps port using (lock, commit, create, drop, compact, pin, unpin, vacuum, checkpoint, reopen, showTables, showPairs, showVectors)
+open Steps port using (lock, commit, create, drop, compact, pin, unpin, vacuum, report, checkpoint, reopen, showTables, showPairs, showVectors)
 
 -- what may stand in the place of a call's contract
 abbrev pub Like : {A : Type 1} → A → Type 1
 Like {A} says = A
 
 -- the port with these calls in place of its own
-abbrev pub exchanged : Like lock → Like commit → Like create → Like drop → Like compact → Like pin → Like unpin → Like vacuum → Like checkpoint → Like reopen → Like showTables → Like showPairs → Like showVectors → Steps
-exchanged lock commit create drop compact pin unpin vacuum checkpoint reopen showTables showPairs showVectors =
+abbrev pub exchanged : Like lock → Like commit → Like create → Like drop → Like compact → Like pin → Like unpin → Like vacuum → Like report → Like checkpoint → Like reopen → Like showTables → Like showPairs → Like showVectors → Steps
+exchanged lock commit create drop compact pin unpin vacuum report checkpoint reopen showTables showPairs showVectors =
     record {
       fresh = port .fresh;
       drawRowset = port .drawRowset;
@@ -83,6 +87,7 @@ exchanged lock commit create drop compact pin unpin vacuum checkpoint reopen sho
       pin = pin;
       unpin = unpin;
       vacuum = vacuum;
+      report = report;
       checkpoint = checkpoint;
       reopen = reopen;
       showTables = showTables;
@@ -92,37 +97,40 @@ exchanged lock commit create drop compact pin unpin vacuum checkpoint reopen sho
 
 -- with one of them
 abbrev pub locking : Like lock → Steps
-locking f = exchanged f commit create drop compact pin unpin vacuum checkpoint reopen showTables showPairs showVectors
+locking f = exchanged f commit create drop compact pin unpin vacuum report checkpoint reopen showTables showPairs showVectors
 
 abbrev pub committing : Like commit → Steps
-committing f = exchanged lock f create drop compact pin unpin vacuum checkpoint reopen showTables showPairs showVectors
+committing f = exchanged lock f create drop compact pin unpin vacuum report checkpoint reopen showTables showPairs showVectors
 
 abbrev pub creating : Like create → Steps
-creating f = exchanged lock commit f drop compact pin unpin vacuum checkpoint reopen showTables showPairs showVectors
+creating f = exchanged lock commit f drop compact pin unpin vacuum report checkpoint reopen showTables showPairs showVectors
 
 abbrev pub dropping : Like drop → Steps
-dropping f = exchanged lock commit create f compact pin unpin vacuum checkpoint reopen showTables showPairs showVectors
+dropping f = exchanged lock commit create f compact pin unpin vacuum report checkpoint reopen showTables showPairs showVectors
 
 abbrev pub compacting : Like compact → Steps
-compacting f = exchanged lock commit create drop f pin unpin vacuum checkpoint reopen showTables showPairs showVectors
+compacting f = exchanged lock commit create drop f pin unpin vacuum report checkpoint reopen showTables showPairs showVectors
 
 abbrev pub pinning : Like pin → Steps
-pinning f = exchanged lock commit create drop compact f unpin vacuum checkpoint reopen showTables showPairs showVectors
+pinning f = exchanged lock commit create drop compact f unpin vacuum report checkpoint reopen showTables showPairs showVectors
 
 abbrev pub unpinning : Like unpin → Steps
-unpinning f = exchanged lock commit create drop compact pin f vacuum checkpoint reopen showTables showPairs showVectors
+unpinning f = exchanged lock commit create drop compact pin f vacuum report checkpoint reopen showTables showPairs showVectors
 
 abbrev pub vacuuming : Like vacuum → Steps
-vacuuming f = exchanged lock commit create drop compact pin unpin f checkpoint reopen showTables showPairs showVectors
+vacuuming f = exchanged lock commit create drop compact pin unpin f report checkpoint reopen showTables showPairs showVectors
+
+abbrev pub reporting : Like report → Steps
+reporting f = exchanged lock commit create drop compact pin unpin vacuum f checkpoint reopen showTables showPairs showVectors
 
 abbrev pub checkpointing : Like checkpoint → Steps
-checkpointing f = exchanged lock commit create drop compact pin unpin vacuum f reopen showTables showPairs showVectors
+checkpointing f = exchanged lock commit create drop compact pin unpin vacuum report f reopen showTables showPairs showVectors
 
 abbrev pub reopening : Like reopen → Steps
-reopening f = exchanged lock commit create drop compact pin unpin vacuum checkpoint f showTables showPairs showVectors
+reopening f = exchanged lock commit create drop compact pin unpin vacuum report checkpoint f showTables showPairs showVectors
 
 abbrev pub showing : Like showTables → Like showPairs → Like showVectors → Steps
-showing t s x = exchanged lock commit create drop compact pin unpin vacuum checkpoint reopen t s x
+showing t s x = exchanged lock commit create drop compact pin unpin vacuum report checkpoint reopen t s x
 
 -- an accepted lock forgets the pairs
 pub record LocksForgetting (m : VersionManager) (t : TableNo) (r : Locked) : Type 0 where
@@ -181,15 +189,27 @@ forgetsWaiting = committing (λ m n os out r out′. CommitEnds (unaware m n os 
 abbrev pub unended : List ℕ → List ℕ
 unended l = take (length l - (length (lineText end) + 1)) l
 
-abbrev pub CommitEndsEarly : Result State → VersionManager → List Operation → List ℕ → Committed → List ℕ → Type 0
-CommitEndsEarly (given s) m os out r out′ =
-    (commitTold (r .answer) ≡ told Accepted (s .epoch ∷ length (unended (appendOf os)) ∷ []))
-    × Manages (r .manager) s
-    × (out′ ≡ over (unended (appendOf os)) out)
-CommitEndsEarly (refused k) m os out r out′ = CommitEnds (refused k) m os out r out′
+-- it ends as the port's, but appends what `written` makes of the operations
+abbrev pub CommitAppends : (List Operation → List ℕ) → Result State → VersionManager → List Operation → List ℕ → Committed → List ℕ → Type 0
+CommitAppends written (given s) m os out r out′ =
+    (commitTold (r .answer) ≡ told Accepted (s .epoch ∷ length (written os) ∷ []))
+    × Follows (r .manager) s (heldBy m) (length (written os))
+    × (out′ ≡ over (written os) out)
+CommitAppends written (refused k) m os out r out′ = CommitEnds (refused k) m os out r out′
 
 abbrev pub appendsNoEnd : Steps
-appendsNoEnd = committing (λ m n os out r out′. CommitEndsEarly (outcomeOf m n os (length out)) m os out r out′)
+appendsNoEnd = committing (λ m n os out r out′. CommitAppends (λ l. unended (appendOf l)) (outcomeOf m n os (length out)) m os out r out′)
+
+-- a commit appends no `!`, so that what is left of a short append runs into the next one
+abbrev pub ofLength : ℕ → Result State → Result State
+ofLength n (given s) = given (withEpoch s (s .epoch) n)
+ofLength n (refused k) = refused k
+
+abbrev pub unmarked : VersionManager → ℕ → List Operation → ℕ → Result State
+unmarked m n os room = ofLength (heldBy m .manifest + length (frameOf os)) (outcomeOf m n os room)
+
+abbrev pub appendsNoMark : Steps
+appendsNoMark = committing (λ m n os out r out′. CommitAppends frameOf (unmarked m n os (length out)) m os out r out′)
 
 -- a refused commit leaves what its operations did before the one that was refused
 abbrev pub reachedBy : Result State → State → (State → State) → State
@@ -211,23 +231,23 @@ abbrev pub leavesPart : Steps
 leavesPart = committing (λ m n os out r out′. CommitLeaves (outcomeOf m n os (length out)) m os out r out′)
 
 -- a create as the port's under its verdict, but from the state that `from` makes of the manager's; `Leaves` says what is handed back
-pub record CreatesBy (from : State → State) (Leaves : Verdict → VersionManager → State → VersionManager → Type 0) (m : VersionManager) (shape : ℕ) (name out : List ℕ) (r : Created) (out′ : List ℕ) : Type 0 where
+pub record CreatesBy (from : State → State) (Leaves : Verdict → VersionManager → State → ℕ → VersionManager → Type 0) (m : VersionManager) (shape : ℕ) (name out : List ℕ) (r : Created) (out′ : List ℕ) : Type 0 where
   pub answer : createTold (r .answer) ≡ told (createVerdict m shape name (length out)) (from (heldBy m) .nextTable ∷ (current m + 1) ∷ length (appendOf (createdBy (from (heldBy m)) shape name)) ∷ [])
-  pub manager : Leaves (createVerdict m shape name (length out)) m (committed (createdBy (from (heldBy m)) shape name) (from (heldBy m))) (r .manager)
+  pub manager : Leaves (createVerdict m shape name (length out)) m (committed (createdBy (from (heldBy m)) shape name) (from (heldBy m))) (length (appendOf (createdBy (from (heldBy m)) shape name))) (r .manager)
   pub bytes : out′ ≡ after (createVerdict m shape name (length out)) (over (appendOf (createdBy (from (heldBy m)) shape name)) out) out
 
 -- it takes the number of live tables for the next id, so that an id comes again after a drop
 abbrev pub reusesId : Steps
-reusesId = creating (CreatesBy (λ s. withNext s (length (s .tables)) (s .nextRowset) (s .nextVector)) HandsBack)
+reusesId = creating (CreatesBy (λ s. withNext s (length (s .tables)) (s .nextRowset) (s .nextVector)) HandsOn)
 
 -- a refused create leaves its table
 abbrev pub createsRefused : Steps
-createsRefused = creating (CreatesBy (λ s. s) (λ v m s n. Manages n s))
+createsRefused = creating (CreatesBy (λ s. s) (λ v m s k n. Follows n s (heldBy m) k))
 
 -- a drop or a compaction commits os under the port's verdict v, and appends the frame of `written`
 pub record Makes (v : Verdict) (os written : List Operation) (m : VersionManager) (out : List ℕ) (r : Committed) (out′ : List ℕ) : Type 0 where
   pub answer : commitTold (r .answer) ≡ told v ((current m + 1) ∷ length (appendOf written) ∷ [])
-  pub manager : HandsBack v m (committed os (heldBy m)) (r .manager)
+  pub manager : HandsOn v m (committed os (heldBy m)) (length (appendOf written)) (r .manager)
   pub bytes : out′ ≡ after v (over (appendOf written) out) out
 
 -- a drop commits no `D`
@@ -346,6 +366,32 @@ pub record VacuumsAnyway (m : VersionManager) (b : PinBook) (ts rs : List ℕ) (
 abbrev pub letsGoRefused : Steps
 letsGoRefused = vacuuming VacuumsAnyway
 
+-- a report under the verdict v: it hands back what `left` makes of the manager and the number of bytes that landed
+pub record ReportsBy (v : VersionManager → PinBook → ℕ → Verdict) (left : VersionManager → ℕ → State) (m : VersionManager) (b : PinBook) (n : ℕ) (r : Reported) : Type 0 where
+  pub answer : reportTold (r .answer) ≡ told (v m b n) (left m n .epoch ∷ left m n .manifest ∷ [])
+  pub manager : HandsBack (v m b n) m (left m n) (r .manager)
+
+-- it leaves the epoch
+abbrev pub sameEpoch : VersionManager → ℕ → State
+sameEpoch m n = withEpoch (formerBy m) (current m) (formerBy m .manifest + n)
+
+abbrev pub staysAtEpoch : Steps
+staysAtEpoch = reporting (ReportsBy reportVerdict sameEpoch)
+
+-- what the commit deleted goes on waiting
+abbrev pub withDeletions : VersionManager → ℕ → State
+withDeletions m n = withPairs (reportedState m n) (heldBy m .pairs)
+
+abbrev pub keepsDeletions : Steps
+keepsDeletions = reporting (ReportsBy reportVerdict withDeletions)
+
+-- a pin on the current epoch does not keep a report from being accepted, and that epoch is gone
+abbrev pub pinnedVerdict : VersionManager → PinBook → ℕ → Verdict
+pinnedVerdict m b n = judged ((badManager m ⇒ BadManager) ∷ (badBook (current m) b ⇒ BadPinBook) ∷ (leb (m .append) n ⇒ NotReportable) ∷ [])
+
+abbrev pub losesPinned : Steps
+losesPinned = reporting (ReportsBy pinnedVerdict reportedState)
+
 -- a checkpoint under the port's verdict: it writes what `written` makes of the state, and hands back what `left` makes of it
 pub record ChecksBy (written : State → List ℕ) (left : State → State) (m : VersionManager) (out : List ℕ) (r : Checkpointed) (out′ : List ℕ) : Type 0 where
   pub answer : checkpointTold (r .answer) ≡ told (checkpointVerdict m (length out)) (length (written (heldBy m)) ∷ [])
@@ -415,6 +461,14 @@ closed src = src ++ closedBy (restOn [] src)
 abbrev pub countsEarly : Steps
 countsEarly = reopening (λ src. ReopenSays (closed src))
 
+-- a reopen reads a torn line as what stands before its `!`, if anything does
+abbrev pub untorn : List (List ℕ) → List (List ℕ)
+untorn [] = []
+untorn (l ∷ ls) = cond (isTorn l && ltb 1 (length l)) (take (length l - 1) l) l ∷ untorn ls
+
+abbrev pub readsTorn : Steps
+readsTorn = reopening (λ src. ReopenSays (joined (untorn (lines src))))
+
 -- a reopen forgets which ids were used
 abbrev pub forgotten : List ℕ → ℕ → Result State
 forgotten src room = andThen (replayOf src) (λ s. openedOf room (withNext s 0 0 0))
@@ -460,6 +514,7 @@ pub record WrongRefuted : Type 0 where
   pub judgesNothing : Refuted judgesNothing
   pub forgetsWaiting : Refuted forgetsWaiting
   pub appendsNoEnd : Refuted appendsNoEnd
+  pub appendsNoMark : Refuted appendsNoMark
   pub leavesPart : Refuted leavesPart
   pub reusesId : Refuted reusesId
   pub createsRefused : Refuted createsRefused
@@ -479,6 +534,9 @@ pub record WrongRefuted : Type 0 where
   pub losesPairs : Refuted losesPairs
   pub losesVectors : Refuted losesVectors
   pub letsGoRefused : Refuted letsGoRefused
+  pub staysAtEpoch : Refuted staysAtEpoch
+  pub keepsDeletions : Refuted keepsDeletions
+  pub losesPinned : Refuted losesPinned
   pub writesWaiting : Refuted writesWaiting
   pub forgetsLetGo : Refuted forgetsLetGo
   pub keepsLength : Refuted keepsLength
@@ -487,6 +545,7 @@ pub record WrongRefuted : Type 0 where
   pub readsFirst : Refuted readsFirst
   pub readsToRoom : Refuted readsToRoom
   pub countsEarly : Refuted countsEarly
+  pub readsTorn : Refuted readsTorn
   pub forgetsIds : Refuted forgetsIds
   pub rewritesNoEnd : Refuted rewritesNoEnd
   pub refusesReopen : Refuted refusesReopen

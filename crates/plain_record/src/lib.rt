@@ -7,6 +7,7 @@ ghost use Rattle.plain_record.specs.Run.{port, BatchCounted};
 ghost use Rattle.plain_record.specs.Claim.{Claim};
 ghost use Rattle.plain_record.specs.Story.{Story};
 ghost use Rattle.plain_record.specs.Either.{EitherStands};
+ghost use Rattle.plain_record.specs.ShortWrite.{ShortWrite};
 ghost use Rattle.plain_record.specs.Examples.{Examples};
 ghost use Rattle.plain_record.specs.Wrong.{WrongRefuted};
 
@@ -34,6 +35,11 @@ pub fn never_both()
 // After a checkpoint a reopen finds the same sets, from the manifest that it replaced and from the one that it handed out.
 pub fn either_stands()
     ensures { λ _. ⌜ EitherStands port ⌝ }
+{}
+
+// A report takes back the commit that came short, and nothing else.
+pub fn short_writes()
+    ensures { λ _. ⌜ ShortWrite port ⌝ }
 {}
 
 // The claim is no empty one: it is false of managers that are wrong in one call.

@@ -18,6 +18,7 @@ use version_manager::DrawnVector;
 use version_manager::Grouped;
 use version_manager::Locked;
 use version_manager::Opened;
+use version_manager::Reported;
 use version_manager::Vacuumed;
 use version_manager::VersionManager;
 ghost use lib.ListN.{length};
@@ -128,6 +129,12 @@ pub fn vacuum(
     ensures { λ r. ⌜ port .vacuum manager book (now (tables .entry)) (now (rowsets .entry)) r (now (tables .exit)) (now (rowsets .exit)) ⌝ }
 {
     manager.vacuum(book, tables, rowsets)
+}
+
+pub fn report(manager: VersionManager, book: PinBook, landed: usize) -> Reported
+    ensures { λ r. ⌜ port .report manager book landed r ⌝ }
+{
+    manager.report(book, landed)
 }
 
 pub fn checkpoint(manager: VersionManager, out: &mut [u8]) -> Checkpointed

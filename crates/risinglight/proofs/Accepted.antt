@@ -33,7 +33,7 @@ use Rattle.plain_record.specs.Sets.{byId, itself}
 use Rattle.plain_record.specs.Calls.{commit, pin}
 use Rattle.plain_record.specs.Plain.{Record, accepts as accepted}
 use Rattle.plain_record.specs.Run.{World, isAccepted}
-use Rattle.plain_record.proofs.Invariant.{plainTable, plainSets, Inv}
+use Rattle.plain_record.proofs.Invariant.{plainTable, plainSets, Inv, passes}
 use Rattle.plain_record.proofs.Refused.{refused-number}
 use Rattle.plain_record.proofs.Commit.{now-at}
 use Rattle.risinglight.proofs.Fitting.{Found, found}
@@ -54,7 +54,7 @@ pub commit-found : (w : World) (r : Record) (z : ℕ) (os : List Operation) (roo
 commit-found w r z os room s i h =
     let m = w .manager .inner in
     let a = accepts (heldBy (w .manager)) z os room s h in
-    let g = sound-of m (i .sound) in
+    let g = sound-of m (passes w r i) in
     subst (Found os) (now-at w r i (m .epoch + 1) (omega arith))
     (found 0 (m .epoch + 1) os (heldBy (w .manager)) (a .done) (omega arith) (g .ordered) (allOf-all (λ (t : TableEntry). ltb (t .table) (heldBy (w .manager) .nextTable)) (heldBy (w .manager) .tables) (g .below)) (a .steps))
 
@@ -102,7 +102,7 @@ module _ (w : World) (r : Record) (i : Inv w r) where
   shown-vectors = keep (shownBy (held .epoch)) (held .vectors)
 
   nothing-left : (allOf (sound.hasRowset shown-pairs) shown-vectors ≡ true) × (allOf (hasTable (held .tables)) shown-pairs ≡ true)
-  nothing-left = both (allOf (sound.hasRowset shown-pairs) shown-vectors) (allOf (hasTable (held .tables)) shown-pairs) (not-false _ (sound-of (w .manager .inner) (i .sound) .whole))
+  nothing-left = both (allOf (sound.hasRowset shown-pairs) shown-vectors) (allOf (hasTable (held .tables)) shown-pairs) (not-false _ (sound-of (w .manager .inner) (passes w r i) .whole))
 
   has-table : (t q : ℕ) → has itself (t ∷ q ∷ []) (plainSets held .pairs) ≡ true → has byId (t ∷ []) (plainSets held .tables) ≡ true
   has-table t q h = anyOf-map plainTable (isAt byId (t ∷ [])) (held .tables) ∙ all-has (λ k. has byTable (take 1 k) (held .tables)) (t ∷ q ∷ []) shown-pairs (nothing-left .1) h

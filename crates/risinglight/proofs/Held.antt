@@ -18,7 +18,7 @@ use Rattle.version_state.specs.State.{State}
 use Rattle.operations.specs.Steps.{stepsOf}
 use Rattle.vacuum.specs.LetGo.{vacuumList, vacuumed}
 use Rattle.plain_record.specs.Sets.{itself}
-use Rattle.plain_record.specs.Plain.{Id, idsOf, Plain, Record, recorded, counts, counted}
+use Rattle.plain_record.specs.Plain.{Id, idsOf, Plain, Former, gone, Record, recorded, counts, counted}
 use Rattle.plain_record.specs.Plain as plain
 use Rattle.plain_record.specs.Claim.{belowNext}
 use Rattle.risinglight.specs.Manifest.{Value, frame, replay}
@@ -49,11 +49,11 @@ pub record Pool (g : Engine) (m : State) (r : Record) : Type 0 where
 
 module _ (g : Engine) (m : State) (r : Record) (k : Pool g m r) where
   -- a call that leaves the pools, and what is held
-  pub pool-landed : (v : Inner) (n : NextId) (s : State) (p : Plain) (place : ℕ) → v .rowsets ≡ g .running .version .rowsets → v .dvs ≡ g .running .version .dvs
+  pub pool-landed : (v : Inner) (n : NextId) (s : State) (p : Plain) (f : Former) (place : ℕ) → v .rowsets ≡ g .running .version .rowsets → v .dvs ≡ g .running .version .dvs
       → s .pairs ≡ m .pairs → s .vectors ≡ m .vectors → p .added ≡ r .whole .added
       → NotAbove (g .starts) (n .rowset) (s .nextRowset) → NotAbove (g .starts) (n .dv) (s .nextVector)
-      → Pool (landed v n g) s (recorded p p place)
-  pool-landed v n s p place a b c d e x y =
+      → Pool (landed v n g) s (recorded p p f place)
+  pool-landed v n s p f place a b c d e x y =
       record {
         rowsets = λ j. ap (has byIds j) c ∙ k .rowsets j ∙ sym (ap (has itself j) a);
         dvs = λ t q z h. ap (has itself (t ∷ z ∷ [])) b ∙ k .dvs t q z (sym (ap (has byIds (t ∷ q ∷ z ∷ [])) d) ∙ h);
@@ -130,7 +130,7 @@ module _ (g : Engine) (m : State) (r : Record) (k : Pool g m r) where
         ∙ anyOf-map byIds (isAt itself j) (vacuumList b m)
         ∙ any-arranged byDeletion (isAt byIds j) (keep (goneBy b) (m .pairs))
 
-    pub pool-vacuum : Pool (landed (find-vacuum (g .running .version) .left) (g .running .next) g) s (recorded p p place)
+    pub pool-vacuum : Pool (landed (find-vacuum (g .running .version) .left) (g .running .next) g) s (recorded p p gone place)
     pool-vacuum =
         record {
           rowsets = λ j.

@@ -20,7 +20,7 @@ use Rattle.pins.specs.Guards.{guardsBy, blocked}
 use Rattle.pins.specs.Counts.{pinsAt, recounted}
 use Rattle.pins.proofs.Counting.{pins-recounted}
 use Rattle.plain_record.specs.Sets.{Sets, byId, itself, applyAll}
-use Rattle.plain_record.specs.Plain.{byEpochAndPair, Plain, epochOf, setsAt, guardsIn, deletions, counted, withPins, listed, swept, kept, Record, recorded, counts}
+use Rattle.plain_record.specs.Plain.{byEpochAndPair, Plain, epochOf, setsAt, guardsIn, deletions, counted, withPins, listed, swept, kept, Former, gone, Record, recorded, counts}
 use Rattle.plain_record.specs.Plain as plain
 use Rattle.plain_record.specs.Claim.{waitingOf, pairsOf}
 use Rattle.plain_record.proofs.CommitShows.{getD-more, shows-now}
@@ -63,8 +63,8 @@ pub record Rel (g : Engine) (r : Record) : Type 0 where
   pub torn : Boots (replay (g .torn)) (r .torn .now)
 
 -- a call that finds everything landed
-pub rel-landed : (s : Storage) (p : Plain) (starts n : ℕ) → Beside s p → Rel (engine s (s .manifest) starts) (recorded p p n)
-rel-landed s p starts n b = record { whole = b; torn = found-whole (s .manifest) (p .now) (b .file) }
+pub rel-landed : (s : Storage) (p : Plain) (starts : ℕ) (f : Former) (n : ℕ) → Beside s p → Rel (engine s (s .manifest) starts) (recorded p p f n)
+rel-landed s p starts f n b = record { whole = b; torn = found-whole (s .manifest) (p .now) (b .file) }
 
 -- A commit.
 module _ (s : Storage) (p : Plain) (b : Beside s p) (os : List Operation) (f : Found os (p .now)) (c : ℕ) where
@@ -203,7 +203,7 @@ module _ (g : Engine) (r : Record) (k : Rel g r) where
     pub answer : result .epoch ≡ epochOf (r .whole)
     pub rowsets : result .left .rowsets ≡ running .rowsets
     pub dvs : result .left .dvs ≡ running .dvs
-    pub rel : Rel (landed (result .left) (g .running .next) g) (plain.landed (withPins (recounted (placeOn (epochOf (r .whole))) (pinsAt (placeOn (epochOf (r .whole))) (r .whole .pinned) + 1) (r .whole .pinned)) (r .whole)) r)
+    pub rel : Rel (landed (result .left) (g .running .next) g) (plain.repinned (recounted (placeOn (epochOf (r .whole))) (pinsAt (placeOn (epochOf (r .whole))) (r .whole .pinned) + 1) (r .whole .pinned)) r)
 
   pub pins-on : 1 ≤ epochOf (r .whole) → PinsOn
   pins-on h =
@@ -221,8 +221,8 @@ module _ (g : Engine) (r : Record) (k : Rel g r) where
         rowsets = refl;
         dvs = refl;
         rel =
-            subst (λ (d : ℕ). Rel (landed (withCounts c running) (g .running .next) g) (plain.landed (withPins (recounted (placeOn d) (pinsAt (placeOn d) (p .pinned) + 1) (p .pinned)) p) r)) q
-            (rel-landed (storage (g .running .catalog) (withCounts c running) (g .running .next) (g .running .manifest)) (withPins (recounted (placeOn e) (n + 1) (p .pinned)) p) (g .starts) (r .place + 1)
+            subst (λ (d : ℕ). Rel (landed (withCounts c running) (g .running .next) g) (plain.repinned (recounted (placeOn d) (pinsAt (placeOn d) (p .pinned) + 1) (p .pinned)) r)) q
+            (rel-landed (storage (g .running .catalog) (withCounts c running) (g .running .next) (g .running .manifest)) (withPins (recounted (placeOn e) (n + 1) (p .pinned)) p) (g .starts) (r .former) (r .place + 1)
             (beside-counts (g .running) p c (recounted (placeOn e) (n + 1) (p .pinned)) (k .whole)
             (λ d. get-insert d e (unwrapOr 0 (get e (running .ref-cnt)) + 1) (running .ref-cnt)
             ∙ recounts e (n + 1) d (p .pinned) (some (unwrapOr 0 (get e (running .ref-cnt)) + 1)) (running .ref-cnt) (k .whole .counts) (ap (λ (x : ℕ). some (x + 1)) back ∙ sym (counted-some (n + 1) (omega arith))))));
@@ -234,7 +234,7 @@ module _ (g : Engine) (r : Record) (k : Rel g r) where
     pub answer : result .notice ≡ eqb (pinsAt (placeOn e) (r .whole .pinned) - 1) 0 && not (eqb e (epochOf (r .whole)))
     pub rowsets : result .left .rowsets ≡ running .rowsets
     pub dvs : result .left .dvs ≡ running .dvs
-    pub rel : Rel (landed (result .left) (g .running .next) g) (plain.landed (withPins (recounted (placeOn e) (pinsAt (placeOn e) (r .whole .pinned) - 1) (r .whole .pinned)) (r .whole)) r)
+    pub rel : Rel (landed (result .left) (g .running .next) g) (plain.repinned (recounted (placeOn e) (pinsAt (placeOn e) (r .whole .pinned) - 1) (r .whole .pinned)) r)
 
   pub drops-one : (e : ℕ) → 1 ≤ pinsAt (placeOn e) (r .whole .pinned) → DropsOne e
   drops-one e h =
@@ -251,7 +251,7 @@ module _ (g : Engine) (r : Record) (k : Rel g r) where
         rowsets = refl;
         dvs = refl;
         rel =
-            rel-landed (storage (g .running .catalog) (withCounts c running) (g .running .next) (g .running .manifest)) (withPins (recounted (placeOn e) (n - 1) (p .pinned)) p) (g .starts) (r .place + 1)
+            rel-landed (storage (g .running .catalog) (withCounts c running) (g .running .next) (g .running .manifest)) (withPins (recounted (placeOn e) (n - 1) (p .pinned)) p) (g .starts) (r .former) (r .place + 1)
             (beside-counts (g .running) p c (recounted (placeOn e) (n - 1) (p .pinned)) (k .whole)
             (λ d. get-remove d e (running .ref-cnt) ∙ recounts e (n - 1) d (p .pinned) none (running .ref-cnt) (k .whole .counts) (ap counts.counted (sym (eqb-true (n - 1) 0 t)))));
       })
@@ -264,7 +264,7 @@ module _ (g : Engine) (r : Record) (k : Rel g r) where
         rowsets = refl;
         dvs = refl;
         rel =
-            rel-landed (storage (g .running .catalog) (withCounts c running) (g .running .next) (g .running .manifest)) (withPins (recounted (placeOn e) (n - 1) (p .pinned)) p) (g .starts) (r .place + 1)
+            rel-landed (storage (g .running .catalog) (withCounts c running) (g .running .next) (g .running .manifest)) (withPins (recounted (placeOn e) (n - 1) (p .pinned)) p) (g .starts) (r .former) (r .place + 1)
             (beside-counts (g .running) p c (recounted (placeOn e) (n - 1) (p .pinned)) (k .whole)
             (λ d. get-insert d e (n - 1) (running .ref-cnt) ∙ recounts e (n - 1) d (p .pinned) (some (n - 1)) (running .ref-cnt) (k .whole .counts) (sym (counted-some (n - 1) (positive (n - 1) (eqb-false (n - 1) 0 t))))));
       })
@@ -325,7 +325,7 @@ module _ (g : Engine) (r : Record) (k : Rel g r) where
 
     pub vacuum-rel : Rel (landed (find-vacuum running .left) (g .running .next) g) (plain.landed (swept (r .whole)) r)
     vacuum-rel =
-        rel-landed (storage (g .running .catalog) (find-vacuum running .left) (g .running .next) (g .running .manifest)) (swept (r .whole)) (g .starts) (r .place + 1)
+        rel-landed (storage (g .running .catalog) (find-vacuum running .left) (g .running .next) (g .running .manifest)) (swept (r .whole)) (g .starts) gone (r .place + 1)
         (record {
           epoch = k .whole .epoch;
           now = k .whole .now;

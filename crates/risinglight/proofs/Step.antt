@@ -10,7 +10,7 @@ use lib.ListN.{length, take}
 use borrow.Author.Tests.{eqb-false, not-false}
 use Rattle.lists.specs.Order.{same}
 use Rattle.lists.specs.Keyed.{has, isAt, arranged}
-use Rattle.lists.proofs.Tests.{both}
+use Rattle.lists.proofs.Tests.{clash, both}
 use Rattle.lists.proofs.Keyed.{All, anyOf-map, ascend-to}
 use Rattle.ids.specs.declared.refusal.Verdict.{Verdict}
 use Rattle.ids.specs.declared.refusal.Verdict.the-variants.{Accepted, Refused}
@@ -42,7 +42,7 @@ use Rattle.vacuum.specs.Says.{boundOf, listOf}
 use Rattle.rewrite.specs.Rewritten.{rewrittenOf}
 use Rattle.rewrite.specs.Says.{withRewritten}
 use Rattle.storage.specs.Reopen.{openedOf, ReopenIs}
-use Rattle.version_manager.specs.Managers.{heldBy, HandsBack}
+use Rattle.version_manager.specs.Managers.{heldBy, HandsBack, HandsOn}
 use Rattle.version_manager.specs.declared.Committed.{Committed}
 use Rattle.version_manager.specs.Commit.{commitTold, CommitEnds, outcomeOf}
 use Rattle.version_manager.specs.Create.{createVerdict}
@@ -56,12 +56,12 @@ use Rattle.version_manager.specs.Vacuum.{vacuumVerdict}
 use Rattle.version_manager.specs.Checkpoint.{checkpointVerdict}
 use Rattle.pinning.specs.Says.{pinRules, pinVerdict, unpinRules, unpinVerdict, isDue, flag, readyOf}
 use Rattle.plain_record.specs.Sets.{Sets, itself}
-use Rattle.plain_record.specs.Calls.{Call, drawRowset, drawVector, group, lock, unlock, commit, create, drop, compact, pin, unpin, vacuum, checkpoint, reopen, kindOf}
-use Rattle.plain_record.specs.Plain.{epochOf, withPins, kept, Record, counts, accepts as accepted, onePin, oneLess, swept}
+use Rattle.plain_record.specs.Calls.{Call, drawRowset, drawVector, group, lock, unlock, commit, create, drop, compact, pin, unpin, vacuum, report, checkpoint, reopen, kindOf}
+use Rattle.plain_record.specs.Plain.{epochOf, withPins, kept, gone, Record, counts, accepts as accepted, onePin, oneLess, swept}
 use Rattle.plain_record.specs.Plain as plain
 use Rattle.plain_record.specs.Run.{World, world, Event, isAccepted, value, port, LinkBy, DidLock, DidReopen, replaced}
-use Rattle.plain_record.specs.Claim.{AnswerBy}
-use Rattle.plain_record.proofs.Invariant.{plainSets, Inv}
+use Rattle.plain_record.specs.Claim.{AnswerBy, isReport}
+use Rattle.plain_record.proofs.Invariant.{plainSets, Inv, passes}
 use Rattle.plain_record.proofs.Stands.{stands-of}
 use Rattle.plain_record.proofs.Stands as stands
 use Rattle.plain_record.proofs.Commit.{now-at, few-new}
@@ -101,7 +101,7 @@ module _ (cut : ℕ) (g : Engine) (r : Record) (k : Rel g r) (e : Event) (i : In
   StepOf c = Stepped (λ h. DoesBy cut g h e c) held-after (accepted (kindOf c) (value 0 (e .told)) r)
 
   quiet : (n : NextId) → Rel (landed (g .running .version) n g) (plain.landed (r .whole) r)
-  quiet n = rel-landed (storage (g .running .catalog) (g .running .version) n (g .running .manifest)) (r .whole) (g .starts) (r .place + 1) (quiet-beside n)
+  quiet n = rel-landed (storage (g .running .catalog) (g .running .version) n (g .running .manifest)) (r .whole) (g .starts) gone (r .place + 1) (quiet-beside n)
     where
       quiet-beside : (n : NextId) → Beside (storage (g .running .catalog) (g .running .version) n (g .running .manifest)) (r .whole)
       quiet-beside n =
@@ -110,7 +110,11 @@ module _ (cut : ℕ) (g : Engine) (r : Record) (k : Rel g r) (e : Event) (i : In
 
   -- the state s that an accepted verdict hands back
   back : (v : Verdict) (s : State) (o : VersionManager) → v ≡ Accepted → HandsBack v (w .manager) s o → heldBy o ≡ s
-  back v s o q h = subst (λ (x : Verdict). HandsBack x (w .manager) s o) q h .state
+  back v s o q h = subst (λ (x : Verdict). HandsBack x (w .manager) s o) q h .hands .state
+
+  -- and of a commit
+  back-on : (v : Verdict) (s : State) (n : ℕ) (o : VersionManager) → v ≡ Accepted → HandsOn v (w .manager) s n o → heldBy o ≡ s
+  back-on v s n o q h = subst (λ (x : Verdict). HandsOn x (w .manager) s n o) q h .hands .state
 
   more : (n : ℕ) (x y : ℕ) → NotAbove (g .starts) x y → NotAbove (g .starts) (x + n) (y + n)
   more n x y h = (omega (arith, h .0), λ z. ap (λ (u : ℕ). u + n) (h .1 z))
@@ -124,7 +128,7 @@ module _ (cut : ℕ) (g : Engine) (r : Record) (k : Rel g r) (e : Event) (i : In
         engine = landed (g .running .version) n g;
         does = record { notAbove = rw t (z .0); same = λ b. z .1 b ∙ sym t; after = refl };
         rel = quiet n;
-        pool = subst (λ (o : State). Pool (landed (g .running .version) n g) o (plain.landed (r .whole) r)) (sym q) (pool-landed g m r pool (g .running .version) n s (r .whole) (r .place + 1) refl refl x y refl u v);
+        pool = subst (λ (o : State). Pool (landed (g .running .version) n g) o (plain.landed (r .whole) r)) (sym q) (pool-landed g m r pool (g .running .version) n s (r .whole) gone (r .place + 1) refl refl x y refl u v);
       }
 
   -- the Rust is not called
@@ -138,7 +142,7 @@ module _ (cut : ℕ) (g : Engine) (r : Record) (k : Rel g r) (e : Event) (i : In
         does = refl;
         rel = quiet (g .running .next);
         pool = subst (λ (o : State). Pool (landed (g .running .version) (g .running .next) g) o (plain.landed (r .whole) r)) (sym h)
-            (pool-landed g m r pool (g .running .version) (g .running .next) s (r .whole) (r .place + 1) refl refl x y refl
+            (pool-landed g m r pool (g .running .version) (g .running .next) s (r .whole) gone (r .place + 1) refl refl x y refl
             (subst (NotAbove (g .starts) (g .running .next .rowset)) (sym u) (pool .nextRowset)) (subst (NotAbove (g .starts) (g .running .next .dv)) (sym v) (pool .nextDv)));
       }
 
@@ -171,7 +175,7 @@ module _ (cut : ℕ) (g : Engine) (r : Record) (k : Rel g r) (e : Event) (i : In
 
   given-of : (os : List Operation) (out : List ℕ) (c : Committed) (lent : List ℕ) (x : Result State) → CommitEnds x (w .manager) os out c lent → e .told ≡ commitTold (c .answer)
       → (s : State) × (x ≡ given s) × (heldBy (c .manager) ≡ s)
-  given-of os out c lent (given s) h q = (s, refl, h .1 .state)
+  given-of os out c lent (given s) h q = (s, refl, h .1 .hands .state)
   given-of os out c lent (refused j) h q = absurd (refused-told j [] (e .told) (q ∙ h .0) a)
 
   -- the state before, as the record has it
@@ -195,10 +199,10 @@ module _ (cut : ℕ) (g : Engine) (r : Record) (k : Rel g r) (e : Event) (i : In
 
   -- other pins
   pool-pins : (v : Inner) (l : List PinEntry) → v .rowsets ≡ g .running .version .rowsets → v .dvs ≡ g .running .version .dvs → held-after ≡ m
-      → Pool (landed v (g .running .next) g) held-after (plain.landed (withPins l (r .whole)) r)
+      → Pool (landed v (g .running .next) g) held-after (plain.repinned l r)
   pool-pins v l x y q =
-      subst (λ (o : State). Pool (landed v (g .running .next) g) o (plain.landed (withPins l (r .whole)) r)) (sym q)
-      (pool-landed g m r pool v (g .running .next) m (withPins l (r .whole)) (r .place + 1) x y refl refl refl (pool .nextRowset) (pool .nextDv))
+      subst (λ (o : State). Pool (landed v (g .running .next) g) o (plain.repinned l r)) (sym q)
+      (pool-landed g m r pool v (g .running .next) m (withPins l (r .whole)) (r .former) (r .place + 1) x y refl refl refl (pool .nextRowset) (pool .nextDv))
 
   -- what a reopen that is accepted hands out holds what it shows
   reopened-holds : (out : List ℕ) (stale : Bool) → DidReopen port w (e .told) (e .listed) (e .after) out stale
@@ -214,7 +218,7 @@ module _ (cut : ℕ) (g : Engine) (r : Record) (k : Rel g r) (e : Event) (i : In
       go : (x : Result State) → openedOf (length out) (i .torn .state) ≡ x → ReopenIs x out (d .result) (d .left) → (held-after .pairs ≡ i .torn .state .pairs) × (held-after .vectors ≡ i .torn .state .vectors)
       go (refused j) q h = absurd (refused-told j [] (e .told) (d .told ∙ h .0) a)
       go (given s) q h =
-          let z : held-after ≡ s = ap heldBy after ∙ h .1 .state in
+          let z : held-after ≡ s = ap heldBy after ∙ h .1 .hands .state in
           let y = opened-lists (ltb (length out) (length (rewrittenOf (i .torn .state)))) q in
           (ap (λ (u : State). u .pairs) z ∙ y .0, ap (λ (u : State). u .vectors) z ∙ y .1)
         where
@@ -225,20 +229,20 @@ module _ (cut : ℕ) (g : Engine) (r : Record) (k : Rel g r) (e : Event) (i : In
               let q : withRewritten (i .torn .state) ≡ s = cc in
               (sym (ap (λ (u : State). u .pairs) q), sym (ap (λ (u : State). u .vectors) q))
 
-  pub step : (c : Call) → LinkBy port w (e .told) (e .listed) (e .after) c → Inv (e .after) (accepted (kindOf c) (value 0 (e .told)) r) → AnswerBy r e (kindOf c) → StepOf c
-  step drawRowset d j s =
+  pub step : (c : Call) → isReport (kindOf c) ≡ false → LinkBy port w (e .told) (e .listed) (e .after) c → Inv (e .after) (accepted (kindOf c) (value 0 (e .told)) r) → AnswerBy r e (kindOf c) → StepOf c
+  step drawRowset u d j s =
       let v = rowsetVerdict (w .manager) in
       let q = passed v (m .nextRowset ∷ []) (e .told) (d .told ∙ d .says .answer) a in
       draw-step (rowsetDrawn m) (nextId (g .running .next .rowset + 1) (g .running .next .dv)) (g .running .next .rowset) (m .nextRowset)
       (ap (λ (x : World). heldBy (x .manager)) (d .after) ∙ back v (rowsetDrawn m) (d .result .manager) q (d .says .manager)) refl refl
       (pool .nextRowset) (ap (value 0) (d .told ∙ d .says .answer ∙ ap (λ (y : Verdict). told y (m .nextRowset ∷ [])) q)) (more 1 (g .running .next .rowset) (m .nextRowset) (pool .nextRowset)) (pool .nextDv)
-  step drawVector d j s =
+  step drawVector u d j s =
       let v = vectorVerdict (w .manager) in
       let q = passed v (m .nextVector ∷ []) (e .told) (d .told ∙ d .says .answer) a in
       draw-step (vectorDrawn m) (nextId (g .running .next .rowset) (g .running .next .dv + 1)) (g .running .next .dv) (m .nextVector)
       (ap (λ (x : World). heldBy (x .manager)) (d .after) ∙ back v (vectorDrawn m) (d .result .manager) q (d .says .manager)) refl refl
       (pool .nextDv) (ap (value 0) (d .told ∙ d .says .answer ∙ ap (λ (y : Verdict). told y (m .nextVector ∷ [])) q)) (pool .nextRowset) (more 1 (g .running .next .dv) (m .nextVector) (pool .nextDv))
-  step (group h rs ls cs fs ms) d j s =
+  step (group h rs ls cs fs ms) u d j s =
       let n = length (groupedBy h) in
       let v = groupVerdict (w .manager) h rs ls cs fs ms in
       let q = passed v (n ∷ m .nextVector ∷ []) (e .told) (d .told ∙ d .says .answer) a in
@@ -252,42 +256,42 @@ module _ (cut : ℕ) (g : Engine) (r : Record) (k : Rel g r) (e : Event) (i : In
         does = record { notAbove = rw first (pool .nextDv .0); same = λ z. pool .nextDv .1 z ∙ sym first; after = refl };
         rel = quiet next;
         pool = subst (λ (o : State). Pool (landed (g .running .version) next g) o (plain.landed (r .whole) r)) (sym b)
-            (pool-landed g m r pool (g .running .version) next (vectorsDrawn n m) (r .whole) (r .place + 1) refl refl refl refl refl (pool .nextRowset)
+            (pool-landed g m r pool (g .running .version) next (vectorsDrawn n m) (r .whole) gone (r .place + 1) refl refl refl refl refl (pool .nextRowset)
             (subst (λ (x : ℕ). NotAbove (g .starts) (g .running .next .dv + x) (m .nextVector + n)) (sym count) (more n (g .running .next .dv) (m .nextVector) (pool .nextDv))));
       }
-  step (lock n) d j s = lock-step true n d
-  step (unlock n) d j s = lock-step false n d
-  step (commit os out missing) d j s =
+  step (lock n) u d j s = lock-step true n d
+  step (unlock n) u d j s = lock-step false n d
+  step (commit os out missing) u d j s =
       let same-outcome : outcomeOf (w .manager) (d .count) os (length out) ≡ commitOf m (d .count) os (length out) = rw (i .sound) in
       let says = subst (λ (y : Result State). CommitEnds y (w .manager) os out (d .result) (d .left)) same-outcome (d .says) in
       let x = given-of os out (d .result) (d .left) (commitOf m (d .count) os (length out)) says (d .told) in
       commit-step (d .count) os (length out) missing (x .0) (x .1) (ap (λ (y : World). heldBy (y .manager)) (d .after) ∙ x .2) (j .epoch)
-  step (create shape name out missing) d j s =
+  step (create shape name out missing) u d j s =
       let os = createdBy m shape name in
       let vs = m .nextTable ∷ (m .epoch + 1) ∷ length (appendOf os) ∷ [] in
       let v = createVerdict (w .manager) shape name (length out) in
       let q = passed v vs (e .told) (d .told ∙ d .says .answer) a in
       let id : value 0 (e .told) ≡ m .nextTable = ap (value 0) (d .told ∙ d .says .answer ∙ ap (λ (y : Verdict). told y vs) q) in
       subst (λ (n : ℕ). Stepped (λ h. Commits cut g h e (createOperations n shape name) missing) held-after (counts (createOperations n shape name) missing r)) (sym id)
-      (commit-step (length os) os (length out) missing (committed os m) (made-laws .create (w .manager .inner) shape name (length out) (i .sound) (d .narrow) (rw (i .sound) at q))
-      (ap (λ (y : World). heldBy (y .manager)) (d .after) ∙ back v (committed os m) (d .result .manager) q (d .says .manager)) (j .epoch))
-  step (drop n out missing) d j s =
+      (commit-step (length os) os (length out) missing (committed os m) (made-laws .create (w .manager .inner) shape name (length out) (passes w r i) (d .narrow) (rw (i .sound) at q))
+      (ap (λ (y : World). heldBy (y .manager)) (d .after) ∙ back-on v (committed os m) (length (appendOf os)) (d .result .manager) q (d .says .manager)) (j .epoch))
+  step (drop n out missing) u d j s =
       let os = droppedBy m n in
       let v = dropVerdict (w .manager) n (length out) in
       let q = passed v ((m .epoch + 1) ∷ length (appendOf os) ∷ []) (e .told) (d .told ∙ d .says .answer) a in
       made-step os (dropOperations n (r .whole .now .pairs) (r .whole .now .vectors)) out missing
       (ap (λ (z : Sets). dropOperations n (z .pairs) (z .vectors)) now-is)
-      (made-laws .drop (w .manager .inner) n (length out) (i .sound) (d .narrow) (rw (i .sound) at q))
-      (ap (λ (y : World). heldBy (y .manager)) (d .after) ∙ back v (committed os m) (d .result .manager) q (d .says .manager)) (j .epoch)
-  step (compact n new taken out missing) d j s =
+      (made-laws .drop (w .manager .inner) n (length out) (passes w r i) (d .narrow) (rw (i .sound) at q))
+      (ap (λ (y : World). heldBy (y .manager)) (d .after) ∙ back-on v (committed os m) (length (appendOf os)) (d .result .manager) q (d .says .manager)) (j .epoch)
+  step (compact n new taken out missing) u d j s =
       let os = compactedBy m n (newOf new) taken in
       let v = compactVerdict (w .manager) n (newOf new) taken (length out) in
       let q = passed v ((m .epoch + 1) ∷ length (appendOf os) ∷ []) (e .told) (d .told ∙ d .says .answer) a in
       made-step os (compactOperations n (newOf new) taken (r .whole .now .vectors)) out missing
       (ap (λ (z : Sets). compactOperations n (newOf new) taken (z .vectors)) now-is)
-      (made-laws .compact (w .manager .inner) n (newOf new) taken (length out) (i .sound) (d .narrow) (few-new new) (rw (i .sound) at q) .accepts)
-      (ap (λ (y : World). heldBy (y .manager)) (d .after) ∙ back v (committed os m) (d .result .manager) q (d .says .manager)) (j .epoch)
-  step pin d j s =
+      (made-laws .compact (w .manager .inner) n (newOf new) taken (length out) (passes w r i) (d .narrow) (few-new new) (rw (i .sound) at q) .accepts)
+      (ap (λ (y : World). heldBy (y .manager)) (d .after) ∙ back-on v (committed os m) (length (appendOf os)) (d .result .manager) q (d .says .manager)) (j .epoch)
+  step pin u d j s =
       let o = w .manager in
       let q = passed (pinVerdict o (w .book)) (o .inner .epoch ∷ []) (e .told) (d .told ∙ d .says .answer) a in
       let z = none-judged (pinRules o (w .book)) q .1 .1 .0 in
@@ -296,10 +300,10 @@ module _ (cut : ℕ) (g : Engine) (r : Record) (k : Rel g r) (e : Event) (i : In
       record {
         engine = landed (p .result .left) (g .running .next) g;
         does = record { result = p .result; runs = p .runs; answer = p .answer ∙ sym (s a); after = refl };
-        rel = subst (λ (l : List PinEntry). Rel (landed (p .result .left) (g .running .next) g) (plain.landed (withPins l (r .whole)) r)) (with-pin (epochOf (r .whole)) (r .whole .pinned)) (p .rel);
+        rel = subst (λ (l : List PinEntry). Rel (landed (p .result .left) (g .running .next) g) (plain.repinned l r)) (with-pin (epochOf (r .whole)) (r .whole .pinned)) (p .rel);
         pool = pool-pins (p .result .left) l (p .rowsets) (p .dvs) (ap (λ (y : World). heldBy (y .manager)) (d .after));
       }
-  step (unpin n) d j s =
+  step (unpin n) u d j s =
       let o = w .manager in
       let vs = flag (isDue o n (w .book)) ∷ readyOf (d .answer) ∷ [] in
       let q = passed (unpinVerdict o n (w .book)) vs (e .told) (d .told ∙ d .says .answer) a in
@@ -309,10 +313,10 @@ module _ (cut : ℕ) (g : Engine) (r : Record) (k : Rel g r) (e : Event) (i : In
       record {
         engine = landed (p .result .left) (g .running .next) g;
         does = record { result = p .result; runs = p .runs; answer = ap flag (p .answer ∙ sym (due n)) ∙ sym (ap (value 0) (d .told ∙ d .says .answer ∙ ap (λ (y : Verdict). told y vs) q)); after = refl };
-        rel = subst (λ (l : List PinEntry). Rel (landed (p .result .left) (g .running .next) g) (plain.landed (withPins l (r .whole)) r)) (without-pin n (r .whole .pinned)) (p .rel);
+        rel = subst (λ (l : List PinEntry). Rel (landed (p .result .left) (g .running .next) g) (plain.repinned l r)) (without-pin n (r .whole .pinned)) (p .rel);
         pool = pool-pins (p .result .left) (oneLess n (r .whole .pinned)) (p .rowsets) (p .dvs) (ap (λ (y : World). heldBy (y .manager)) (d .after));
       }
-  step (vacuum ts rs) d j s =
+  step (vacuum ts rs) u d j s =
       let p = pinning-of (w .manager .inner .epoch) (r .whole .pinned) (valid-pins w r i) in
       let b = boundOf m (w .book) in
       let v = vacuumVerdict (w .manager) (w .book) (length ts) (length rs) in
@@ -323,18 +327,19 @@ module _ (cut : ℕ) (g : Engine) (r : Record) (k : Rel g r) (e : Event) (i : In
         engine = landed (find-vacuum (g .running .version) .left) (g .running .next) g;
         does = record { answer = answer; after = refl };
         rel = vacuum-rel g r k p;
-        pool = pool-vacuum g m r pool b held-after (swept (r .whole)) (r .place + 1) (ascend-to byIds (m .pairs) (sound-of (w .manager .inner) (i .sound) .ordered .pairs))
+        pool = pool-vacuum g m r pool b held-after (swept (r .whole)) (r .place + 1) (ascend-to byIds (m .pairs) (sound-of (w .manager .inner) (passes w r i) .ordered .pairs))
             (ap (λ (y : World). heldBy (y .manager)) (d .after) ∙ back v (vacuumed b m) (d .result .manager) q (d .says .manager)) (answer ∙ ap (arranged itself) listed-pairs) refl;
       }
-  step (checkpoint out stale) d j s =
+  step (report n) u d j s = clash refl u
+  step (checkpoint out stale) u d j s =
       let n = d .result .manager in
       let v = checkpointVerdict (w .manager) (length out) in
       let q = passed v (length (rewrittenOf m) ∷ []) (e .told) (d .told ∙ d .says .answer) a in
       let after : e .after .manager ≡ n =
       ap (λ (x : World). x .manager) (d .after)
-      ∙ ap (λ (b : Bool). cond b (replaced n (w .book) (w .file) (take (value 0 (e .told)) (d .left)) stale) (world n (w .book) (w .file) (w .torn)) .manager) a in
+      ∙ ap (λ (b : Bool). cond b (replaced n (w .book) (w .file) (take (value 0 (e .told)) (d .left)) stale) (world n (w .book) (w .file) (w .torn) (w .last)) .manager) a in
       rest-step (withRewritten m) (ap heldBy after ∙ back v (withRewritten m) n q (d .says .manager)) refl refl refl refl
-  step (reopen out stale) d j s =
+  step (reopen out stale) u d j s =
       let x = stands.shows-now held-after (e .after .book) (e .after .file) (kept (r .torn)) (stands-of (e .after) (plain.landed (kept (r .torn)) r) j) in
       let p = starts-on g r k stale (subst Whole x (whole-of (e .after) (plain.landed (kept (r .torn)) r) j)) in
       let t = i .torn in

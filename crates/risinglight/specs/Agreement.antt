@@ -1,18 +1,19 @@
 -- Demand 2: what the port accepts the Rust does too, with the same answers, and both then show the same. Assumes nothing.
 use mathlib.Core.Path.{_≡_}
-use mathlib.Core.Bool.{true, false}
+use mathlib.Core.Bool.{Bool, true, false, not, _&&_}
 use mathlib.Core.List.{List, [], _∷_, _++_, map}
 use Prim.Native.Nat.{ℕ, _+_, _≤_}
-use Rattle.lists.specs.Keyed.{has, arranged}
+use Rattle.lists.specs.Keyed.{anyOf, has, arranged}
 use Rattle.snapshot.specs.Entries.{byIds}
 use Rattle.pins.specs.Book.{pinsOf, placeOn}
 use Rattle.pins.specs.Guards.{guardsOf, mayShow}
 use Rattle.pins.specs.Counts.{pinsAt}
 use Rattle.version_manager.specs.Managers.{heldBy}
 use Rattle.plain_record.specs.Sets.{byId, itself}
+use Rattle.plain_record.specs.Calls.{kindOf}
 use Rattle.plain_record.specs.Run.{Steps, World, Event, isAccepted, Chain}
 use Rattle.plain_record.specs.Run as run
-use Rattle.plain_record.specs.Claim.{waitingIn}
+use Rattle.plain_record.specs.Claim.{waitingIn, isReport}
 use Rattle.plain_record.specs.Shows.{ShowsTables, ShowsPairs, ShowsVectors}
 use Rattle.risinglight.specs.Maps.{Binding, unwrapOr, get}
 use Rattle.risinglight.specs.Snapshot.{Snapshot, default, hasRowset, hasDv}
@@ -69,6 +70,10 @@ Agreed S cut n w g (e ∷ es) =
     (isAccepted (e .told) ≡ true → Onward S g (cut n) e (λ h. Agreed S cut (n + 1) (e .after) h es))
     × (isAccepted (e .told) ≡ false → Agreed S cut (n + 1) (e .after) g es)
 
--- after every list of calls
+-- an accepted report: the Rust has none
+abbrev pub reports : Event → Bool
+reports e = isReport (kindOf (e .call)) && isAccepted (e .told)
+
+-- after every list of calls without one
 abbrev pub Agreement : Steps → Type 0
-Agreement S = (w : World) (es : List Event) (cut : ℕ → ℕ) → run.Starts S w → Chain S w es → Agreed S cut 0 w started es
+Agreement S = (w : World) (es : List Event) (cut : ℕ → ℕ) → run.Starts S w → Chain S w es → not (anyOf reports es) ≡ true → Agreed S cut 0 w started es

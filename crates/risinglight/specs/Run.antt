@@ -14,7 +14,7 @@ use Rattle.compaction.specs.New.{newOf}
 use Rattle.version_manager.specs.Managers.{heldBy}
 use Rattle.pinning.specs.Says.{flag}
 use Rattle.plain_record.specs.Sets.{itself}
-use Rattle.plain_record.specs.Calls.{Call, drawRowset, drawVector, group, lock, unlock, commit, create, drop, compact, pin, unpin, vacuum, checkpoint, reopen}
+use Rattle.plain_record.specs.Calls.{Call, drawRowset, drawVector, group, lock, unlock, commit, create, drop, compact, pin, unpin, vacuum, report, checkpoint, reopen}
 use Rattle.plain_record.specs.Run.{Event, value}
 use Rattle.risinglight.specs.Maps.{ok}
 use Rattle.risinglight.specs.Manifest.{Value, frame}
@@ -107,6 +107,8 @@ module _ (cut : ℕ) (g h : Engine) (e : Event) where
   DoesBy pin = Pins
   DoesBy (unpin d) = Unpins d
   DoesBy (vacuum ts rs) = Vacuums
+  -- it does none
+  DoesBy (report n) = ⊥
   DoesBy (checkpoint out stale) = Rests
   DoesBy (reopen out stale) = Starts stale
 

@@ -30,6 +30,7 @@ fn change(classes: &[u8; 256], s: &[u8]) -> Change
         ParsedLine::Line(m) => match m {
             ManifestOperation::Begin => no_change(),
             ManifestOperation::End => no_change(),
+            ManifestOperation::Torn => no_change(),
             ManifestOperation::Epoch(op) => Change { op, name },
         },
         ParsedLine::Bad => no_change(),

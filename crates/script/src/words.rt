@@ -4,6 +4,7 @@ pub enum Word {
     Fresh,
     Checkpoint,
     Reopen,
+    Report,
     Appended(Appended),
     Unwritten(Unwritten),
     Plain(Plain),
@@ -161,6 +162,9 @@ pub fn first_word(s: &[u8]) -> Word {
     }
     if crate::same(s, b"reopen") {
         return Word::Reopen;
+    }
+    if crate::same(s, b"report") {
+        return Word::Report;
     }
     appended_word(s)
 }

@@ -50,7 +50,7 @@ pub struct VersionManager {
     pub inner: VersionManagerInner,
     // The whole state before the last commit, for a report of a short write; without meaning where `append` is 0.
     pub kept: VersionManagerInner,
-    // How many bytes that commit appended. Any accepted call but a commit makes it 0: nothing is kept.
+    // How many bytes that commit appended. Any other accepted call that hands a manager back makes it 0: nothing is kept.
     pub append: usize,
 }
 

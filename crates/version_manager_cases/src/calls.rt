@@ -1,4 +1,4 @@
-// Draws, locks and pins; the other calls are in `appends` and `shows`.
+// Draws, locks, reports and pins; the other calls are in `appends` and `shows`.
 use crate::appends;
 use crate::made;
 use crate::say;
@@ -9,6 +9,7 @@ use pinning::PinAnswer;
 use pinning::UnpinAnswer;
 use pins::PinBook;
 use version_manager::Locked;
+use version_manager::ReportAnswer;
 use version_manager::RowsetAnswer;
 use version_manager::VectorAnswer;
 use version_manager::VersionManager;
@@ -38,6 +39,19 @@ fn locked(done: Locked) {
     match answer {
         Verdict::Accepted => say::say(b" done"),
         Verdict::Refused(why) => say::refusal(why),
+    }
+    say::state(done.manager);
+}
+
+fn report(manager: VersionManager, book: PinBook, landed: usize) {
+    let done = manager.report(book, landed);
+    let answer = done.answer;
+    match answer {
+        ReportAnswer::TakenBack(epoch, n) => {
+            say::number32(b" epoch ", epoch);
+            say::number(b" manifest ", n as u64);
+        }
+        ReportAnswer::Refused(why) => say::refusal(why),
     }
     say::state(done.manager);
 }
@@ -96,8 +110,18 @@ fn plain(numbers: &[u64], letter: u8, first: u32) {
     }
 }
 
+// `q` reports so many bytes of the last append.
+fn reported(numbers: &[u64], landed: u64) {
+    report(
+        made::manager(numbers),
+        made::book(numbers),
+        script::long(landed),
+    );
+}
+
 pub fn call(numbers: &[u64], letter: u8, f: [u64; 6]) {
     match letter {
+        b'q' => reported(numbers, f[0]),
         b'r' | b'w' | b'l' | b'o' | b'n' | b'm' => plain(numbers, letter, script::narrow(f[0])),
         b'u' | b'p' | b'v' | b't' | b's' => shows::call(numbers, letter, f),
         _ => appends::call(numbers, letter, f),

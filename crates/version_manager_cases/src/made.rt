@@ -22,8 +22,8 @@ use version_state::VersionManagerInner;
 ghost use Prim.Native.Nat.{_≤_};
 
 // Where the numbers stand: first the epoch, the manifest's length, the next ids and the counts of tables, rowsets, vectors and pinned
-// epochs, then those of each list's places.
-pub const ALL: usize = 55;
+// epochs, then those of each list's places, then the length of the last append. The state that is kept for it has the same from `FORMER` on.
+pub const ALL: usize = 103;
 
 const TABLES: usize = 9;
 
@@ -33,11 +33,16 @@ const VECTORS: usize = 37;
 
 const PINS: usize = 47;
 
+const APPEND: usize = 55;
+
+const FORMER: usize = 56;
+
 // Where the numbers of a line go: `e` the epoch, `m` the manifest's length, `n` the next ids, `c` how many tables, rowsets and vectors, `k`
 // how many pinned epochs. With the digit of its place `t` is a table (id, the name's first byte, its length, 1 if it is locked), `p` a
-// rowset (its ids, epochs added and deleted at), `v` a vector, and any other a pinned epoch with its count.
+// rowset (its ids, epochs added and deleted at), `v` a vector, `a` the length of the last append, and any other a pinned epoch with its
+// count. Capitals are for the state before that append.
 pub fn place(letter: u8, digit: u8) -> usize
-    ensures { λ r. ⌜ r ≤ 55 ⌝ }
+    ensures { λ r. ⌜ r ≤ 103 ⌝ }
 {
     let i = (digit % 16) as usize;
     match letter {
@@ -49,6 +54,14 @@ pub fn place(letter: u8, digit: u8) -> usize
         b't' => script::least(TABLES + 4 * i, ALL),
         b'p' => script::least(ROWSETS + 4 * i, ALL),
         b'v' => script::least(VECTORS + 5 * i, ALL),
+        b'a' => APPEND,
+        b'E' => FORMER,
+        b'M' => FORMER + 1,
+        b'N' => FORMER + 2,
+        b'C' => FORMER + 5,
+        b'T' => script::least(FORMER + TABLES + 4 * i, ALL),
+        b'P' => script::least(FORMER + ROWSETS + 4 * i, ALL),
+        b'V' => script::least(FORMER + VECTORS + 5 * i, ALL),
         _ => script::least(PINS + 2 * i, ALL),
     }
 }
@@ -147,7 +160,7 @@ fn vectors(numbers: &[u64]) -> Vectors {
     with_vector(with_vector(s, numbers, 0), numbers, 1)
 }
 
-pub fn manager(numbers: &[u64]) -> VersionManager {
+fn inner(numbers: &[u64]) -> VersionManagerInner {
     let next = NextIds {
         table: TableNo(id_at(numbers, 2)),
         rowset: RowsetNo(id_at(numbers, 3)),
@@ -156,14 +169,28 @@ pub fn manager(numbers: &[u64]) -> VersionManager {
     let tables = tables(numbers);
     let rowsets = rowsets(numbers);
     let vectors = vectors(numbers);
-    version_manager::handed(VersionManagerInner {
+    VersionManagerInner {
         epoch: id_at(numbers, 0),
         next,
         tables,
         rowsets,
         vectors,
         manifest: at(numbers, 1) as usize,
-    })
+    }
+}
+
+fn former(numbers: &[u64]) -> VersionManagerInner {
+    let from = script::least(FORMER, numbers.len());
+    inner(&numbers[from..])
+}
+
+pub fn manager(numbers: &[u64]) -> VersionManager {
+    let append = at(numbers, APPEND) as usize;
+    VersionManager {
+        inner: inner(numbers),
+        kept: former(numbers),
+        append,
+    }
 }
 
 // The first four places by their numbers; each after them has the epoch after its place, pinned once, and the last as often as it can be.

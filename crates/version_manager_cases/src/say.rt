@@ -36,8 +36,18 @@ fn lock(locked: bool) {
     }
 }
 
-// Epoch and manifest length, the next ids, how many tables, rowsets and vectors are held, the locks of the first two tables, and when the
-// first rowsets and vectors were deleted.
+// The last append, with the epoch and the manifest length before it, where that state is kept.
+fn kept(append: usize, epoch: u32, manifest: usize) {
+    if append == 0 {
+        return;
+    }
+    number(b" kept ", append as u64);
+    number32(b" epoch ", epoch);
+    number(b" manifest ", manifest as u64);
+}
+
+// Epoch and manifest length, the next ids, how many tables, rowsets and vectors are held, the locks of the first two tables, when the
+// first rowsets and vectors were deleted, and what is kept.
 pub fn state(manager: VersionManager) {
     let held = manager.inner;
     let next = held.next;
@@ -65,6 +75,7 @@ pub fn state(manager: VersionManager) {
     let vectors = vectors.deleted;
     deletions(rowsets);
     deletions(vectors);
+    kept(manager.append, manager.kept.epoch, manager.kept.manifest);
 }
 
 fn deletions(deleted: [u32; MOST_HELD]) {
