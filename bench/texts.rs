@@ -79,8 +79,9 @@ pub fn operations(count: usize, n: usize) -> Vec<String> {
 
 // ---- Manifests of about a length
 
+// A frame as an append has it.
 fn framed(s: &mut String, ops: &[String]) {
-    *s += "B\n";
+    *s += "!\nB\n";
     for o in ops {
         *s += o;
         *s += "\n";
@@ -99,11 +100,11 @@ fn turnover(live: usize) -> impl Iterator<Item = String> {
 
 // Frames of so many operations each; where a length has no room for one, one with as many as it has room for.
 pub fn commits(length: usize, each: usize) -> String {
-    let mut s = String::from("B\nT,0,7,slots\nE\n");
+    let mut s = String::from("!\nB\nT,0,7,slots\nE\n");
     let mut ops = turnover(100);
     let line = "A,0,10000\n".len();
-    let each = each.min((length - s.len() - 4) / line);
-    while s.len() + 4 + each * line <= length {
+    let each = each.min((length - s.len() - 6) / line);
+    while s.len() + 6 + each * line <= length {
         let frame: Vec<String> = ops.by_ref().take(each).collect();
         framed(&mut s, &frame);
     }
@@ -114,7 +115,7 @@ pub fn commits(length: usize, each: usize) -> String {
 
 // Each frame adds 300 below all others, descending, and deletes 300 from the front: every insertion and every deletion moves all.
 pub fn falling(length: usize) -> String {
-    let mut s = String::from("B\nT,0,7,slots\nE\n");
+    let mut s = String::from("!\nB\nT,0,7,slots\nE\n");
     let mut low = 90000;
     framed(
         &mut s,
@@ -122,7 +123,7 @@ pub fn falling(length: usize) -> String {
             .map(|i| format!("A,0,{}", low + 255 - i))
             .collect::<Vec<_>>(),
     );
-    while s.len() + 600 * 10 + 4 <= length {
+    while s.len() + 600 * 10 + 6 <= length {
         low -= 300;
         let adds = (0..300).map(|i| format!("A,0,{}", low + 299 - i));
         let deletes = (0..300).map(|i| format!("D,0,{}", low + i));
@@ -133,12 +134,12 @@ pub fn falling(length: usize) -> String {
 
 // Vectors over 256 rowsets, added in falling order and deleted in rising order.
 pub fn vectors(length: usize) -> String {
-    let mut s = String::from("B\nT,0,7,slots\n");
+    let mut s = String::from("!\nB\nT,0,7,slots\n");
     for i in 0..256 {
         s += &format!("A,0,{}\n", 1000 + i);
     }
     s += "E\n";
-    while s.len() + 512 * 15 + 4 <= length {
+    while s.len() + 512 * 15 + 6 <= length {
         let line = |l: char, i: usize| format!("{l},0,{},{}", 1000 + i, 1000 + i);
         let adds = (0..256).rev().map(|i| line('V', i));
         let deletes = (0..256).map(|i| line('W', i));
@@ -150,7 +151,7 @@ pub fn vectors(length: usize) -> String {
 // Frames that create 300 tables, in falling order, and drop them again.
 pub fn tables(length: usize) -> String {
     let mut s = String::new();
-    while s.len() + 300 * 14 + 300 * 6 + 4 <= length {
+    while s.len() + 300 * 14 + 300 * 6 + 6 <= length {
         let creates = (0..300)
             .rev()
             .map(|i| format!("T,{},0,{}", 100 + i, 100 + i));
@@ -162,5 +163,5 @@ pub fn tables(length: usize) -> String {
 
 // Lines that say nothing, as short as they may be.
 pub fn empty_frames(length: usize) -> String {
-    "B\nE\n".repeat(length / 4)
+    "!\nB\nE\n".repeat(length / 6)
 }
