@@ -34,8 +34,11 @@ pub fn next_of(line: &str) -> Option<Next> {
     (f[0] == "N").then(|| Next { table: number(&f, 1), rowset: number(&f, 2), vector: number(&f, 3) })
 }
 
-/// The original's value of a line; `N` and the `!` of an append have none.
+/// The original's value of a line; `N` and lines that end in the `!` of an append have none.
 pub fn value_of(line: &str) -> Option<ManifestOperation> {
+    if line.ends_with('!') {
+        return None;
+    }
     let f: Vec<&str> = line.split(',').collect();
     let table_id = || table_ref(number(&f, 1));
     let rowset_id = || number(&f, 2);
@@ -65,7 +68,7 @@ pub fn value_of(line: &str) -> Option<ManifestOperation> {
             rowset_id: rowset_id(),
             dv_id: dv_id(),
         }),
-        "N" | "!" => return None,
+        "N" => return None,
         _ => panic!("no line of a manifest: {line:?}"),
     })
 }
