@@ -6,6 +6,7 @@ use crate::world::Host;
 use crate::world::World;
 use answers::output::Output;
 use answers::say;
+use compaction::NewRowset;
 use ids::TableNo;
 use script::Found;
 use script::batches;
@@ -66,6 +67,24 @@ fn drop(manager: VersionManager, s: &[u8], out: &mut [u8], output: &mut Output) 
     }
 }
 
+// Of the rowsets that are lent the first so many are taken.
+fn compacted(
+    manager: VersionManager,
+    table: TableNo,
+    new: NewRowset,
+    taken: &[u32],
+    n: usize,
+    out: &mut [u8],
+    output: &mut Output,
+) -> Append {
+    let n = script::least(n, taken.len());
+    committed(
+        manager.compact(table, new, &taken[..n], out),
+        b"compacted",
+        output,
+    )
+}
+
 fn compact_lent(
     manager: VersionManager,
     s: &[u8],
@@ -74,14 +93,7 @@ fn compact_lent(
     output: &mut Output,
 ) -> Append {
     match compactions::read(s, taken) {
-        Compaction::Of(table, new, n) => {
-            let n = script::least(n, taken.len());
-            committed(
-                manager.compact(table, new, &taken[..n], out),
-                b"compacted",
-                output,
-            )
-        }
+        Compaction::Of(table, new, n) => compacted(manager, table, new, taken, n, out, output),
         Compaction::Nothing => no_call(manager, output),
     }
 }

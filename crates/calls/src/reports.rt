@@ -6,17 +6,18 @@ use pins::PinBook;
 use script::Found;
 use version_manager::VersionManager;
 
-struct Report {
+// What a report leaves.
+struct Outcome {
     manager: VersionManager,
     accepted: bool,
 }
 
-fn reported(manager: VersionManager, book: PinBook, landed: usize, output: &mut Output) -> Report {
+fn reported(manager: VersionManager, book: PinBook, landed: usize, output: &mut Output) -> Outcome {
     let done = manager.report(book, landed);
     let answer = done.answer;
     let accepted = say::reported(answer, output);
     let manager = done.manager;
-    Report { manager, accepted }
+    Outcome { manager, accepted }
 }
 
 // The file keeps the bytes that landed.
