@@ -83,7 +83,7 @@ impl Follower {
         let Some(word) = words.first() else { return Unanswered };
         match *word {
             "#!" => self.order(&words, answer),
-            "cut" | "stale" | "write" | "room" => {
+            "cut" | "stale" | "write" | "room" | "report" => {
                 self.host(&words);
                 Unanswered
             }

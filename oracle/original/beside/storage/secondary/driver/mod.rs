@@ -98,7 +98,7 @@ impl Driver {
             "draw" | "pin" | "unpin" | "vacuum" | "lock" | "unlock" => self.managed(&words).await,
             "show" | "state" | "file" => Ok(self.shown(&words)),
             "select" | "group" | "encode" | "decode" | "mask" => self.beside(&words).await,
-            "cut" | "stale" | "write" | "room" => {
+            "cut" | "stale" | "write" | "room" | "report" => {
                 self.host(line, &words);
                 Ok(String::new())
             }
