@@ -28,7 +28,7 @@ nothing-passes m b e = rw (b, e)
 pub both-pass : (m : VersionManager) → badInner (m .inner) ≡ false → badInner (lengthened (m .append) (m .kept)) ≡ false → badManager m ≡ false
 both-pass m b k = rw (b, k) (by-cases (hasFormer m) (λ e. rw e) (λ e. rw e))
 
--- a manager that hasFormer nothing, by what it was made of
+-- a manager that keeps nothing, by what it was made of
 pub manages : (n : VersionManager) (i : VersionManagerInner) (s : State) → (n .inner ≡ i) × (n .append ≡ 0) → Hands i s → Manages n s
 manages n i s e h = record { hands = rw (e .0) h; nothing = e .1 }
 
