@@ -1,4 +1,6 @@
 // Answers by text: what is printed of them, and the calls that hand nothing back.
+#![tactic(auto)]
+
 pub mod groups;
 pub mod output;
 pub mod say;

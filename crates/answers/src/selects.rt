@@ -20,7 +20,7 @@ fn selected(answer: SelectAnswer, out: &[u32], output: &mut Output) {
     }
 }
 
-#[derive(Drop)]
+#[derive(Clone, Copy)]
 enum Selection {
     // How many sizes there are; they are read into what is lent for them.
     Of(TableNo, u64, usize),

@@ -142,7 +142,7 @@ fn tables(manager: VersionManager, book: PinBook, epoch: u32, room: usize, outpu
 }
 
 // What a line shows, at which epoch.
-#[derive(Drop)]
+#[derive(Clone, Copy)]
 enum Showing {
     Tables(u32),
     Pairs(u32),

@@ -32,7 +32,7 @@ fn draw_vector(manager: VersionManager, output: &mut Output) -> VersionManager {
     drawn.manager
 }
 
-#[derive(Drop)]
+#[derive(Clone, Copy)]
 enum Drawing {
     Rowset,
     Vector,

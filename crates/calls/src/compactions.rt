@@ -7,7 +7,7 @@ use script::{Count, Found};
 // One more rowset than a compaction may take, so that too many are seen.
 pub const MOST_TAKEN: usize = MOST_OPERATIONS + 1;
 
-#[derive(Drop)]
+#[derive(Clone, Copy)]
 pub enum Compaction {
     // How many rowsets are taken; they are read into what is lent for them.
     Of(TableNo, NewRowset, usize),

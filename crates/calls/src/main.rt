@@ -1,5 +1,7 @@
 // Lists of calls as text: reads one call a line from standard input, and answers each by a line. It holds the manager, the
 // pin book and the manifest file's bytes, and hands each call what the last one left.
+#![tactic(auto)]
+
 use answers::output::Output;
 use answers::{output, say, shows};
 use script::words;

@@ -1,5 +1,7 @@
 // Columns of numbers, lent to small functions: the first `count` places of columns side by side are rows, ascending by their keys.
 // All here is internal: the caller has looked at the count.
+#![tactic(auto)]
+
 use ids::limits::MOST_HELD;
 
 pub mod triples;

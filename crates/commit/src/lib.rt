@@ -1,4 +1,6 @@
 // Commit: operations at the next epoch, and the bytes to append to the manifest.
+#![tactic(auto)]
+
 ghost use Rattle.std.specs.Prelude.{◌≡◌, Bool, true, false, List, [], ◌∷◌, ℕ, ◌≤◌, length};
 ghost use Rattle.lists.specs.Keyed.{ascending, sorted};
 ghost use Rattle.ids.specs.Limits.{most_tables, most_held, longest_manifest};

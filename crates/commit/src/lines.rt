@@ -17,7 +17,7 @@ use operations::Stepped;
 use version_state::Held;
 
 // An operation, and the place after its line.
-#[derive(Drop)]
+#[derive(Clone, Copy)]
 pub struct Found {
     pub change: Change,
     pub next: usize,

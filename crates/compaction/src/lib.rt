@@ -1,4 +1,6 @@
 // A compaction's commit: what is judged of it, and the lines that it commits.
+#![tactic(auto)]
+
 ghost use Rattle.std.specs.Prelude.{◌≡◌, false, ◌&&◌, List, [], ◌∷◌, ◌++◌, map, ℕ, ◌+◌, ◌*◌, ◌≤◌, leb, length};
 ghost use Rattle.lists.specs.Keyed.{all_of, any_of, is_at, has, ascending};
 ghost use Rattle.lists.specs.Written.{Wrote};
@@ -29,7 +31,7 @@ pub mod over;
 pub mod taken;
 
 // The rowset that the taken ones were merged to, if anything is left of them.
-#[derive(Drop)]
+#[derive(Clone, Copy)]
 pub enum NewRowset {
     None,
     One(RowsetNo),

@@ -1,4 +1,6 @@
 // Selection: which of a table's rowsets a compaction takes, by their sizes.
+#![tactic(auto)]
+
 ghost use Rattle.std.specs.Prelude.{◌≡◌, true, false, cond, ◌&&◌, [], ◌∷◌, ◌≤◌, ◌<◌, eqb, leb, length};
 ghost use Rattle.lists.specs.Keyed.{ascending};
 ghost use Rattle.ids.specs.Ids.{largest32};
@@ -18,7 +20,7 @@ use ids::refusal::Refusal;
 use snapshot::held;
 use version_state::VersionManagerInner;
 
-#[derive(Drop)]
+#[derive(Clone, Copy)]
 pub enum SelectAnswer {
     // How many rowsets are to be compacted.
     Chosen(usize),

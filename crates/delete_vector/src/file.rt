@@ -11,7 +11,7 @@ use super::record::{ROW_BITS, ROW_LIMIT};
 use ids::RowNo;
 
 // What looking through a file finds: how many records it holds, or the place of the first bad one.
-#[derive(Drop)]
+#[derive(Clone, Copy)]
 pub enum Scanned {
     Records(usize),
     Bad(usize),

@@ -1,4 +1,6 @@
 // A delete vector: what its file holds, how that is read back, and how it masks rows.
+#![tactic(auto)]
+
 ghost use Rattle.std.specs.Prelude.{◌≡◌, ◌≤◌, false, length};
 ghost use Rattle.delete_vector.specs.Records.{records_in, is_bad, rows_in};
 ghost use Rattle.delete_vector.specs.Sizes.{size_table};
@@ -17,14 +19,14 @@ pub mod memory;
 pub mod record;
 
 // What writing rows gives: the count of bytes, or the refusal.
-#[derive(Drop)]
+#[derive(Clone, Copy)]
 pub enum Written {
     Bytes(usize),
     Refused(Refusal),
 }
 
 // What reading a file gives: the count of rows, or the refusal.
-#[derive(Drop)]
+#[derive(Clone, Copy)]
 pub enum Loaded {
     Rows(usize),
     Refused(Refusal),
@@ -38,7 +40,7 @@ pub enum Held {
 }
 
 // What masking gives.
-#[derive(Drop)]
+#[derive(Clone, Copy)]
 pub enum Masked {
     Cleared,
     Refused(Refusal),

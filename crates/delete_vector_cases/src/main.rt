@@ -1,4 +1,6 @@
 // Cases of delete vectors: each prints its answer, and where it is short the whole lent buffer afterwards.
+#![tactic(auto)]
+
 ghost use Rattle.std.specs.Prelude.{◌≤◌};
 
 use delete_vector::{Held, Loaded, Masked, Written};

@@ -1,4 +1,6 @@
 // A frame of a manifest and its lines, written.
+#![tactic(auto)]
+
 ghost use Rattle.std.specs.Prelude.{◌≡◌, [], ◌∷◌, ◌++◌, ◌+◌, ◌≤◌, length};
 ghost use Rattle.lists.specs.Written.{over, Wrote};
 ghost use Rattle.manifest.specs.Operations.{operation_of};

@@ -28,7 +28,7 @@ use version_manager::{
 
 // The refusal's number, or 0 where the call was accepted; the refusal's place; and the first `count` values of an accepted call.
 #[repr(C)]
-#[derive(Drop)]
+#[derive(Clone, Copy)]
 pub struct Answer {
     pub number: u32,
     pub place: usize,

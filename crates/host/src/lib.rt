@@ -1,4 +1,6 @@
 // The border: every entry point for C and Rust. Structs of numbers go by value and slices by pointer and length; no enum crosses.
+#![tactic(auto)]
+
 ghost use Rattle.version_manager.specs.Managers.{FreshSays};
 ghost use Rattle.host.specs.Calls.{WriteTold, ReadTold, MemoryTold, MaskTold, DrawRowsetTold, DrawVectorTold, GroupTold, CommitTold, CreateTold, DropTold, CompactTold, VacuumTold, CheckpointTold, ReportTold, ShowTablesTold, ShowPairsTold, ShowVectorsTold, LockTold, UnlockTold, SelectTold, ReopenTold, PinTold, UnpinTold};
 

@@ -1,4 +1,6 @@
 // Ids, names and refusals: the types that every call's arguments and answers are made of.
+#![tactic(auto)]
+
 ghost use Rattle.std.specs.Prelude.{◌≡◌};
 ghost use Rattle.ids.specs.Ids.{is_id32, is_id64};
 
@@ -7,23 +9,23 @@ pub mod name;
 pub mod refusal;
 
 #[repr(C)]
-#[derive(Drop)]
+#[derive(Clone, Copy)]
 pub struct TableNo(pub u32);
 
 #[repr(C)]
-#[derive(Drop)]
+#[derive(Clone, Copy)]
 pub struct RowsetNo(pub u32);
 
 #[repr(C)]
-#[derive(Drop)]
+#[derive(Clone, Copy)]
 pub struct RowNo(pub u32);
 
 #[repr(C)]
-#[derive(Drop)]
+#[derive(Clone, Copy)]
 pub struct VectorNo(pub u64);
 
 // A row of a rowset.
-#[derive(Drop)]
+#[derive(Clone, Copy)]
 pub struct SecondaryRowHandler(pub RowsetNo, pub RowNo);
 
 impl TableNo {

@@ -7,7 +7,7 @@ use crate::limits::LONGEST_NAME;
 
 // A table's name: the first `len` bytes. A greater length is no name's.
 #[repr(C)]
-#[derive(Drop)]
+#[derive(Clone, Copy)]
 pub struct Name {
     pub bytes: [u8; LONGEST_NAME],
     pub len: usize,

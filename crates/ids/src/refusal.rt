@@ -4,7 +4,7 @@ ghost use Rattle.ids.specs.Refusals.{number_of, place_of};
 ghost use Rattle.ids.specs.Verdicts.{is_accepted};
 
 // The refusals of documents 01 and 02 by their numbers, each with its place where it has one.
-#[derive(Drop)]
+#[derive(Clone, Copy)]
 pub enum Refusal {
     // 1: manifest too long.
     ManifestTooLong,
@@ -147,7 +147,7 @@ impl Refusal {
 }
 
 // What judging a call's arguments finds.
-#[derive(Drop)]
+#[derive(Clone, Copy)]
 pub enum Verdict {
     Accepted,
     Refused(Refusal),

@@ -1,4 +1,6 @@
 // The manifest: its operations, one line parsed and printed, and the lines of a lent manifest.
+#![tactic(auto)]
+
 ghost use Rattle.manifest.specs.Laws.{LinesAgree};
 
 pub mod operation;

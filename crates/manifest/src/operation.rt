@@ -9,7 +9,7 @@ use ids::name::Name;
 use ids::{RowsetNo, TableNo, VectorNo};
 
 // An operation of a commit; `NextIds` stands in manifests only.
-#[derive(Drop)]
+#[derive(Clone, Copy)]
 pub enum EpochOp {
     // Its second is the shape. Its name stands beside it, in the `Change`.
     CreateTable(TableNo, u32),
@@ -22,7 +22,7 @@ pub enum EpochOp {
 }
 
 // An operation, with the name of a created table.
-#[derive(Drop)]
+#[derive(Clone, Copy)]
 pub struct Change {
     pub op: EpochOp,
     pub name: Name,
@@ -36,7 +36,7 @@ pub struct Batch {
 }
 
 // A line of a manifest.
-#[derive(Drop)]
+#[derive(Clone, Copy)]
 pub enum ManifestOperation {
     Begin,
     End,
@@ -45,14 +45,14 @@ pub enum ManifestOperation {
     Epoch(EpochOp),
 }
 
-#[derive(Drop)]
+#[derive(Clone, Copy)]
 pub enum ParsedLine {
     Line(ManifestOperation),
     Bad,
 }
 
 // What one line says, with the name of a created table.
-#[derive(Drop)]
+#[derive(Clone, Copy)]
 pub struct Parsed {
     pub line: ParsedLine,
     pub name: Name,

@@ -34,19 +34,19 @@ fn field(classes: &[u8; 256], s: &[u8], at: usize, limit: u64) -> Number
 }
 
 // One field, from the second byte to the line's end.
-#[derive(Drop)]
+#[derive(Clone, Copy)]
 pub enum One {
     Of(u32),
     Nothing,
 }
 
-#[derive(Drop)]
+#[derive(Clone, Copy)]
 pub enum Two {
     Of(u32, u32),
     Nothing,
 }
 
-#[derive(Drop)]
+#[derive(Clone, Copy)]
 pub enum Three {
     Of(u32, u32, u64),
     Nothing,

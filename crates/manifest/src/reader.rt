@@ -4,7 +4,7 @@ ghost use Rattle.text.specs.Class.{Classes};
 ghost use Rattle.manifest.specs.Split.{line_at};
 
 // The line at a place: its bytes are those from start to end, where its newline stands, and next is the place after that.
-#[derive(Drop)]
+#[derive(Clone, Copy)]
 pub enum LineAt {
     Line {
         start: usize,

@@ -1,5 +1,7 @@
 // Walks its input line by line and says what each complete line is: an operation is printed anew, with its length. Then some
 // changes that no line says are judged.
+#![tactic(auto)]
+
 ghost use Rattle.text.specs.Class.{Classes};
 
 use ids::limits::LONGEST_NAME;

@@ -1,5 +1,7 @@
 // The line reader: it holds the lent manifest and a place in it. Each function over it is thin, since a struct that holds a
 // slice is walked by hand; the work is done by `manifest::reader::line_at`. Callers go by `next_line`.
+#![tactic(auto)]
+
 ghost use Rattle.std.specs.Prelude.{◌≡◌};
 ghost use Rattle.text.specs.Class.{Classes};
 ghost use Rattle.manifest.specs.Split.{line_at};

@@ -1,4 +1,6 @@
 // One operation of a commit after another: judged on the state that the ones before it left, and applied to it, in lent columns.
+#![tactic(auto)]
+
 ghost use Rattle.std.specs.Prelude.{◌≡◌, true};
 ghost use Rattle.manifest.specs.Operations.{operation_of, well_formed};
 ghost use Rattle.version_state.specs.Columns.{columns, state_in};

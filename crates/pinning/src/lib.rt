@@ -1,5 +1,7 @@
 // Pin and unpin, lent the pin book and altering it there. The work is done by functions that take the book and hand it back by
 // value.
+#![tactic(auto)]
+
 ghost use Rattle.std.specs.Prelude.{◌≡◌, cond, not, ◌&&◌, [], ◌∷◌, leb, eqb, length, ◌≤◌};
 ghost use Rattle.lists.specs.Keyed.{keep};
 ghost use Rattle.ids.specs.Limits.{most_held};
@@ -18,7 +20,7 @@ use ids::refusal::{Refusal, Verdict};
 use pins::{MOST_PINNED, MOST_PINS, PinBook, Place, counts};
 use version_manager::VersionManager;
 
-#[derive(Drop)]
+#[derive(Clone, Copy)]
 pub enum PinAnswer {
     // The epoch that is pinned.
     Pinned(u32),
@@ -31,7 +33,7 @@ pub struct PinStep {
     pub answer: PinAnswer,
 }
 
-#[derive(Drop)]
+#[derive(Clone, Copy)]
 pub enum UnpinAnswer {
     // Whether a vacuum is due, and how many deletions it would list.
     Unpinned(bool, usize),

@@ -8,7 +8,7 @@ ghost use Rattle.pins.specs.Counts.{recounted, places_full, Placed};
 use crate::{Pin, PinBook, Place};
 
 // Where a place stands in a book or would, whether it stands there, and its pins.
-#[derive(Drop)]
+#[derive(Clone, Copy)]
 pub struct Found {
     pub at: usize,
     pub stands: bool,

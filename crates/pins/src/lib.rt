@@ -1,4 +1,6 @@
 // The pin book: what document 01's 28 judges of it, the epochs that it guards, and its counts.
+#![tactic(auto)]
+
 ghost use Rattle.std.specs.Prelude.{◌≡◌, ◌&&◌, [], ◌≤◌};
 ghost use Rattle.lists.specs.Order.{less};
 ghost use Rattle.lists.specs.Keyed.{all_of, is_at, ascending};
@@ -14,14 +16,14 @@ pub const MOST_PINNED: usize = 64;
 pub const MOST_PINS: u16 = 65535;
 
 #[repr(C)]
-#[derive(Drop)]
+#[derive(Clone, Copy)]
 pub struct Pin {
     pub epoch: u32,
     pub count: u16,
 }
 
 // The place of a book for the pins on an epoch.
-#[derive(Drop)]
+#[derive(Clone, Copy)]
 pub struct Place {
     pub epoch: u32,
 }

@@ -1,5 +1,7 @@
 // The plain record, and demand 3: after every list of calls the manager agrees with it. Only the calls in `steps` are code; the
 // functions here pin what is claimed to the check.
+#![tactic(auto)]
+
 ghost use Rattle.version_state.specs.Widths.{Narrow};
 ghost use Rattle.version_manager.specs.Managers.{held_by};
 ghost use Rattle.plain_record.specs.Run.{port, BatchCounted};

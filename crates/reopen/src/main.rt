@@ -1,4 +1,6 @@
 // Reads a manifest on standard input and writes the rewritten one, or a line `refused,number,place`.
+#![tactic(auto)]
+
 use ids::limits::LONGEST_REWRITTEN;
 use ids::refusal::Refusal;
 use libc::STDOUT_FILENO;

@@ -1,4 +1,6 @@
 // Replay: from the bytes of a manifest to the state at its end.
+#![tactic(auto)]
+
 ghost use Rattle.std.specs.Prelude.{◌≡◌};
 ghost use Rattle.replay.specs.Replay.{replay_of, ReplayIs};
 

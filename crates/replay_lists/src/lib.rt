@@ -1,5 +1,7 @@
 // Rows of two numbers each, in one lent slice: first the first numbers, then the second ones. The first `count` rows, ascending,
 // changed in place.
+#![tactic(auto)]
+
 ghost use Rattle.std.specs.Prelude.{◌≡◌, true, ◌&&◌, [], ◌∷◌, ◌+◌, ◌-◌, ◌≤◌, ◌<◌, ltb, eqb, length, take, get_or};
 ghost use Rattle.lists.specs.Order.{less};
 ghost use Rattle.lists.specs.Keyed.{has, put, without, ascending, rank};
@@ -84,7 +86,7 @@ fn remove(s: &mut [u64], count: usize, at: usize)
 }
 
 // Internal, as is all that follows: the list has room for so many rows. Where a row stands, or would stand, and whether it does.
-#[derive(Drop)]
+#[derive(Clone, Copy)]
 pub struct Found {
     pub at: usize,
     pub there: bool,

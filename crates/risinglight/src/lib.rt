@@ -1,5 +1,7 @@
 // The Rust's own behaviour as functions on values, and demand 2: the port agrees with it. Nothing here is code that runs; the
 // functions pin what is claimed to the check.
+#![tactic(auto)]
+
 ghost use Rattle.plain_record.specs.Run.{port};
 ghost use Rattle.risinglight.specs.Agreement.{Agreement};
 ghost use Rattle.risinglight.specs.Selections.{SelectionLaws};

@@ -7,7 +7,7 @@ use ids::{RowNo, RowsetNo, SecondaryRowHandler};
 use text::Number;
 use transaction::{Handles, MOST_HANDLES};
 
-#[derive(Drop)]
+#[derive(Clone, Copy)]
 enum Handle {
     Of(u32, u32),
     Nothing,

@@ -1,4 +1,6 @@
 // Words, numbers, operations, handles and runs of bytes of a line of text, read from lent slices.
+#![tactic(auto)]
+
 ghost use Rattle.std.specs.Prelude.{◌≡◌, ◌≤◌, length};
 ghost use Rattle.text.specs.Class.{Classes};
 
@@ -11,14 +13,14 @@ pub mod handles;
 pub mod words;
 
 // A number, or nothing where the word is none.
-#[derive(Drop)]
+#[derive(Clone, Copy)]
 pub enum Found {
     Of(u64),
     Nothing,
 }
 
 // How many were read, or nothing where a word or a byte does not belong there.
-#[derive(Drop)]
+#[derive(Clone, Copy)]
 pub enum Count {
     Of(usize),
     Nothing,

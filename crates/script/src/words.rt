@@ -1,6 +1,6 @@
 // The first word of a line.
 
-#[derive(Drop)]
+#[derive(Clone, Copy)]
 pub enum Word {
     Fresh,
     Checkpoint,
@@ -12,7 +12,7 @@ pub enum Word {
 }
 
 // Calls that hand a manager back and append to the file.
-#[derive(Drop)]
+#[derive(Clone, Copy)]
 pub enum Appended {
     Commit,
     Create,
@@ -21,7 +21,7 @@ pub enum Appended {
 }
 
 // Calls that write nothing to the file.
-#[derive(Drop)]
+#[derive(Clone, Copy)]
 pub enum Unwritten {
     Managed(Managed),
     Booked(Booked),
@@ -29,7 +29,7 @@ pub enum Unwritten {
 }
 
 // Calls that hand a manager back and touch nothing else.
-#[derive(Drop)]
+#[derive(Clone, Copy)]
 pub enum Managed {
     Draw,
     Vacuum,
@@ -54,7 +54,7 @@ pub enum Told {
 }
 
 // Words of lines that have no part in the manager.
-#[derive(Drop)]
+#[derive(Clone, Copy)]
 pub enum Plain {
     Room,
     Cut,
@@ -66,7 +66,7 @@ pub enum Plain {
 }
 
 // Those that are answered and change nothing.
-#[derive(Drop)]
+#[derive(Clone, Copy)]
 pub enum Answered {
     File,
     Encode,

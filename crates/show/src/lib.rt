@@ -1,4 +1,6 @@
 // Show: the tables of the current epoch, and the pairs and vectors of the current or a pinned one, into lent slices.
+#![tactic(auto)]
+
 ghost use Rattle.std.specs.Prelude.{◌≡◌, false, ℕ, ◌+◌, ◌*◌, ◌≤◌, ◌<◌, length, take, drop};
 ghost use Rattle.lists.specs.Written.{written, over};
 ghost use Rattle.ids.specs.Limits.{most_tables};
@@ -15,7 +17,7 @@ use pins::PinBook;
 use snapshot::held;
 use version_state::VersionManagerInner;
 
-#[derive(Drop)]
+#[derive(Clone, Copy)]
 pub enum ShowAnswer {
     // How many are shown.
     Shown(usize),

@@ -1,4 +1,6 @@
 // What an epoch shows, and what waits for a vacuum: live tables, held rowsets and held delete vectors, in columns of numbers.
+#![tactic(auto)]
+
 ghost use Rattle.std.specs.Prelude.{◌≡◌};
 ghost use Rattle.snapshot.specs.Entries.{gone_at, shown_at};
 

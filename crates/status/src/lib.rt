@@ -1,12 +1,14 @@
 // How a program ended, for `./run`, and input and output that may fail. A program of this language has no exit status: one digit on
 // descriptor 3, where that is open, stands for it.
+#![tactic(auto)]
+
 ghost use Rattle.std.specs.Prelude.{◌≤◌, length};
 
 use libc::{STDERR_FILENO, STDIN_FILENO};
 
 const STATUS: i32 = 3;
 
-#[derive(Drop)]
+#[derive(Clone, Copy)]
 pub enum Status {
     Done,
     Refused,
@@ -38,7 +40,7 @@ pub fn unwritable() -> Status {
 }
 
 // How many bytes were read, and whether a read failed.
-#[derive(Drop)]
+#[derive(Clone, Copy)]
 pub struct Input {
     pub length: usize,
     pub failed: bool,

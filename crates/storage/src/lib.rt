@@ -1,4 +1,6 @@
 // Reopen: a manifest is replayed, and what it holds is handed out with a manifest written anew.
+#![tactic(auto)]
+
 ghost use Rattle.std.specs.Prelude.{◌≡◌, [], length};
 ghost use Rattle.ids.specs.Answers.{told};
 ghost use Rattle.version_state.specs.State.{start, state_of, Fit};
@@ -11,7 +13,7 @@ use pins::PinBook;
 use version_manager::VersionManager;
 use version_state::VersionManagerInner;
 
-#[derive(Drop)]
+#[derive(Clone, Copy)]
 pub enum ReopenAnswer {
     // How many bytes the rewritten manifest has.
     Rewritten(usize),

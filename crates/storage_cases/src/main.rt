@@ -3,6 +3,8 @@
 // N times. Printed are the label and the rewritten manifest on one line, or `refused,number,place`.
 // `%label` begins a torn append: the lines up to `%` are what stood before it, those after it the append. Reopened are what
 // stood and, byte by byte, every first part of the append on top of that, the whole one last.
+#![tactic(auto)]
+
 ghost use Rattle.std.specs.Prelude.{◌≤◌};
 
 use ids::limits::LONGEST_REWRITTEN;

@@ -1,4 +1,6 @@
 // Commits that a call makes itself from what is shown now: create and drop of tables, and a compaction.
+#![tactic(auto)]
+
 ghost use Rattle.std.specs.Prelude.{◌≡◌, false, [], ◌∷◌, ◌≤◌, length};
 ghost use Rattle.lists.specs.Written.{Wrote};
 ghost use Rattle.ids.specs.Limits.{longest_line};

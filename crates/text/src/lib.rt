@@ -1,4 +1,6 @@
 // Bytes by their class, names, and decimal numbers: read from a place of a slice and written to one.
+#![tactic(auto)]
+
 ghost use Rattle.std.specs.Prelude.{◌≡◌, ◌+◌, ◌≤◌, ◌<◌, [], ◌∷◌, length};
 ghost use Rattle.lists.specs.Written.{Wrote};
 ghost use Rattle.ids.specs.Names.{name_of};
@@ -111,7 +113,7 @@ pub fn valid_name(classes: &[u8; 256], n: Name) -> bool
 }
 
 // A number and the place after it, or nothing.
-#[derive(Drop)]
+#[derive(Clone, Copy)]
 pub enum Number {
     At(u64, usize),
     Nothing,

@@ -1,5 +1,7 @@
 // For each line of its input: the class of its first byte, the line as a number of up to 64 bits and as an id of 32 bits, each
 // written anew with its length, and whether it is a name.
+#![tactic(auto)]
+
 ghost use Rattle.std.specs.Prelude.{◌≤◌};
 ghost use Rattle.text.specs.Class.{Classes};
 

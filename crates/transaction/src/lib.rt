@@ -1,4 +1,6 @@
 // Grouping: the row handles of a transaction become one delete vector a rowset.
+#![tactic(auto)]
+
 ghost use Rattle.std.specs.Prelude.{◌≡◌, true, ◌≤◌, min, length};
 ghost use Rattle.lists.specs.Keyed.{all_of};
 ghost use Rattle.ids.specs.Ids.{is_id32};

@@ -21,7 +21,7 @@ pub struct Made {
 }
 
 // All vectors: how many rows they have, and how many in memory.
-#[derive(Drop)]
+#[derive(Clone, Copy)]
 pub struct Arranged {
     pub rows: usize,
     pub kept: usize,

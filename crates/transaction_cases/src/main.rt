@@ -1,5 +1,7 @@
 // Cases of grouping: each prints its answer, the next vector id, and the lent slices afterwards, whole where they are short and
 // else as one number each.
+#![tactic(auto)]
+
 ghost use Rattle.std.specs.Prelude.{◌≤◌};
 
 use ids::limits::{LARGEST_32, LARGEST_64};
@@ -84,7 +86,7 @@ fn bytes(word: &[u8], s: &[u8]) {
 }
 
 // How many places are lent of each slice.
-#[derive(Drop)]
+#[derive(Clone, Copy)]
 struct Room {
     vectors: usize,
     lengths: usize,

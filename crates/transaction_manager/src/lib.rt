@@ -1,4 +1,6 @@
 // One lock a table, for deletion or compaction: taken and given back.
+#![tactic(auto)]
+
 ghost use Rattle.std.specs.Prelude.{◌≡◌, false, cond, ◌&&◌, [], ◌∷◌, ◌≤◌, length};
 ghost use Rattle.lists.specs.Order.{same};
 ghost use Rattle.lists.specs.Keyed.{any_of, has};

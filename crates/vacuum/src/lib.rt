@@ -1,4 +1,6 @@
 // Vacuum: deletions that no pin keeps are listed and let go.
+#![tactic(auto)]
+
 ghost use Rattle.std.specs.Prelude.{◌≡◌, true, false, [], ◌∷◌, ◌≤◌, length};
 ghost use Rattle.lists.specs.Keyed.{keep, ascending, rank};
 ghost use Rattle.ids.specs.Limits.{most_held};

@@ -1,4 +1,6 @@
 // The version manager: every public method. 29 is judged here; what works below is given a state that passed.
+#![tactic(auto)]
+
 ghost use Rattle.std.specs.Prelude.{◌≡◌, length};
 ghost use Rattle.ids.specs.Limits.{longest_line};
 ghost use Rattle.ids.specs.Names.{name_of};
@@ -55,7 +57,7 @@ pub struct Opened {
     pub book: PinBook,
 }
 
-#[derive(Drop)]
+#[derive(Clone, Copy)]
 pub enum RowsetAnswer {
     Id(RowsetNo),
     Refused(Refusal),
@@ -67,7 +69,7 @@ pub struct DrawnRowset {
     pub answer: RowsetAnswer,
 }
 
-#[derive(Drop)]
+#[derive(Clone, Copy)]
 pub enum VectorAnswer {
     Id(VectorNo),
     Refused(Refusal),
@@ -79,7 +81,7 @@ pub struct DrawnVector {
     pub answer: VectorAnswer,
 }
 
-#[derive(Drop)]
+#[derive(Clone, Copy)]
 pub enum GroupAnswer {
     // How many vectors there are, and the first one's id; the others' ids follow it.
     Vectors(usize, VectorNo),
@@ -92,7 +94,7 @@ pub struct Grouped {
     pub answer: GroupAnswer,
 }
 
-#[derive(Drop)]
+#[derive(Clone, Copy)]
 pub enum CommitAnswer {
     // The new epoch, and how many bytes there are to append.
     Appended(u32, usize),
@@ -105,7 +107,7 @@ pub struct Committed {
     pub answer: CommitAnswer,
 }
 
-#[derive(Drop)]
+#[derive(Clone, Copy)]
 pub enum CreateAnswer {
     // The new table's id, the new epoch, and how many bytes there are to append.
     Table(TableNo, u32, usize),
@@ -118,7 +120,7 @@ pub struct Created {
     pub answer: CreateAnswer,
 }
 
-#[derive(Drop)]
+#[derive(Clone, Copy)]
 pub enum VacuumAnswer {
     // How many deletions are listed.
     Listed(usize),
@@ -131,7 +133,7 @@ pub struct Vacuumed {
     pub answer: VacuumAnswer,
 }
 
-#[derive(Drop)]
+#[derive(Clone, Copy)]
 pub enum CheckpointAnswer {
     // How many bytes the rewritten manifest has.
     Rewritten(usize),
@@ -144,7 +146,7 @@ pub struct Checkpointed {
     pub answer: CheckpointAnswer,
 }
 
-#[derive(Drop)]
+#[derive(Clone, Copy)]
 pub enum ReportAnswer {
     // The epoch that is current again, and the manifest's length.
     TakenBack(u32, usize),

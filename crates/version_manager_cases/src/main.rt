@@ -2,6 +2,8 @@
 // blank before each. `!` and a letter is a call: it prints the answer, the manager that is handed back and all that was lent, and leaves
 // the numbers that managers and books are made of. Any other word sets numbers, an empty line keeps them as those that each title
 // starts from, and a title, which begins with `#`, is printed.
+#![tactic(auto)]
+
 use libc::STDIN_FILENO;
 use made::ALL;
 
@@ -12,7 +14,7 @@ mod say;
 mod shows;
 
 // What the next call is made of, and what each title starts from.
-#[derive(Drop)]
+#[derive(Clone, Copy)]
 struct Numbers {
     now: [u64; ALL],
     first: [u64; ALL],

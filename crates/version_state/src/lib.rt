@@ -1,4 +1,6 @@
 // What a version manager holds, and what document 01's 29 judges of it.
+#![tactic(auto)]
+
 use ids::limits::{LONGEST_MANIFEST, MOST_HELD, MOST_TABLES, NAME_BYTES};
 use ids::{RowsetNo, TableNo, VectorNo};
 use snapshot::rowsets::Rowsets;
@@ -16,7 +18,7 @@ ghost use Rattle.version_state.specs.Sound.{bad_inner};
 
 // The next id of each kind.
 #[repr(C)]
-#[derive(Drop)]
+#[derive(Clone, Copy)]
 pub struct NextIds {
     pub table: TableNo,
     pub rowset: RowsetNo,

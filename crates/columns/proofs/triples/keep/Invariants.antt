@@ -1,0 +1,14 @@
+-- `columns::triples::keep` meets its contract.
+use Prim.Native.Nat.{◌-◌}
+use native.Mathlib.Omega.{arith}
+use Rattle.ids.specs.Limits.{most_held}
+use Rattle.lists.proofs.Places.{known}
+use Rattle.columns.specs.Rows.{marks}
+use Rattle.columns.proofs.Rows.{Moving, move_start, move-take, move-pass, move-done}
+use Rattle.columns.proofs.triples.keep.Given as goal
+
+abbrev pub invariant-loop-i : goal.invariant-loop-i
+invariant-loop-i l = Moving most_held (marks l.kept) l.count l.i l.initial.s l.k l.s
+
+abbrev pub decreases-loop-i : goal.decreases-loop-i
+decreases-loop-i l = l.count - l.i

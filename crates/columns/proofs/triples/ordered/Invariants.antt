@@ -1,0 +1,16 @@
+-- `columns::triples::ordered` meets its contract.
+use mathlib.Core.Path.{sym, ◌∙◌}
+use mathlib.Core.List.{[], ◌∷◌}
+use Prim.Native.Nat.{◌-◌, ◌≤◌}
+use borrow.Author.Tests.{not-true, not-false}
+use Rattle.ids.specs.Limits.{most_held}
+use Rattle.lists.proofs.Places.{known}
+use Rattle.columns.specs.Rows.{across}
+use Rattle.columns.proofs.Rows.{Rising, rise-start, rise-stop, rise-more, rise-done}
+use Rattle.columns.proofs.triples.ordered.Given as goal
+
+abbrev pub invariant-loop-i : goal.invariant-loop-i
+invariant-loop-i l = (l.count ≤ most_held) × Rising (across (l.a ∷ l.b ∷ l.c ∷ [])) l.count l.i
+
+abbrev pub decreases-loop-i : goal.decreases-loop-i
+decreases-loop-i l = l.count - l.i

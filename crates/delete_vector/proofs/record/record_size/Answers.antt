@@ -1,0 +1,22 @@
+-- `delete_vector::record::record_size` meets its contract.
+use Rattle.std.proofs.Common.{◌-◌, get_or, sym, ap, ◌∙◌, arith, rules}
+use Rattle.delete_vector.proofs.Sizes.{size-rule, record-size, record-short, row-of-bits}
+use Rattle.delete_vector.proofs.record.record_size.Goals as goal
+
+pub significant_bits-requires : goal.significant_bits-requires
+significant_bits-requires c = search rules
+
+pub offset_bounds-sizes-significant_bits : goal.offset_bounds-sizes-significant_bits
+offset_bounds-sizes-significant_bits c = search rules
+
+pub bounds-sizes-significant_bits : goal.bounds-sizes-significant_bits
+bounds-sizes-significant_bits c = search rules
+
+pub returns : goal.returns
+returns c =
+    let row = c.args.row.0 in
+    let b = c.significant_bits.ensures in
+    let h = row-of-bits row _ b.0 b.1 in
+    let e = ap (λ l. get_or l c.significant_bits.result 0) c.requires ∙ size-rule _ b.0 ∙ sym (record-size row _ h b.1) in
+    let l = record-short row h in
+    record { exact = e; in_range = h; least = omega arith; most = omega arith }

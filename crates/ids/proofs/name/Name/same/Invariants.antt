@@ -1,0 +1,16 @@
+-- `ids::name::Name::same` meets its contract.
+use mathlib.Core.Path.{◌≡◌, refl}
+use Prim.Native.Nat.{◌-◌, ◌≤◌}
+use native.Mathlib.Omega.{arith}
+use lib.ListN.{length, drop}
+use Rattle.lists.specs.Order.{same}
+use Rattle.lists.proofs.Places.{known}
+use Rattle.ids.specs.Names.{longest_name, name_of}
+use Rattle.ids.proofs.Names.{name-room, same_more, same-differ, same-short, same-both, same-long}
+use Rattle.ids.proofs.name.Name.same.Given as goal
+
+abbrev pub invariant-loop-i : goal.invariant-loop-i
+invariant-loop-i l = (l.i ≤ l.n) × (l.n ≡ length (name_of l.self)) × (l.m ≡ length (name_of l.other)) × (l.n ≤ longest_name) × (l.m ≤ longest_name) × (same (name_of l.self) (name_of l.other) ≡ same (drop l.i (name_of l.self)) (drop l.i (name_of l.other)))
+
+abbrev pub decreases-loop-i : goal.decreases-loop-i
+decreases-loop-i l = l.n - l.i

@@ -1,0 +1,58 @@
+-- `replay_lists::without_first` meets its contract.
+use mathlib.Core.Path.{sym, ◌∙◌}
+use Prim.Native.Nat.{◌≤◌, ◌<◌}
+use native.Mathlib.Omega.{arith}
+use lib.ListN.{length}
+use Rattle.replay_lists.specs.Rows.{firsts, seconds}
+use Rattle.replay_lists.proofs.Rows.{firsts-length, seconds-length, first_out, first-stays, there-below}
+use borrow.Author.Rules.{rules}
+use Rattle.replay_lists.proofs.without_first.Goals as goal
+
+pub find_first-found-requires : goal.find_first-found-requires
+find_first-found-requires c = search rules
+
+pub remove_row-requires : goal.remove_row-requires
+remove_row-requires c =
+    let s = c in
+    let b = there-below _ _ _ _ c.find_first-found.ensures.there c.if-found.true in
+    (c.requires.0, b, c.requires.1)
+
+pub overflow_sub-result : goal.overflow_sub-result
+overflow_sub-result c =
+    let b : c.find_first-found.result.at < c.args.count = there-below _ _ _ _ c.find_first-found.ensures.there c.if-found.true in omega arith
+
+pub shape_of-list-then-found : goal.shape_of-list-then-found
+shape_of-list-then-found c = search rules
+
+pub returns-then-found : goal.returns-then-found
+returns-then-found c =
+    let s = c in
+    let l = c.args.list.now in
+    let r = c.args.room in
+    let n = c.args.count in
+    let w = c.requires.1 in
+    let fd = c.find_first-found.ensures in
+    let at = c.find_first-found.result.at in
+    let la = firsts-length r l c.requires.0 in
+    let lb = seconds-length r l c.requires.0 in
+    let p : n ≤ length (firsts r l) = omega arith in
+    let q : n ≤ length (seconds r l) = omega arith in
+    (first_out (firsts r l) (seconds r l) n at c.args.x 0 p q fd.place c.requires.2 _ (sym fd.there ∙ c.if-found.true) c.remove_row.ensures, omega arith)
+
+pub shape_of-list : goal.shape_of-list
+shape_of-list c = search rules
+
+pub returns : goal.returns
+returns c =
+    let s = c in
+    let l = c.args.list.now in
+    let r = c.args.room in
+    let n = c.args.count in
+    let w = c.requires.1 in
+    let fd = c.find_first-found.ensures in
+    let at = c.find_first-found.result.at in
+    let la = firsts-length r l c.requires.0 in
+    let lb = seconds-length r l c.requires.0 in
+    let p : n ≤ length (firsts r l) = omega arith in
+    let q : n ≤ length (seconds r l) = omega arith in
+    (first-stays (firsts r l) (seconds r l) n at c.args.x 0 p q fd.place c.requires.2 (sym fd.there ∙ c.if-found.false), omega arith)
