@@ -15,6 +15,15 @@ enum_known-place c = search rules
 pub enum_known-count : goal.enum_known-count
 enum_known-count c = search rules
 
+pub read_good-requires : goal.read_good-requires
+unfolding size_table
+read_good-requires c =
+    let w = scanned-whole (records_in c.args.bytes.now) _ (sym c.in-Records.is ∙ c.scan.ensures) in
+    (w.0, w.1, refl)
+
+pub returns-in-Bad : goal.returns-in-Bad
+returns-in-Bad c = let b = scanned-bad (records_in c.args.bytes.now) _ (sym c.in-Bad.is ∙ c.scan.ensures) in read-bad _ _ _ b.0 b.1
+
 pub shape_of-rows : goal.shape_of-rows
 shape_of-rows c = search rules
 

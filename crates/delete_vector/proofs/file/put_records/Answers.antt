@@ -26,6 +26,16 @@ overflow_add-i c = search rules
 pub loop-i-smaller : goal.loop-i-smaller
 loop-i-smaller c = search rules
 
+pub loop-i-preserved : goal.loop-i-preserved
+loop-i-preserved c =
+    let rows = c.args.rows.now in
+    let i = c.loop-i.i in
+    let v = c.loop-i.invariant in
+    let n = rows-length rows i c.loop-i-test.true in
+    let w = c.put_record-next.ensures in
+    let m = w.next in
+    (omega arith, rows_written _ _ rows i _ _ c.loop-i-test.true (omega arith) w ∙ v.1, omega arith, c.put_record-next.auto.out ∙ v.3)
+
 pub shape_of-out : goal.shape_of-out
 shape_of-out c = search rules
 

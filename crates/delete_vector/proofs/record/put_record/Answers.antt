@@ -42,6 +42,9 @@ put_varint-requires c =
     let z = c.record_size-size.ensures in
     simp length-set (omega (arith, tail-length _ z.in_range c.if-row-eq0.false))
 
+pub shape_of-out : goal.shape_of-out
+shape_of-out c = c.put_varint.auto.out ∙ simp length-set
+
 pub returns : goal.returns
 returns c =
     let z = c.record_size-size.ensures in

@@ -1,0 +1,15 @@
+-- `snapshot::held::shown_places` meets its contract.
+use mathlib.Core.Path.{sym, ◌∙◌}
+use Prim.Native.Nat.{◌-◌, ◌≤◌}
+use Rattle.ids.specs.Limits.{most_held}
+use Rattle.lists.proofs.Places.{known}
+use Rattle.columns.specs.Rows.{column}
+use Rattle.snapshot.specs.Entries.{shown_at}
+use Rattle.snapshot.proofs.Picked.{Picking, pick-start, pick-take, pick-pass, pick-done}
+use Rattle.snapshot.proofs.held.shown_places.Given as goal
+
+abbrev pub invariant-loop-i : goal.invariant-loop-i
+invariant-loop-i l = (l.count ≤ most_held) × Picking most_held (λ j. shown_at l.epoch (column l.added j) (column l.deleted j)) l.count l.i l.k l.places
+
+abbrev pub decreases-loop-i : goal.decreases-loop-i
+decreases-loop-i l = l.count - l.i

@@ -1,0 +1,36 @@
+-- `snapshot::tables::holds` meets its contract.
+use mathlib.Core.List.{[], ◌∷◌}
+use Prim.Native.Nat.{◌-◌, ◌≤◌}
+use borrow.Author.Tests.{eq-eqb, ne_eqb}
+use Rattle.ids.specs.Limits.{most_tables}
+use Rattle.lists.specs.Order.{same}
+use Rattle.columns.specs.Rows.{across}
+use Rattle.snapshot.proofs.TableRows.{Seeking, seek-start, seek_found, seek-more, seek-done}
+use Rattle.lists.proofs.Places.{known}
+use Rattle.snapshot.proofs.tables.holds.Goals as goal
+
+pub loop-i-init : goal.loop-i-init
+loop-i-init c = (c.requires, seek-start _ _ _)
+
+pub offset_bounds-ids-i : goal.offset_bounds-ids-i
+offset_bounds-ids-i c = search known
+
+pub bounds-ids-i : goal.bounds-ids-i
+bounds-ids-i c = search known
+
+pub returns-then-ids-i : goal.returns-then-ids-i
+returns-then-ids-i c = seek_found _ _ _ _ c.loop-i.invariant.1 c.loop-i-test.true (rw (eq-eqb _ _ c.if-ids-i.true))
+
+pub overflow_add-i : goal.overflow_add-i
+overflow_add-i c = search known
+
+pub loop-i-smaller : goal.loop-i-smaller
+loop-i-smaller c = search known
+
+pub loop-i-preserved : goal.loop-i-preserved
+loop-i-preserved c =
+    let inv = c.loop-i.invariant in
+    (c.loop-i.invariant.0, seek-more _ _ _ _ c.loop-i.invariant.1 c.loop-i-test.true (rw (ne_eqb _ _ c.if-ids-i.false)))
+
+pub returns : goal.returns
+returns c = seek-done _ _ _ _ c.loop-i.invariant.1 c.loop-i-test.false

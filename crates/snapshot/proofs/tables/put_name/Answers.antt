@@ -1,0 +1,40 @@
+-- `snapshot::tables::put_name` meets its contract.
+use Prim.Native.Nat.{◌*◌, ◌-◌, ◌≤◌, ◌<◌}
+use mathlib.Core.Path.{◌≡◌}
+use native.Mathlib.Omega.{arith}
+use lib.ListN.{length}
+use Rattle.ids.specs.Limits.{most_tables}
+use Rattle.ids.specs.Names.{longest_name}
+use Rattle.snapshot.specs.Tables.{name_bytes}
+use Rattle.snapshot.proofs.TableRows.{Copying, copy_start, copy_more, copy_done}
+use Rattle.lists.proofs.Places.{known}
+use Rattle.snapshot.proofs.tables.put_name.Goals as goal
+
+pub overflow_mul-from : goal.overflow_mul-from
+overflow_mul-from c = search known
+
+pub loop-i-init : goal.loop-i-init
+loop-i-init c = let p = c.requires in (c.requires.0, c.requires.1, c.requires.2, c.requires.3, copy_start _ _ _ _ (omega arith) (omega arith))
+
+pub bounds-bytes-i : goal.bounds-bytes-i
+bounds-bytes-i c = search known
+
+pub overflow_add-names : goal.overflow_add-names
+overflow_add-names c = search known
+
+pub bounds-names-from : goal.bounds-names-from
+bounds-names-from c = search known
+
+pub overflow_add-i : goal.overflow_add-i
+overflow_add-i c = search known
+
+pub loop-i-smaller : goal.loop-i-smaller
+loop-i-smaller c = search known
+
+pub loop-i-preserved : goal.loop-i-preserved
+loop-i-preserved c =
+    let inv = c.loop-i.invariant in
+    (c.loop-i.invariant.0, c.loop-i.invariant.1, c.loop-i.invariant.2, c.loop-i.invariant.3, copy_more _ _ _ _ _ _ c.loop-i.invariant.4 c.loop-i-test.true)
+
+pub returns : goal.returns
+returns c = copy_done _ _ _ _ _ _ c.loop-i-test.false c.loop-i.invariant.4
