@@ -30,7 +30,7 @@ pub struct Place {
 
 // Pinned epochs with their counts, ascending.
 #[repr(C)]
-#[derive(Drop)]
+#[derive(Clone, Copy)]
 pub struct PinBook {
     pub items: [Pin; MOST_PINNED],
     pub count: usize,

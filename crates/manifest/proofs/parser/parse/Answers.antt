@@ -99,4 +99,4 @@ returns-in-78 c = rw (← c.is_mark.ensures, c.if-is_mark.false, c.in-78.is) c.n
 
 pub returns-in_default : goal.returns-in_default
 unfolding line_of line_by
-returns-in_default c = let h = c.in_default in ?
+returns-in_default c = rw (← c.is_mark.ensures, c.if-is_mark.false, ne_eqb _ 66 c.in_default.in_default-own.rest.0.0.0.0.0.0.0.0.1, ne_eqb _ 69 c.in_default.in_default-own.rest.0.0.0.0.0.0.0.1, ne_eqb _ 84 c.in_default.in_default-own.rest.0.0.0.0.0.0.1, ne_eqb _ 88 c.in_default.in_default-own.rest.0.0.0.0.0.1, ne_eqb _ 65 c.in_default.in_default-own.rest.0.0.0.0.1, ne_eqb _ 68 c.in_default.in_default-own.rest.0.0.0.1, ne_eqb _ 86 c.in_default.in_default-own.rest.0.0.1, ne_eqb _ 87 c.in_default.in_default-own.rest.0.1, ne_eqb _ 78 c.in_default.in_default-own.rest.1) c.refused-in_default.ensures
