@@ -39,14 +39,14 @@ pub enum Managed {
 }
 
 // Calls that alter the pin book alone.
-#[derive(Drop)]
+#[derive(Clone, Copy)]
 pub enum Booked {
     Pin,
     Unpin,
 }
 
 // Calls that change nothing.
-#[derive(Drop)]
+#[derive(Clone, Copy)]
 pub enum Told {
     Show,
     Select,
