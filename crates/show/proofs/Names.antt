@@ -148,8 +148,8 @@ module _ (m : Tables) (named : all_of (λ t. is_name t.name) (tables_of m) ≡ t
   abbrev at : ℕ → TableEntry
   at = table_at m.ids m.shapes m.lengths m.names m.locked
 
-  is_name : (i : ℕ) → i < m.count → is_name (name_at m.lengths m.names i) ≡ true
-  is_name i h =
+  is-name : (i : ℕ) → i < m.count → is_name (name_at m.lengths m.names i) ≡ true
+  is-name i h =
       let z = rows-length at m.count in
       let x = rows_at at m.count i (at 0) h in
       let t = all-at (λ (t : TableEntry). is_name t.name) (tables_of m) i (at 0) named (omega arith) in
@@ -159,13 +159,13 @@ module _ (m : Tables) (named : all_of (λ t. is_name t.name) (tables_of m) ≡ t
   name-fits i h =
       by_cases (leb (column m.lengths i) longest_name)
       (λ e. leb-true (column m.lengths i) longest_name e)
-      (λ e. absurd (nameless (name_at m.lengths m.names i) (is_name i h) (rw e)))
+      (λ e. absurd (nameless (name_at m.lengths m.names i) (is-name i h) (rw e)))
 
   name-bytes : (i : ℕ) → i < m.count → name_at m.lengths m.names i ≡ take (column m.lengths i) (drop (longest_name * i) m.names)
   name-bytes i h =
       by_cases (leb (column m.lengths i) longest_name)
       (λ e. rw e)
-      (λ e. absurd (nameless (name_at m.lengths m.names i) (is_name i h) (rw e)))
+      (λ e. absurd (nameless (name_at m.lengths m.names i) (is-name i h) (rw e)))
 
   pub table-ids : rows (column m.ids) m.count ≡ map (λ (t : TableEntry). t.table) (tables_of m)
   table-ids = sym (rows-map at (λ (t : TableEntry). t.table) m.count)

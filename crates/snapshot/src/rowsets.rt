@@ -6,7 +6,7 @@ use ids::limits::MOST_HELD;
 
 // Held rowsets: the first `count` places of each column, ascending by table and rowset. `deleted` is 0 while shown.
 #[repr(C)]
-#[derive(Drop)]
+#[derive(Clone, Copy)]
 pub struct Rowsets {
     pub tables: [u32; MOST_HELD],
     pub rowsets: [u32; MOST_HELD],

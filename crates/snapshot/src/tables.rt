@@ -15,7 +15,7 @@ use ids::name::Name;
 
 // Live tables: the first `count` places of each column, ascending by id. A name has room for the longest one in `names`.
 #[repr(C)]
-#[derive(Drop)]
+#[derive(Clone, Copy)]
 pub struct Tables {
     pub ids: [u32; MOST_TABLES],
     pub shapes: [u32; MOST_TABLES],

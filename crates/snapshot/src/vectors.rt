@@ -6,7 +6,7 @@ use ids::limits::MOST_HELD;
 
 // Held delete vectors: the first `count` places of each column, ascending by table, rowset and vector. `deleted` is 0 while shown.
 #[repr(C)]
-#[derive(Drop)]
+#[derive(Clone, Copy)]
 pub struct Vectors {
     pub tables: [u32; MOST_HELD],
     pub rowsets: [u32; MOST_HELD],

@@ -26,7 +26,7 @@ pub struct NextIds {
 }
 
 #[repr(C)]
-#[derive(Drop)]
+#[derive(Clone, Copy)]
 pub struct VersionManagerInner {
     pub epoch: u32,
     pub next: NextIds,
@@ -38,7 +38,7 @@ pub struct VersionManagerInner {
 }
 
 // The numbers of a state whose columns are lent beside them: `tables`, `rowsets` and `vectors` are the counts.
-#[derive(Drop)]
+#[derive(Clone, Copy)]
 pub struct Held {
     pub epoch: u32,
     pub next: NextIds,

@@ -1,0 +1,29 @@
+-- `commit::lines::count` meets its contract.
+use mathlib.Core.Path.{◌≡◌, ap}
+use Prim.Native.Nat.{◌+◌, ◌-◌, ◌≤◌}
+use native.Mathlib.Omega.{arith}
+use lib.ListN.{length, drop}
+use Rattle.lists.proofs.Places.{known}
+use Rattle.commit.specs.Lent.{operations_in}
+use Rattle.commit.proofs.Lent.{lent-end}
+use Rattle.commit.proofs.lines.count.Goals as goal
+
+pub loop-at-init : goal.loop-at-init
+loop-at-init c = (omega arith, omega arith, omega arith)
+
+pub after-at-requires : goal.after-at-requires
+after-at-requires c = search known
+
+pub overflow_add-n : goal.overflow_add-n
+overflow_add-n c = search known
+
+pub loop-at-smaller : goal.loop-at-smaller
+loop-at-smaller c = search known
+
+pub loop-at-preserved : goal.loop-at-preserved
+loop-at-preserved c = search known
+
+pub returns : goal.returns
+returns c =
+    let inv = c.loop-at.invariant in
+    omega (arith, c.loop-at.invariant.2, ap length (lent-end c.args.ops.now c.loop-at.at c.loop-at-test.false))

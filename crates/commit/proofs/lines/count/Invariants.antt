@@ -1,0 +1,15 @@
+-- `commit::lines::count` meets its contract.
+use mathlib.Core.Path.{◌≡◌, ap}
+use Prim.Native.Nat.{◌+◌, ◌-◌, ◌≤◌}
+use native.Mathlib.Omega.{arith}
+use lib.ListN.{length, drop}
+use Rattle.lists.proofs.Places.{known}
+use Rattle.commit.specs.Lent.{operations_in}
+use Rattle.commit.proofs.Lent.{lent-end}
+use Rattle.commit.proofs.lines.count.Given as goal
+
+abbrev pub invariant-loop-at : goal.invariant-loop-at
+invariant-loop-at l = (l.n ≤ l.at) × (l.at ≤ length l.ops) × (l.n + length (operations_in (drop l.at l.ops)) ≡ length (operations_in l.ops))
+
+abbrev pub decreases-loop-at : goal.decreases-loop-at
+decreases-loop-at l = length l.ops - l.at

@@ -1,0 +1,76 @@
+-- `show::show_pairs` meets its contract.
+use mathlib.Core.Path.{refl, sym, ap, ◌∙◌}
+use mathlib.Core.Bool.{not, ◌||◌}
+use mathlib.Core.List.{List, [], ◌∷◌}
+use Prim.Native.Nat.{ℕ}
+use native.Mathlib.Omega.{arith}
+use lib.Dec.{ltb}
+use lib.ListN.{length}
+use Rattle.lists.specs.Written.{over}
+use Rattle.lists.proofs.Places.{known}
+use Rattle.version_state.specs.State.{state_of, pairs_at}
+use Rattle.version_state.proofs.Facts.{sound-of}
+use Rattle.pins.proofs.Facts.{good_book}
+use Rattle.show.specs.Says.{unseen}
+use Rattle.show.proofs.Says.{shown-count, shown-numbers, book-bad, not_seen, pairs-short-1, pairs-short-2, pairs-room, pairs-refuse, pairs-accept}
+use Rattle.show.proofs.show_pairs.Goals as goal
+
+pub bad-requires : goal.bad-requires
+bad-requires c = search known
+
+pub returns-then-bad : goal.returns-then-bad
+returns-then-bad c =
+    let a = c.args in
+    pairs-refuse (state_of c.args.inner) c.args.book c.args.epoch c.args.tables.now c.args.rowsets.now _ (book-bad (state_of c.args.inner) c.args.book (unseen (state_of c.args.inner) c.args.book c.args.epoch) (ltb (length c.args.tables.now) (length (pairs_at c.args.epoch (state_of c.args.inner))) || ltb (length c.args.rowsets.now) (length (pairs_at c.args.epoch (state_of c.args.inner)))) (sym c.bad.ensures ∙ c.if-bad.true))
+
+pub may_show-requires : goal.may_show-requires
+may_show-requires c = (good_book _ _ (sym c.bad.ensures ∙ c.if-bad.false)).fits
+
+pub returns-then-not-may_show : goal.returns-then-not-may_show
+returns-then-not-may_show c =
+    let a = c.args in
+    pairs-refuse (state_of c.args.inner) c.args.book c.args.epoch c.args.tables.now c.args.rowsets.now _ (not_seen (state_of c.args.inner) c.args.book (unseen (state_of c.args.inner) c.args.book c.args.epoch) (ltb (length c.args.tables.now) (length (pairs_at c.args.epoch (state_of c.args.inner))) || ltb (length c.args.rowsets.now) (length (pairs_at c.args.epoch (state_of c.args.inner)))) (sym c.bad.ensures ∙ c.if-bad.false) (ap not (sym c.may_show.ensures) ∙ c.if-not-may_show.true-raw))
+
+pub shown_places-count-requires : goal.shown_places-count-requires
+shown_places-count-requires c = ((sound-of c.args.inner c.requires).fits.rowsets, refl)
+
+pub returns-then-tables-count : goal.returns-then-tables-count
+returns-then-tables-count c =
+    let a = c.args in
+    let l = c.shown_places-count in
+    let n = shown-count (c.args.inner.rowsets.tables ∷ c.args.inner.rowsets.rowsets ∷ []) c.args.inner.rowsets.added c.args.inner.rowsets.deleted c.args.inner.rowsets.count c.args.epoch c.shown_places-count.result _ c.shown_places-count.ensures in
+    pairs-refuse (state_of c.args.inner) c.args.book c.args.epoch c.args.tables.now c.args.rowsets.now _ (pairs-short-1 (state_of c.args.inner) c.args.book c.args.epoch c.args.tables.now c.args.rowsets.now c.shown_places-count.result n (sym c.bad.ensures ∙ c.if-bad.false) (ap not (sym c.may_show.ensures) ∙ c.if-not-may_show.false-raw) c.if-tables-count.true)
+
+pub returns-then-rowsets-count : goal.returns-then-rowsets-count
+returns-then-rowsets-count c =
+    let a = c.args in
+    let l = c.shown_places-count in
+    let n = shown-count (c.args.inner.rowsets.tables ∷ c.args.inner.rowsets.rowsets ∷ []) c.args.inner.rowsets.added c.args.inner.rowsets.deleted c.args.inner.rowsets.count c.args.epoch c.shown_places-count.result _ c.shown_places-count.ensures in
+    pairs-refuse (state_of c.args.inner) c.args.book c.args.epoch c.args.tables.now c.args.rowsets.now _ (pairs-short-2 (state_of c.args.inner) c.args.book c.args.epoch c.args.tables.now c.args.rowsets.now c.shown_places-count.result n (sym c.bad.ensures ∙ c.if-bad.false) (ap not (sym c.may_show.ensures) ∙ c.if-not-may_show.false-raw) c.if-tables-count.false c.if-rowsets-count.true)
+
+pub write-requires : goal.write-requires
+write-requires c =
+    let l = c.shown_places-count.ensures in
+    let f = (sound-of c.args.inner c.requires).fits.rowsets in
+    (c.if-tables-count.false, omega (arith, c.shown_places-count.ensures.fewer), λ i h. omega (arith, c.shown_places-count.ensures.inside i h))
+
+pub write-requires-2 : goal.write-requires-2
+write-requires-2 c =
+    let l = c.shown_places-count.ensures in
+    let f = (sound-of c.args.inner c.requires).fits.rowsets in
+    (c.if-rowsets-count.false, omega (arith, c.shown_places-count.ensures.fewer), λ i h. omega (arith, c.shown_places-count.ensures.inside i h))
+
+pub shape_of-tables : goal.shape_of-tables
+shape_of-tables c = search known
+
+pub shape_of-rowsets : goal.shape_of-rowsets
+shape_of-rowsets c = search known
+
+pub returns : goal.returns
+returns c =
+    let a = c.args in
+    let l = c.shown_places-count in
+    let n = shown-count (c.args.inner.rowsets.tables ∷ c.args.inner.rowsets.rowsets ∷ []) c.args.inner.rowsets.added c.args.inner.rowsets.deleted c.args.inner.rowsets.count c.args.epoch c.shown_places-count.result _ c.shown_places-count.ensures in
+    let x = c.write.ensures ∙ ap (λ (t : List ℕ). over t c.args.tables.now) (shown-numbers (c.args.inner.rowsets.tables ∷ c.args.inner.rowsets.rowsets ∷ []) c.args.inner.rowsets.added c.args.inner.rowsets.deleted c.args.inner.rowsets.count c.args.epoch c.shown_places-count.result _ c.shown_places-count.ensures 0) in
+    let y = c.write-2.ensures ∙ ap (λ (t : List ℕ). over t c.args.rowsets.now) (shown-numbers (c.args.inner.rowsets.tables ∷ c.args.inner.rowsets.rowsets ∷ []) c.args.inner.rowsets.added c.args.inner.rowsets.deleted c.args.inner.rowsets.count c.args.epoch c.shown_places-count.result _ c.shown_places-count.ensures 1) in
+    pairs-accept (state_of c.args.inner) c.args.book c.args.epoch c.args.tables.now c.args.rowsets.now c.shown_places-count.result _ _ (pairs-room (state_of c.args.inner) c.args.book c.args.epoch c.args.tables.now c.args.rowsets.now c.shown_places-count.result n (sym c.bad.ensures ∙ c.if-bad.false) (ap not (sym c.may_show.ensures) ∙ c.if-not-may_show.false-raw) c.if-tables-count.false c.if-rowsets-count.false) n x y
