@@ -32,7 +32,7 @@ const PAIRS_END: usize = TABLES_END + 2 * HELD_ROOM;
 const WORK_ROOM: usize = PAIRS_END + 2 * HELD_ROOM;
 
 // Beside the working slice: the next ids, and how many rows of each list are in use.
-#[derive(Drop)]
+#[derive(Clone, Copy)]
 pub struct Sets {
     pub next: NextIds,
     pub tables: usize,
@@ -40,21 +40,21 @@ pub struct Sets {
     pub vectors: usize,
 }
 
-#[derive(Drop)]
+#[derive(Clone, Copy)]
 pub struct Applied {
     pub verdict: Verdict,
     pub sets: Sets,
 }
 
 // The shape and the name of a created table.
-#[derive(Drop)]
+#[derive(Clone, Copy)]
 pub struct Said {
     pub shape: u32,
     pub name: Name,
 }
 
 // An operation on the line at a place, the line's end and the place after it; or none.
-#[derive(Drop)]
+#[derive(Clone, Copy)]
 pub struct Here {
     pub found: bool,
     pub change: Change,
@@ -63,7 +63,7 @@ pub struct Here {
 }
 
 // Whether a frame is open, and of one that is: the place and the number of the line after its `B`, and how many operations follow.
-#[derive(Drop)]
+#[derive(Clone, Copy)]
 pub struct Begun {
     pub running: bool,
     pub place: usize,
@@ -72,20 +72,20 @@ pub struct Begun {
 }
 
 // The number of a line, and the place after it.
-#[derive(Drop)]
+#[derive(Clone, Copy)]
 pub struct Spot {
     pub line: usize,
     pub next: usize,
 }
 
-#[derive(Drop)]
+#[derive(Clone, Copy)]
 pub struct Turn {
     pub verdict: Verdict,
     pub sets: Sets,
     pub begun: Begun,
 }
 
-#[derive(Drop)]
+#[derive(Clone, Copy)]
 pub struct Replayed {
     pub verdict: Verdict,
     pub inner: VersionManagerInner,

@@ -1,0 +1,49 @@
+-- `compaction::locked` meets its contract.
+use mathlib.Core.Path.{◌∙◌}
+use mathlib.Core.Bool.{◌&&◌}
+use mathlib.Core.List.{[], ◌∷◌}
+use Prim.Native.Nat.{◌-◌, ◌≤◌}
+use borrow.Author.Tests.{eq-eqb, ne_eqb}
+use Rattle.ids.specs.Limits.{most_tables}
+use Rattle.lists.specs.Order.{same}
+use Rattle.columns.specs.Rows.{column, marks}
+use Rattle.snapshot.proofs.TableRows.{Seeking, seek-start, seek_found, seek-more, seek-done}
+use Rattle.compaction.proofs.Judging.{any-locked}
+use Rattle.lists.proofs.Places.{known}
+use Rattle.compaction.proofs.locked.Goals as goal
+
+pub loop-i-init : goal.loop-i-init
+loop-i-init c = (c.requires, seek-start _ _ _)
+
+pub offset_bounds-ids-i : goal.offset_bounds-ids-i
+offset_bounds-ids-i c = search known
+
+pub bounds-ids-i : goal.bounds-ids-i
+bounds-ids-i c = search known
+
+pub bounds-locks-i : goal.bounds-locks-i
+bounds-locks-i c = search known
+
+pub returns-then-locks-i : goal.returns-then-locks-i
+returns-then-locks-i c = λ s l n. seek_found _ _ _ _ c.loop-i.invariant.1 c.loop-i-test.true (rw (eq-eqb _ _ c.if-ids-i.true, c.if-locks-i.true)) ∙ any-locked c.args.ids.now s l n c.args.locks.now c.args.count c.args.table.0
+
+pub overflow_add-i : goal.overflow_add-i
+overflow_add-i c = search known
+
+pub loop-i-smaller-then-ids-i : goal.loop-i-smaller-then-ids-i
+loop-i-smaller-then-ids-i c = search known
+
+pub loop-i-preserved-then-ids-i : goal.loop-i-preserved-then-ids-i
+loop-i-preserved-then-ids-i c = (c.loop-i.invariant.0, seek-more _ _ _ _ c.loop-i.invariant.1 c.loop-i-test.true (rw (eq-eqb _ _ c.if-ids-i.true, c.if-locks-i.false)))
+
+pub overflow_add-i-else-ids-i : goal.overflow_add-i-else-ids-i
+overflow_add-i-else-ids-i c = search known
+
+pub loop-i-smaller : goal.loop-i-smaller
+loop-i-smaller c = search known
+
+pub loop-i-preserved : goal.loop-i-preserved
+loop-i-preserved c = (c.loop-i.invariant.0, seek-more _ _ _ _ c.loop-i.invariant.1 c.loop-i-test.true (rw (ne_eqb _ _ c.if-ids-i.false)))
+
+pub returns : goal.returns
+returns c = λ s l n. seek-done _ _ _ _ c.loop-i.invariant.1 c.loop-i-test.false ∙ any-locked c.args.ids.now s l n c.args.locks.now c.args.count c.args.table.0

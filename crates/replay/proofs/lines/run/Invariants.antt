@@ -1,0 +1,17 @@
+-- `replay::lines::run` meets its contract.
+use mathlib.Core.Path.{◌≡◌, refl, sym, ◌∙◌}
+use Prim.Native.Nat.{◌-◌}
+use native.Mathlib.Omega.{arith}
+use borrow.Author.Tests.{not-true, not-false}
+use lib.ListN.{length}
+use Rattle.manifest.proofs.Split.{line-placed}
+use Rattle.replay.specs.Working.{cut, work_room}
+use Rattle.replay.proofs.Frames.{said-line, said-as, turn-as, Reading, cut-start, reading-start, reading-end, reading-stop, reading-on}
+use Rattle.lists.proofs.Places.{known}
+use Rattle.replay.proofs.lines.run.Given as goal
+
+abbrev pub invariant-loop-start : goal.invariant-loop-start
+invariant-loop-start l = (length l.work ≡ work_room) × Reading l.src (cut l.work) l.sets l.begun l.at l.n
+
+abbrev pub decreases-loop-start : goal.decreases-loop-start
+decreases-loop-start l = length l.src - l.at

@@ -1,0 +1,20 @@
+-- `table::lines::of_table` meets its contract.
+use mathlib.Core.Path.{◌≡◌, refl}
+use mathlib.Core.Bool.{Bool, ◌&&◌}
+use Prim.Native.Nat.{ℕ, ◌-◌, ◌≤◌, ◌<◌}
+use native.Mathlib.Omega.{arith}
+use native.Mathlib.Nat.{not-suc-le-zero}
+use lib.Dec.{eqb}
+use lib.ListN.{length, length-set}
+use Rattle.ids.specs.Limits.{most_held}
+use Rattle.lists.proofs.Places.{known}
+use Rattle.columns.specs.Rows.{column, marks}
+use Rattle.columns.proofs.Rows.{rows_same, mark-more}
+use Rattle.snapshot.specs.Entries.{shown_at}
+use Rattle.table.proofs.lines.of_table.Given as goal
+
+abbrev pub invariant-loop-i : goal.invariant-loop-i
+invariant-loop-i l = (l.i ≤ l.count) × (l.count ≤ most_held) × (length l.found ≡ most_held) × ((j : ℕ) → j < l.i → marks l.found j ≡ shown_at l.epoch (column l.added j) (column l.deleted j) && eqb (column l.tables j) l.t)
+
+abbrev pub decreases-loop-i : goal.decreases-loop-i
+decreases-loop-i l = l.count - l.i
