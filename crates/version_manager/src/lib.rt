@@ -40,7 +40,7 @@ use transaction::{Handles, MOST_HANDLES};
 use version_state::{Held, VersionManagerInner};
 
 #[repr(C)]
-#[derive(Drop)]
+#[derive(Clone, Copy)]
 pub struct VersionManager {
     pub inner: VersionManagerInner,
     // The whole state before the last commit, for a report of a short write; without meaning where `append` is 0.

@@ -29,7 +29,7 @@ shape_of-vectors c = search known
 pub returns : goal.returns
 unfolding AppliedIs
 returns c =
-    let s = c.before.before.before.before.before.before.before.before.before.before in
+    let s = c in
     let e = c.accepted.ensures.1 in
     let f = c.put-count.ensures in
     let x = rw c.key-pair.ensures at c.put-count.ensures.0 in

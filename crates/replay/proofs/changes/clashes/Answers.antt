@@ -20,7 +20,7 @@ holds-requires c = let g = c.requires in (c.requires.1, c.requires.0.within, c.r
 
 pub returns-then-holds : goal.returns-then-holds
 returns-then-holds c =
-    let s = c.before.before.before.before.before in
+    let s = c in
     let t = c.args.tables.now in
     let n = c.args.count in
     let yes : has by_first (c.wide.result ∷ []) (held table_room t n) ≡ true = sym c.holds.ensures ∙ c.if-holds.true in
@@ -45,7 +45,7 @@ taken-requires c =
 
 pub returns : goal.returns
 returns c =
-    let s = c.before.before.before.before.before.before.before in
+    let s = c in
     let t = c.args.tables.now in
     let n = c.args.count in
     let no : has by_first (c.wide.result ∷ []) (held table_room t n) ≡ false = sym c.holds.ensures ∙ c.if-holds.false in

@@ -49,7 +49,7 @@ shape_of-tables c = search known
 pub returns : goal.returns
 unfolding AppliedIs
 returns c =
-    let s = c.before.before.before.before.before.before.before.before.before.before.before.before.before.before in
+    let s = c in
     let t = c.args.tables.now in
     let n = c.args.sets.tables in
     let i = c.args.table.0 in

@@ -23,7 +23,7 @@ shape_of-pairs c = search known
 pub returns : goal.returns
 unfolding AppliedIs
 returns c =
-    let s = c.before.before.before.before.before.before.before in
+    let s = c in
     let e = c.accepted.ensures.1 in
     let f = c.without_first-count.ensures in
     let x = rw c.key-pair.ensures at c.without_first-count.ensures.0 in

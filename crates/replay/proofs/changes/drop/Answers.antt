@@ -27,6 +27,17 @@ refused-requires c = search known
 pub shape_of-tables-then-not-holds : goal.shape_of-tables-then-not-holds
 shape_of-tables-then-not-holds c = search known
 
+pub returns-then-not-holds : goal.returns-then-not-holds
+unfolding AppliedIs
+returns-then-not-holds c =
+    let s = c in
+    let t = c.args.tables.now in
+    let n = c.args.sets.tables in
+    let no : has by_first (c.wide-t.result ∷ []) (held table_room t n) ≡ false = sym c.holds.ensures ∙ not-true _ c.if-not-holds.true-raw in
+    λ src p v g.
+    let off : has by_table (c.args.table.0 ∷ []) (tables_in src (firsts table_room t) (seconds table_room t) n) ≡ false = table-has src c.args.table.0 (held table_room t n) ∙ (rw c.wide-t.ensures at no) in
+    rw off c.refused.ensures
+
 pub without_first-count-requires : goal.without_first-count-requires
 without_first-count-requires c = search known
 
@@ -39,7 +50,7 @@ shape_of-tables c = search known
 pub returns : goal.returns
 unfolding AppliedIs
 returns c =
-    let s = c.before.before.before.before.before.before.before.before.before.before in
+    let s = c in
     let t = c.args.tables.now in
     let n = c.args.sets.tables in
     let yes : has by_first (c.wide-t.result ∷ []) (held table_room t n) ≡ true = sym c.holds.ensures ∙ not-false _ c.if-not-holds.false-raw in

@@ -77,6 +77,15 @@ have_tables-requires c = (c.requires.1.tables, c.requires.1.pairs)
 pub no-requires : goal.no-requires
 no-requires c = search known
 
+pub returns-then-not-have_tables : goal.returns-then-not-have_tables
+unfolding ReplayIs
+returns-then-not-have_tables c =
+    let s = c in
+    let w = c.args.work.now in
+    let t = c.build_tables-live in
+    let r = c.build_rowsets-held in
+    rw (finish-no (state_in c.args.src.now (cut w) c.args.sets) _ _ c.build_tables-live.ensures.1 c.build_rowsets-held.ensures.1 _ (each-has c.build_tables-live.result c.build_rowsets-held.result _ _ c.build_tables-live.ensures.0 c.build_rowsets-held.ensures.0 _ c.have_tables.ensures) (not-true _ c.if-not-have_tables.true-raw)) c.no.ensures
+
 pub slice_bounds-all-count : goal.slice_bounds-all-count
 slice_bounds-all-count c = search known
 
@@ -103,3 +112,28 @@ slice_bounds-vectors-start c = search known
 
 pub slice_bounds-vectors-end : goal.slice_bounds-vectors-end
 slice_bounds-vectors-end c = search known
+
+pub build_vectors-shown-requires : goal.build_vectors-shown-requires
+build_vectors-shown-requires c =
+    let s = c in
+    let r = c.build_rowsets-held in
+    (c.requires.0.vectors, c.requires.1.vectors, c.requires.1.pairs, pairs-rise _ _ _ c.build_rowsets-held.result c.requires.0.pairs c.build_rowsets-held.ensures.0 c.build_rowsets-held.ensures.1)
+
+pub returns : goal.returns
+unfolding ReplayIs
+returns c =
+    let s = c in
+    let w = c.args.work.now in
+    let k = c.requires.1 in
+    let kt = c.requires.1.tables in
+    let kp = c.requires.1.pairs in
+    let kv = c.requires.1.vectors in
+    let t = c.build_tables-live in
+    let r = c.build_rowsets-held in
+    let v = c.build_vectors-shown in
+    let a = c.build_tables-live.ensures.0 in
+    let b = c.build_rowsets-held.ensures.0 in
+    let d = c.build_vectors-shown.ensures.0 in
+    let e = c.build_vectors-shown.ensures.1 c.build_rowsets-held.result.added c.build_rowsets-held.result.deleted in
+    rw (finish-yes (state_in c.args.src.now (cut w) c.args.sets) _ _ c.build_tables-live.ensures.1 c.build_rowsets-held.ensures.1 _ (each-has c.build_tables-live.result c.build_rowsets-held.result _ _ a b _ c.have_tables.ensures) (not-false _ c.if-not-have_tables.false-raw))
+    (refl, handed c.args.src.now (cut w) c.args.sets _ (record { tables = omega arith; rowsets = omega arith; vectors = omega arith }) refl refl refl c.build_tables-live.ensures.1 c.build_rowsets-held.ensures.1 (rw (← b) at e))

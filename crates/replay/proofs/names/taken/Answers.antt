@@ -24,7 +24,7 @@ named-requires c = search known
 
 pub returns-then-named : goal.returns-then-named
 returns-then-named c =
-    let s = c.before.before.before.before.before.before.before in
+    let s = c in
     let inv = c.loop-i.invariant in
     let e = drop-view c.args.notes.now c.args.count c.loop-i.i 0 c.loop-i-test.true c.loop-i.invariant.1 in
     sym (c.loop-i.invariant.2 ∙ rw (e, sym c.named.ensures ∙ c.if-named.true))
@@ -37,14 +37,14 @@ loop-i-smaller c = search known
 
 pub loop-i-preserved : goal.loop-i-preserved
 loop-i-preserved c =
-    let s = c.before.before.before.before.before.before.before in
+    let s = c in
     let inv = c.loop-i.invariant in
     let e = drop-view c.args.notes.now c.args.count c.loop-i.i 0 c.loop-i-test.true c.loop-i.invariant.1 in
     (omega (arith, c.loop-i-test.true), c.loop-i.invariant.1, c.loop-i.invariant.2 ∙ rw (e, sym c.named.ensures ∙ c.if-named.false))
 
 pub returns : goal.returns
 returns c =
-    let s = c.before.before.before.before in
+    let s = c in
     let inv = c.loop-i.invariant in
     let e = drop-end c.args.notes.now c.args.count c.loop-i.i c.loop-i-test.false c.loop-i.invariant.1 in
     sym (c.loop-i.invariant.2 ∙ rw e)
