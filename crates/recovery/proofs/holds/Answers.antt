@@ -5,10 +5,9 @@ use Rattle.recovery.proofs.Short.{passed}
 use Rattle.recovery.proofs.Sound.{replay-sound}
 use Rattle.recovery.proofs.Again.{made-same, rewritten-holds, rewritten-room, manager-rewritable, replay-rewritable, replay-room, replay-again}
 use Rattle.recovery.proofs.Locks.{replay-locks}
-use Rattle.recovery.proofs.holds.Statement.{statement}
-use Rattle.recovery.proofs.holds.Tie as tie
+use Rattle.recovery.proofs.holds.Goals as goal
 
-returns : tie.Need-returns
+pub returns : goal.returns
 returns c = (
   record { empty = empty_holds; replayed = holds-replayed; whole = whole-appended; cut = λ src s os k h. cut_holds src s h os k; made = made-replayed },
   record { passed = passed },
@@ -16,6 +15,3 @@ returns c = (
   record { replaces = replaces },
   record { sound = replay-sound; rewritable = replay-rewritable; room = replay-room; again = replay-again; locks = replay-locks },
 )
-
-pub holds-spec : {M : Type 1} → statement M
-holds-spec = tie.close (tie.spec returns)

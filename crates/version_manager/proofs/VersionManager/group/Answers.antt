@@ -1,0 +1,88 @@
+-- `version_manager::VersionManager::group` meets its contract.
+use mathlib.Core.Path.{refl, sym, ◌∙◌}
+use native.Mathlib.Omega.{arith}
+use lib.Seq.{length-take-le}
+use Rattle.version_state.proofs.Facts.{sound-of}
+use Rattle.version_manager.proofs.Managers.{inner-passes, manages}
+use Rattle.version_manager.proofs.Groups.{handles-are, group-fits, group-no, group-yes}
+use borrow.Author.Rules.{rules}
+use Rattle.version_manager.proofs.VersionManager.group.Goals as goal
+
+pub bad-requires : goal.bad-requires
+bad-requires c = search rules
+
+pub returns-then-bad : goal.returns-then-bad
+returns-then-bad c = let b = sym c.bad.ensures ∙ c.if-bad.true in record { answer = rw b; rowsets = rw b; lengths = rw b; counts = rw b; files = rw b; memories = rw b; manager = rw b refl }
+
+pub split-n-requires : goal.split-n-requires
+split-n-requires c = search rules
+
+pub slice_bounds-of-end : goal.slice_bounds-of-end
+slice_bounds-of-end c = let s = c.split-n.ensures in omega (arith, c.split-n.ensures.count, c.split-n.ensures.us-full)
+
+pub slice_bounds-group-end : goal.slice_bounds-group-end
+slice_bounds-group-end c = let s = c.split-n.ensures in sym (length-take-le _ _ (omega (arith, c.split-n.ensures.count, c.split-n.ensures.us-full)))
+
+pub slice_bounds-deleted-end : goal.slice_bounds-deleted-end
+slice_bounds-deleted-end c = let s = c.split-n.ensures in omega (arith, c.split-n.ensures.count, c.split-n.ensures.ws-full)
+
+pub slice_bounds-group-end-2 : goal.slice_bounds-group-end-2
+slice_bounds-group-end-2 c = let s = c.split-n.ensures in sym (length-take-le _ _ (omega (arith, c.split-n.ensures.count, c.split-n.ensures.ws-full)))
+
+pub group-done-requires : goal.group-done-requires
+group-done-requires c =
+    let s = c.split-n in
+    let w = c.split-n.ensures in
+    let u = length-take-le c.split-n.result c.split-n.new.rowsets (omega (arith, c.split-n.ensures.count, c.split-n.ensures.us-full)) in
+    let v = length-take-le c.split-n.result c.split-n.new.rows (omega (arith, c.split-n.ensures.count, c.split-n.ensures.ws-full)) in
+    (v ∙ sym u, u ∙ c.split-n.ensures.count)
+
+pub enum_known-verdict : goal.enum_known-verdict
+enum_known-verdict c = search rules
+
+pub shape_of-rowsets-in-Refused : goal.shape_of-rowsets-in-Refused
+shape_of-rowsets-in-Refused c = search rules
+
+pub shape_of-lengths-in-Refused : goal.shape_of-lengths-in-Refused
+shape_of-lengths-in-Refused c = search rules
+
+pub shape_of-counts-in-Refused : goal.shape_of-counts-in-Refused
+shape_of-counts-in-Refused c = search rules
+
+pub shape_of-files-in-Refused : goal.shape_of-files-in-Refused
+shape_of-files-in-Refused c = search rules
+
+pub shape_of-rows-in-Refused : goal.shape_of-rows-in-Refused
+shape_of-rows-in-Refused c = search rules
+
+pub returns-in-Refused : goal.returns-in-Refused
+returns-in-Refused c = group-no c.args.self c.args.handles _ (handles-are c.args.handles _ _ c.split-n.ensures.rowsets c.split-n.ensures.rows) _ _ _ _ _ _ _ _ _ _ _ (sym c.bad.ensures ∙ c.if-bad.false) c.group-done.ensures _ _ c.in-Refused.is refl refl
+
+pub enum_told-1 : goal.enum_told-1
+enum_told-1 c = search rules
+
+pub overflow_add-raised : goal.overflow_add-raised
+overflow_add-raised c = omega (arith, group-fits c.args.self c.args.handles _ (handles-are c.args.handles _ _ c.split-n.ensures.rowsets c.split-n.ensures.rows) _ _ _ _ _ _ _ _ _ _ _ (sym c.bad.ensures ∙ c.if-bad.false) c.group-done.ensures c.in_default.is)
+
+pub handed-manager-requires : goal.handed-manager-requires
+handed-manager-requires c = search rules
+
+pub shape_of-rowsets : goal.shape_of-rowsets
+shape_of-rowsets c = search rules
+
+pub shape_of-lengths : goal.shape_of-lengths
+shape_of-lengths c = search rules
+
+pub shape_of-counts : goal.shape_of-counts
+shape_of-counts c = search rules
+
+pub shape_of-files : goal.shape_of-files
+shape_of-files c = search rules
+
+pub shape_of-rows : goal.shape_of-rows
+shape_of-rows c = search rules
+
+pub returns : goal.returns
+returns c =
+    let f = (sound-of c.args.self.inner (inner-passes c.args.self (sym c.bad.ensures ∙ c.if-bad.false))).fits in
+    group-yes c.args.self c.args.handles _ (handles-are c.args.handles _ _ c.split-n.ensures.rowsets c.split-n.ensures.rows) _ _ _ _ _ _ _ _ _ _ _ (sym c.bad.ensures ∙ c.if-bad.false) c.group-done.ensures _ c.in_default.is (manages _ _ _ c.handed-manager.ensures (record { fits = record { tables = f.tables; rowsets = f.rowsets; vectors = f.vectors }; state = refl })) refl
