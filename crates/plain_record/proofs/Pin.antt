@@ -81,7 +81,7 @@ module _ (w : World) (r : Record) (t : Told) (l : List (List ℕ)) (v : World) (
       → Recalled w.manager d.book w.last (with_pins (one_pin (epoch_of r.whole) r.whole.pinned) r.whole) r.former
   recalled-pinned k =
       let f = former_by w.manager in
-      recalled-book w.manager w.book d.book w.last r.whole r.former _ i.recalled
+      recalled-book w.manager w.book d.book w.last r.whole r.former (one_pin (epoch_of r.whole) r.whole.pinned) i.recalled
       (λ h. bound-recounted f w.book d.book (place_on epoch) (pins_at (place_on epoch) (pins_of w.book) + 1) k (omega (arith, i.epoch, bound-le (guards_of f w.book))))
 
   abbrev After : Verdict → Type 0

@@ -52,7 +52,7 @@ module _ (w : World) (r : Record) (t : Told) (l : List (List ℕ)) (v : World) (
       → Recalled w.manager d.book w.last (with_pins (one_less e r.whole.pinned) r.whole) r.former
   recalled-unpinned on k =
       let f = former_by w.manager in
-      recalled-book w.manager w.book d.book w.last r.whole r.former _ i.recalled
+      recalled-book w.manager w.book d.book w.last r.whole r.former (one_less e r.whole.pinned) i.recalled
       (λ h. bound-recounted f w.book d.book (place_on e) (left_on (place_on e) pins_held) k (bound-guarded (guards_of f w.book) e (held-pinned (place_on e) pins_held on)))
 
   is_held : unpin_verdict w.manager e w.book ≡ Accepted → has_place (place_on e) pins_held ≡ true

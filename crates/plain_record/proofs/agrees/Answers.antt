@@ -1,0 +1,6 @@
+-- `plain_record::agrees` meets its contract: demand 3. Assumes nothing.
+use Rattle.plain_record.proofs.Theorem.{theorem}
+use Rattle.plain_record.proofs.agrees.Goals as goal
+
+pub returns : goal.returns
+returns c = theorem

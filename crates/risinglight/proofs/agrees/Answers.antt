@@ -1,0 +1,6 @@
+-- `risinglight::agrees` meets its contract: demand 2. Assumes nothing.
+use Rattle.risinglight.proofs.Theorem.{theorem}
+use Rattle.risinglight.proofs.agrees.Goals as goal
+
+pub returns : goal.returns
+returns c = theorem
