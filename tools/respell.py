@@ -1,13 +1,15 @@
 #!/usr/bin/env python3
 """Brings the repository's own definitions and lemmas to one spelling: words in snake case, types and modules in camel case.
 
-usage: python3 tools/respell.py      at the top of the repository, once, on files that the toolchain's own script has turned
+usage: python3 tools/respell.py             at the top of the repository, once, on files that the toolchain's own script has turned
+       python3 tools/respell.py definitions  the second half of that alone: definitions of specs/ that had dashes
 
 Every lower camel case word of crates/ is turned, in .antt and .rt files, and the same words in must-fail edits and pages. A dash
 joins the words of a lemma and stays. Where a turned word would fall together with a lemma of that spelling, the lemma gets its dash back.
 """
 import os
 import re
+import sys
 
 CAMEL = re.compile(r"[a-z0-9][A-Z]")
 WORD = re.compile(r"[A-Za-z_][A-Za-z0-9_']*")
@@ -38,6 +40,23 @@ OTHER = {
 # No names: how a byte is written in a list of calls.
 KEPT = {"xHH"}
 
+# Definitions and fields of specs/ that had dashes: underscores for them, but where a word of that spelling is there already.
+DEFINED = re.compile(r"^\s*(?:abbrev |unfoldable )?(?:pub )?([a-z][A-Za-z0-9_']*(?:-[A-Za-z0-9_']+)+) :", re.M)
+RENAMED = {
+    "add-rowset": "snapshot_add_rowset",
+    "delete-rowset": "snapshot_delete_rowset",
+    "add-dv": "snapshot_add_dv",
+    "delete-dv": "snapshot_delete_dv",
+    "second-begin": "has_second_begin",
+    "orphan-vector": "has_orphan_vector",
+    "live-id": "takes_live_id",
+    "over-limits": "is_over_limits",
+    "last-id": "has_last_id",
+    "vacuum-order": "lists_unordered",
+    "next-ids": "has_forgotten_ids",
+    "rowset-id": "sized_rowset_id",
+}
+
 
 def files(root, endings):
     for folder, dirs, names in os.walk(root):
@@ -54,6 +73,34 @@ def snake(word):
 def read(path):
     with open(path, encoding="utf-8") as f:
         return f.read()
+
+
+def definitions():
+    """Words with dashes that specs/ defines, by crates; a field of that spelling keeps its word."""
+    for crate in sorted(os.listdir("crates")):
+        root = os.path.join("crates", crate)
+        dashed = set()
+        for path in files(os.path.join(root, "specs"), (".antt",)):
+            dashed.update(DEFINED.findall(read(path)))
+        if not dashed:
+            continue
+        word = re.compile(r"(?<![\w'-])(\.?)(" + "|".join(sorted(map(re.escape, dashed), key=len, reverse=True)) + r")(?![\w'-])( = (?!=)| : ℕ$)?", re.M)
+
+        def turned(m):
+            field = m.group(1) or (m.group(3) and m.group(2) == "rowset-id")
+            to = m.group(2).replace("-", "_") if field else RENAMED.get(m.group(2), m.group(2).replace("-", "_"))
+            return m.group(1) + to + (m.group(3) or "")
+
+        for path in files(root, (".antt", ".rt", ".edit")):
+            before = read(path)
+            lines = before.split("\n")
+            for i, line in enumerate(lines):
+                code, dash, comment = line.partition("-- ") if path.endswith(".antt") else (line, "", "")
+                lines[i] = word.sub(turned, code) + dash + comment
+            text = "\n".join(lines)
+            if text != before:
+                with open(path, "w", encoding="utf-8") as f:
+                    f.write(text)
 
 
 def main():
@@ -77,4 +124,6 @@ def main():
                 f.write(text)
 
 
-main()
+if sys.argv[1:] != ["definitions"]:
+    main()
+definitions()

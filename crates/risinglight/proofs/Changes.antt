@@ -11,7 +11,7 @@ use Rattle.manifest.specs.Operations.{Operation, create_table, drop_table, add_r
 use Rattle.manifest.specs.Edits.{Edit, leaves, adds, deletes, vector_in, edits_of}
 use Rattle.plain_record.specs.Sets.{Sets, itself, apply, apply_all}
 use Rattle.risinglight.specs.Maps.{ok, unwrap_or, contains, get}
-use Rattle.risinglight.specs.Snapshot.{Snapshot, add-rowset, add-dv, has_rowset, has_dv}
+use Rattle.risinglight.specs.Snapshot.{Snapshot, snapshot_add_rowset, snapshot_add_dv, has_rowset, has_dv}
 use Rattle.risinglight.specs.VersionManager.{Changing, pooled, changing, change, changes}
 use Rattle.risinglight.proofs.Maps.{has-without, instead, shuffle}
 use Rattle.risinglight.proofs.Snapshots.{added-rowset, deleted-rowset, added-dv, deleted-dv}
@@ -71,7 +71,7 @@ one (create_table t h n) c x s f = record { left = c; runs = refl; shows = recor
 one (drop_table t) c x s f = record { left = c; runs = refl; shows = record { pairs = s.pairs; vectors = s.vectors }; deletions = nothing-more c.deletions; rowsets = λ k. refl; dvs = λ k. refl }
 one (add_rowset u q) c x s f =
     record {
-      left = changing (add-rowset u q c.snapshot) (pooled (u ∷ q ∷ []) c.rowsets) c.dvs c.deletions;
+      left = changing (snapshot_add_rowset u q c.snapshot) (pooled (u ∷ q ∷ []) c.rowsets) c.dvs c.deletions;
       runs = refl;
       shows =
           record {
@@ -102,7 +102,7 @@ one (delete_rowset u q) c x s f =
     }
 one (add_vector u q w) c x s f =
     record {
-      left = changing (add-dv u q w c.snapshot) c.rowsets (pooled (u ∷ w ∷ []) c.dvs) c.deletions;
+      left = changing (snapshot_add_dv u q w c.snapshot) c.rowsets (pooled (u ∷ w ∷ []) c.dvs) c.deletions;
       runs = refl;
       shows =
           record {

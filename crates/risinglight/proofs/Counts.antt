@@ -14,7 +14,7 @@ use Rattle.pins.specs.Book.{PinEntry, place_on, place_key, by_place, pinned}
 use Rattle.pins.specs.Guards.{guards_by, blocked}
 use Rattle.pins.specs.Counts.{pins_at}
 use Rattle.risinglight.specs.Maps.{unwrap_or, Binding, get, keys}
-use Rattle.risinglight.specs.VersionManager.{Inner, smallest, minimum, vacuum-epoch}
+use Rattle.risinglight.specs.VersionManager.{Inner, smallest, minimum, vacuum_epoch}
 
 -- a count of 0 is none
 abbrev pub counted : ℕ → Option ℕ
@@ -117,18 +117,18 @@ least-of w e [] h = le-leb w e h
 least-of w e (b ∷ m) h = smallest-least w b.key (keys m)
 
 -- what the vacuum may apply is what no pin keeps
-pub applies : (m : Inner) (l : List PinEntry) (w : ℕ) → Pinning l → ((d : ℕ) → get d m.ref-cnt ≡ counted (pins_at (place_on d) l)) → w ≤ m.epoch
-    → leb w (vacuum-epoch m) ≡ not (blocked (guards_by m.epoch l) w)
+pub applies : (m : Inner) (l : List PinEntry) (w : ℕ) → Pinning l → ((d : ℕ) → get d m.ref_cnt ≡ counted (pins_at (place_on d) l)) → w ≤ m.epoch
+    → leb w (vacuum_epoch m) ≡ not (blocked (guards_by m.epoch l) w)
 applies m l w a c h =
-    least-of w m.epoch m.ref-cnt h
+    least-of w m.epoch m.ref_cnt h
     ∙ by_cases (any_of (λ (p : PinEntry). ltb p.epoch w) l)
-    (λ t. rw t (by_cases (all_of (leb w) (keys m.ref-cnt))
+    (λ t. rw t (by_cases (all_of (leb w) (keys m.ref_cnt))
     (λ f.
     let b = some_below w l a t in
-    let k = keys-least w b.epoch m.ref-cnt f (ap is_some (c b.epoch) ∙ some-counted (pins_at (place_on b.epoch) l) ∙ ap not b.pins) in
+    let k = keys-least w b.epoch m.ref_cnt f (ap is_some (c b.epoch) ∙ some-counted (pins_at (place_on b.epoch) l) ∙ ap not b.pins) in
     absurd (omega (arith, b.below)))
     (λ f. f)))
-    (λ t. rw t (least-keys w m.ref-cnt
+    (λ t. rw t (least-keys w m.ref_cnt
     (λ d k. by_cases (leb w d)
     (λ f. leb-true w d f)
     (λ f.

@@ -20,7 +20,7 @@ use Rattle.delete_vector.specs.Says.{most_records, read_rules}
 use Rattle.delete_vector.proofs.InMemory.{memory-all}
 use Rattle.delete_vector.proofs.Together.{laws-hold}
 use Rattle.risinglight.specs.Maps.{Outcome, fails, ok, and_then}
-use Rattle.risinglight.specs.DeleteVector.{new, «open», apply-to}
+use Rattle.risinglight.specs.DeleteVector.{new, «open», apply_to}
 use Rattle.risinglight.specs.DeleteVectors.{ReaderDiffers, Examples, is_set, DeleteVectorLaws}
 use Rattle.risinglight.proofs.DeleteVectorLoops.{never, loops}
 use Rattle.risinglight.proofs.DeleteVectorBytes.{all-encoded, all-decoded}
@@ -46,8 +46,8 @@ refused file f (Bad place) e = refl
 not-bad : {rows : List ℕ} {place : ℕ} → Rows rows ≡ Bad place → ⊥
 not-bad e = let z : ◌≡◌ {A = ℕ} 0 1 = cc in omega arith
 
-never-written : (file rows : List ℕ) → ReaderDiffers file → are_rows rows ≡ true → file ≡ records_of rows → ⊥
-never-written file rows d h e = not-bad (sym (laws-hold.reads_back rows h) ∙ ap (λ (f : List ℕ). records_in f) (sym e) ∙ d.refuses)
+never_written : (file rows : List ℕ) → ReaderDiffers file → are_rows rows ≡ true → file ≡ records_of rows → ⊥
+never_written file rows d h e = not-bad (sym (laws-hold.reads_back rows h) ∙ ap (λ (f : List ℕ). records_in f) (sym e) ∙ d.refuses)
 
 differs : (file deletes : List ℕ) → «open» file ≡ ok deletes → ((rows : List ℕ) → are_rows rows ≡ true → file ≡ records_of rows → ⊥)
     → (r : Records) → records_in file ≡ r → ReaderDiffers file
@@ -58,11 +58,11 @@ masked_same : (p q : ℕ → Bool) (offset : ℕ) (bytes : List ℕ) → ((row :
 masked_same p q offset [] h = refl
 masked_same p q offset (b ∷ bytes) h = rw (h offset, masked_same p q (offset + 1) bytes h)
 
-mask-new : (rows bytes : List ℕ) (offset : ℕ) → are_rows rows ≡ true → apply-to (new rows) (map is_set bytes) offset ≡ map is_set (masked (is_in rows) offset bytes)
-mask-new rows bytes offset h =
+mask_new : (rows bytes : List ℕ) (offset : ℕ) → are_rows rows ≡ true → apply_to (new rows) (map is_set bytes) offset ≡ map is_set (masked (is_in rows) offset bytes)
+mask_new rows bytes offset h =
     let r : are_rows (in_memory rows) ≡ true =
     all-all_of (λ row. ltb row row_limit) (in_memory rows) (memory-all (λ row. ltb row row_limit ≡ true) rows (all_of-all (λ row. ltb row row_limit) rows h)) in
-    ap (λ (l : List ℕ). apply-to l (map is_set bytes) offset) (new-memory rows)
+    ap (λ (l : List ℕ). apply_to l (map is_set bytes) offset) (new-memory rows)
     ∙ mask-applied (in_memory rows) bytes offset r (laws-hold.ascends rows)
     ∙ ap (map is_set) (masked_same (is_in (in_memory rows)) (is_in rows) offset bytes (laws-hold.same_set rows))
 
@@ -70,20 +70,20 @@ examples : Examples
 unfolding records_at records_by is_record size_in record_of delimited uint_field varint varint_by
 examples = record {
   zero_row = record { opens = refl; refuses = refl };
-  long-varint = record { opens = refl; refuses = refl };
-  long-widest = record { opens = refl; refuses = refl };
+  long_varint = record { opens = refl; refuses = refl };
+  long_widest = record { opens = refl; refuses = refl };
   wide = record { opens = refl; refuses = refl };
-  wide-zero = record { opens = refl; refuses = refl };
-  unknown-after = record { opens = refl; refuses = refl };
-  unknown-alone = record { opens = refl; refuses = refl };
+  wide_zero = record { opens = refl; refuses = refl };
+  unknown_after = record { opens = refl; refuses = refl };
+  unknown_alone = record { opens = refl; refuses = refl };
   twice = record { opens = refl; refuses = refl };
-  long-key = record { opens = refl; refuses = refl };
-  long-length = record { opens = refl; refuses = refl };
-  long-empty = record { opens = refl; refuses = refl };
-  unfinished = record { fails-too = refl; refuses = refl };
-  past_end = record { fails-too = refl; refuses = refl };
-  other-wire = record { fails-too = refl; refuses = refl };
-  field-zero = record { fails-too = refl; refuses = refl };
+  long_key = record { opens = refl; refuses = refl };
+  long_length = record { opens = refl; refuses = refl };
+  long_empty = record { opens = refl; refuses = refl };
+  unfinished = record { fails_too = refl; refuses = refl };
+  past_end = record { fails_too = refl; refuses = refl };
+  other_wire = record { fails_too = refl; refuses = refl };
+  field_zero = record { fails_too = refl; refuses = refl };
 }
 
 over : (rows out : List ℕ) → are_rows rows ≡ true → most_records < length rows
@@ -98,9 +98,9 @@ delete-vectors = record {
   refuses = λ file f. refused file f (records_in file) refl;
   examples = examples;
   over = over;
-  never-written = never-written;
+  never_written = never_written;
   differs = λ file deletes o n. differs file deletes o n (records_in file) refl;
   memory = new-memory;
   mask = mask-applied;
-  mask-new = mask-new;
+  mask_new = mask_new;
 }

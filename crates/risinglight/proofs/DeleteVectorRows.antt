@@ -14,7 +14,7 @@ use Rattle.delete_vector.specs.Mask.{masked}
 use Rattle.delete_vector.specs.Laws.{are_rows}
 use Rattle.delete_vector.proofs.Masking.{masked-more, masked_below}
 use Rattle.delete_vector.proofs.Together.{laws-hold}
-use Rattle.risinglight.specs.DeleteVector.{sorted-in, sort-unstable, dedup-after, dedup, new, cleared, apply-to}
+use Rattle.risinglight.specs.DeleteVector.{sorted_in, sort_unstable, dedup_after, dedup, new, cleared, apply_to}
 use Rattle.risinglight.specs.DeleteVectors.{is_set}
 
 -- In memory.
@@ -24,18 +24,18 @@ abbrev From : ℕ → List ℕ → Type 0
 From x [] = Unit {0}
 From x (y ∷ l) = (x ≤ y) × From y l
 
-in-from : (z x : ℕ) (l : List ℕ) → z ≤ x → From z l → From z (sorted-in x l)
+in-from : (z x : ℕ) (l : List ℕ) → z ≤ x → From z l → From z (sorted_in x l)
 in-from z x [] h s = (h, tt)
 in-from z x (y ∷ l) h s =
     by_cases (leb x y)
     (λ e. rw e (h, (leb-true x y e, s.1)))
     (λ e. rw e (s.0, in-from y x l (let g = leb-false x y e in omega arith) s.1))
 
-sort-from : (l : List ℕ) → From 0 (sort-unstable l)
+sort-from : (l : List ℕ) → From 0 (sort_unstable l)
 sort-from [] = tt
-sort-from (x ∷ l) = in-from 0 x (sort-unstable l) (omega arith) (sort-from l)
+sort-from (x ∷ l) = in-from 0 x (sort_unstable l) (omega arith) (sort-from l)
 
-after-above : (x : ℕ) (l : List ℕ) → From x l → above row_key (row_key x) (dedup-after x l) ≡ true
+after-above : (x : ℕ) (l : List ℕ) → From x l → above row_key (row_key x) (dedup_after x l) ≡ true
 after-above x [] s = refl
 after-above x (y ∷ l) s =
     by_cases (eqb y x)
@@ -50,22 +50,22 @@ dedup-ascends : (l : List ℕ) → From 0 l → ascending row_key (dedup l) ≡ 
 dedup-ascends [] s = refl
 dedup-ascends (x ∷ l) s = after-above x l s.1
 
-in-same : (x row : ℕ) (l : List ℕ) → is_in (sorted-in x l) row ≡ is_in (x ∷ l) row
+in-same : (x row : ℕ) (l : List ℕ) → is_in (sorted_in x l) row ≡ is_in (x ∷ l) row
 in-same x row [] = refl
 in-same x row (y ∷ l) =
     by_cases (leb x y)
     (λ e. rw e)
     (λ e. rw (e, in-same x row l) (or_swap (eqb y row && true) (eqb x row && true) (is_in l row)))
 
-sort-same : (row : ℕ) (l : List ℕ) → is_in (sort-unstable l) row ≡ is_in l row
+sort-same : (row : ℕ) (l : List ℕ) → is_in (sort_unstable l) row ≡ is_in l row
 sort-same row [] = refl
-sort-same row (x ∷ l) = in-same x row (sort-unstable l) ∙ ap (λ (b : Bool). (eqb x row && true) || b) (sort-same row l)
+sort-same row (x ∷ l) = in-same x row (sort_unstable l) ∙ ap (λ (b : Bool). (eqb x row && true) || b) (sort-same row l)
 
 again : (a b : Bool) → a || b ≡ a || (a || b)
 again true b = refl
 again false b = refl
 
-after_same : (x row : ℕ) (l : List ℕ) → is_in (x ∷ dedup-after x l) row ≡ is_in (x ∷ l) row
+after_same : (x row : ℕ) (l : List ℕ) → is_in (x ∷ dedup_after x l) row ≡ is_in (x ∷ l) row
 after_same x row [] = refl
 after_same x row (y ∷ l) =
     by_cases (eqb y x)
@@ -78,8 +78,8 @@ dedup_same row (x ∷ l) = after_same x row l
 
 pub new-memory : (rows : List ℕ) → new rows ≡ in_memory rows
 new-memory rows =
-    sym (laws-hold.own_form (new rows) (dedup-ascends (sort-unstable rows) (sort-from rows)))
-    ∙ laws-hold.one_form (new rows) rows (λ row. dedup_same row (sort-unstable rows) ∙ sort-same row rows)
+    sym (laws-hold.own_form (new rows) (dedup-ascends (sort_unstable rows) (sort-from rows)))
+    ∙ laws-hold.one_form (new rows) rows (λ row. dedup_same row (sort_unstable rows) ∙ sort-same row rows)
 
 -- Masks.
 
@@ -135,7 +135,7 @@ walk (x ∷ iter) row (b ∷ bytes) u =
     rw (m, e, up-absent (x + 1) row iter (omega arith) u.2)
     (ap (λ (l : List Bool). is_set b ∷ l) (walk (x ∷ iter) (row + 1) bytes (h, k, u.2))))
 
-applied : (n : ℕ) (rows bytes : List ℕ) (offset : ℕ) → Up n rows → apply-to rows (map is_set bytes) offset ≡ map is_set (masked (is_in rows) offset bytes)
+applied : (n : ℕ) (rows bytes : List ℕ) (offset : ℕ) → Up n rows → apply_to rows (map is_set bytes) offset ≡ map is_set (masked (is_in rows) offset bytes)
 applied n [] bytes offset u = walk [] offset bytes tt
 applied n (x ∷ l) bytes offset u =
     by_cases (ltb x offset)
@@ -143,5 +143,5 @@ applied n (x ∷ l) bytes offset u =
     (λ e. rw e (walk (x ∷ l) offset bytes (ltb-false x offset e, u.1, u.2)))
 
 pub mask-applied : (rows bytes : List ℕ) (offset : ℕ) → are_rows rows ≡ true → ascending row_key rows ≡ true
-    → apply-to rows (map is_set bytes) offset ≡ map is_set (masked (is_in rows) offset bytes)
+    → apply_to rows (map is_set bytes) offset ≡ map is_set (masked (is_in rows) offset bytes)
 mask-applied rows bytes offset r a = applied 0 rows bytes offset (ascending-up rows r a)

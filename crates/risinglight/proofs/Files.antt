@@ -16,7 +16,7 @@ use Rattle.plain_record.specs.Sets.{Sets, by_id, itself, edit, apply, apply_all}
 use Rattle.plain_record.proofs.Vacuum.{keep-arranged}
 use Rattle.risinglight.specs.Maps.{Outcome, fails, ok, and_then}
 use Rattle.risinglight.specs.Manifest.{Value, End, entry, frame, Replaying, replaying, next, replay_from, replay}
-use Rattle.risinglight.specs.Storage.{apply-table, apply-tables, through, Rowset, rowset, pair_of, open_rowset, rowsets-to-open, Dv, dv, triple_of, open_dv, dvs-to-open}
+use Rattle.risinglight.specs.Storage.{apply_table, apply_tables, through, Rowset, rowset, pair_of, open_rowset, rowsets_to_open, Dv, dv, triple_of, open_dv, dvs_to_open}
 use Rattle.risinglight.proofs.Maps.{has-without, instead}
 use Rattle.risinglight.proofs.Fitting.{TableFinds, TablesFind}
 
@@ -28,7 +28,7 @@ any-arranged key p (x ∷ l) = any_of-placed key p x (arranged key l) ∙ ap (λ
 
 record OneFollows (o : Operation) (l : List Table) (x : List Table) : Type 0 where
   left : List Table
-  runs : apply-table o l ≡ ok left
+  runs : apply_table o l ≡ ok left
   same : arranged by_id left ≡ edit by_id (edits_of o).tables x
 
 follows-one : (o : Operation) (l x : List Table) → arranged by_id l ≡ x → TableFinds (edits_of o).tables x → OneFollows o l x
@@ -54,7 +54,7 @@ follows-one (next_ids t r v) l x e f = record { left = l; runs = refl; same = e 
 
 pub record Follows (os : List Operation) (l : List Table) (x : Sets) : Type 0 where
   pub left : List Table
-  pub runs : apply-tables os l ≡ ok left
+  pub runs : apply_tables os l ≡ ok left
   pub same : arranged by_id left ≡ (apply_all os x).tables
 
 pub follows : (os : List Operation) (l : List Table) (x : Sets) → arranged by_id l ≡ x.tables → TablesFind os x.tables → Follows os l x
@@ -64,12 +64,12 @@ follows (o ∷ os) l x e f =
     let b = follows os a.left (apply o x) a.same f.1 in
     record { left = b.left; runs = rw a.runs b.runs; same = b.same }
 
-pub tables-append : (os ps : List Operation) (l : List Table) → apply-tables (os ++ ps) l ≡ and_then (apply-tables os l) (apply-tables ps)
+pub tables-append : (os ps : List Operation) (l : List Table) → apply_tables (os ++ ps) l ≡ and_then (apply_tables os l) (apply_tables ps)
 tables-append [] ps l = refl
-tables-append (o ∷ os) ps l = go (apply-table o l) (λ m. tables-append os ps m)
+tables-append (o ∷ os) ps l = go (apply_table o l) (λ m. tables-append os ps m)
   where
-    go : (x : Outcome (List Table)) → ((m : List Table) → apply-tables (os ++ ps) m ≡ and_then (apply-tables os m) (apply-tables ps))
-        → and_then x (apply-tables (os ++ ps)) ≡ and_then (and_then x (apply-tables os)) (apply-tables ps)
+    go : (x : Outcome (List Table)) → ((m : List Table) → apply_tables (os ++ ps) m ≡ and_then (apply_tables os m) (apply_tables ps))
+        → and_then x (apply_tables (os ++ ps)) ≡ and_then (and_then x (apply_tables os)) (apply_tables ps)
     go fails ih = refl
     go (ok m) ih = ih m
 
@@ -116,31 +116,31 @@ dv-opens (add_vector t r v) l = (dv t r v, refl, refl)
 dv-opens (delete_vector t r v) l = refl
 dv-opens (next_ids t r v) l = refl
 
-pub rowsets-alike : (os : List Operation) (x : Sets) (l : List Rowset) → Alike pair_of x.pairs l → Alike pair_of (apply_all os x).pairs (rowsets-to-open os l)
+pub rowsets-alike : (os : List Operation) (x : Sets) (l : List Rowset) → Alike pair_of x.pairs l → Alike pair_of (apply_all os x).pairs (rowsets_to_open os l)
 rowsets-alike [] x l e = e
 rowsets-alike (o ∷ os) x l e = rowsets-alike os (apply o x) (open_rowset o l) (edit-alike pair_of (edits_of o).pairs x.pairs l (open_rowset o l) (rowset-opens o l) e)
 
-pub dvs-alike : (os : List Operation) (x : Sets) (l : List Dv) → Alike triple_of x.vectors l → Alike triple_of (apply_all os x).vectors (dvs-to-open os l)
+pub dvs-alike : (os : List Operation) (x : Sets) (l : List Dv) → Alike triple_of x.vectors l → Alike triple_of (apply_all os x).vectors (dvs_to_open os l)
 dvs-alike [] x l e = e
 dvs-alike (o ∷ os) x l e = dvs-alike os (apply o x) (open_dv o l) (edit-alike triple_of (edits_of o).vectors x.vectors l (open_dv o l) (dv-opens o l) e)
 
 -- What a start makes of operations.
 pub record Boots (ops : List Operation) (x : Sets) : Type 0 where
   pub catalog : List Table
-  pub runs : apply-tables ops [] ≡ ok catalog
+  pub runs : apply_tables ops [] ≡ ok catalog
   pub tables : arranged by_id catalog ≡ x.tables
-  pub rowsets : Alike pair_of x.pairs (rowsets-to-open ops [])
-  pub dvs : Alike triple_of x.vectors (dvs-to-open ops [])
+  pub rowsets : Alike pair_of x.pairs (rowsets_to_open ops [])
+  pub dvs : Alike triple_of x.vectors (dvs_to_open ops [])
 
 pub boots-more : (ops os : List Operation) (x : Sets) → TablesFind os x.tables → Boots ops x → Boots (ops ++ os) (apply_all os x)
 boots-more ops os x f b =
     let c = follows os b.catalog x b.tables f in
     record {
       catalog = c.left;
-      runs = tables-append ops os [] ∙ ap (λ o. and_then o (apply-tables os)) b.runs ∙ c.runs;
+      runs = tables-append ops os [] ∙ ap (λ o. and_then o (apply_tables os)) b.runs ∙ c.runs;
       tables = c.same;
-      rowsets = subst (Alike pair_of (apply_all os x).pairs) (sym (through-append open_rowset ops os [])) (rowsets-alike os x (rowsets-to-open ops []) b.rowsets);
-      dvs = subst (Alike triple_of (apply_all os x).vectors) (sym (through-append open_dv ops os [])) (dvs-alike os x (dvs-to-open ops []) b.dvs);
+      rowsets = subst (Alike pair_of (apply_all os x).pairs) (sym (through-append open_rowset ops os [])) (rowsets-alike os x (rowsets_to_open ops []) b.rowsets);
+      dvs = subst (Alike triple_of (apply_all os x).vectors) (sym (through-append open_dv ops os [])) (dvs-alike os x (dvs_to_open ops []) b.dvs);
     }
 
 -- Replay.

@@ -31,7 +31,7 @@ use Rattle.risinglight.specs.Maps.{unwrap_or, contains, with_number, without_num
 use Rattle.risinglight.specs.Numbers.{wrapping}
 use Rattle.risinglight.specs.Transaction.{pushed, split_on, split, DeleteVector, dvs}
 use Rattle.risinglight.specs.DeleteVector as vector
-use Rattle.risinglight.specs.Groupings.{by_key, Walks, grouping-order, vector_in, by_rowset, following, GroupingLaws}
+use Rattle.risinglight.specs.Groupings.{by_key, Walks, grouping_order, vector_in, by_rowset, following, GroupingLaws}
 use Rattle.risinglight.proofs.Maps.{get-insert, contains-with, contains-without}
 use Rattle.risinglight.proofs.DeleteVectorRows.{new-memory}
 use Rattle.risinglight.proofs.Selections.{is_in-contains, arranged-sorted}
@@ -140,7 +140,7 @@ made-split hs =
     ∙ ap (map (vector_of hs))
     (arranged-map (λ (b : Binding (List ℕ)). b.key) by_key row_key (λ b. Unit {0}) (λ x y p q. refl) (split hs) (all_any (split hs) (λ b. tt)) ∙ rowsets-split hs)
 
-dv-ids : (v : ℕ) (m : List (Binding (List ℕ))) → v + length m ≤ largest64 → map (λ (x : DeleteVector). x.dv-id) (dvs v m) ≡ following v (length m)
+dv-ids : (v : ℕ) (m : List (Binding (List ℕ))) → v + length m ≤ largest64 → map (λ (x : DeleteVector). x.dv_id) (dvs v m) ≡ following v (length m)
 dv-ids v [] h = refl
 dv-ids v (b ∷ m) h =
     let q : wrapping (v + 1) ≡ v + 1 = omega arith in
@@ -160,12 +160,12 @@ module _ (hs : List Handle) (m : List (Binding (List ℕ))) (next : ℕ) (w : Wa
   same_count : length m ≡ length (vectors_of hs)
   same_count = sym (length-map (arranged by_key m) made ∙ length-arranged by_key m) ∙ ap length made-walked
 
-  same-ids : used_up next (vectors_of hs) ≡ false → map (λ (v : DeleteVector). v.dv-id) (dvs next m) ≡ following next (length (vectors_of hs))
+  same-ids : used_up next (vectors_of hs) ≡ false → map (λ (v : DeleteVector). v.dv_id) (dvs next m) ≡ following next (length (vectors_of hs))
   same-ids h =
       let q = ltb-false largest64 (next + length (vectors_of hs)) h in
       dv-ids next m (omega (arith, same_count)) ∙ ap (following next) same_count
 
-  same-upwards : grouping-order m ≡ false → map vector_in (dvs next m) ≡ vectors_of hs
+  same-upwards : grouping_order m ≡ false → map vector_in (dvs next m) ≡ vectors_of hs
   same-upwards h =
       let up : ascending by_key m ≡ true = by_cases (ascending by_key m) (λ e. e) (λ e. clash (ap not e) h) in
       dvs-made next m
@@ -173,7 +173,7 @@ module _ (hs : List Handle) (m : List (Binding (List ℕ))) (next : ℕ) (w : Wa
       ∙ made-walked
 
 accepted-ids : (m : VersionManager) (h : Handles) (rs ls cs fs ms : List ℕ) (b : List (Binding (List ℕ))) → group_verdict m h rs ls cs fs ms ≡ Accepted → Walks (handles_of h) b
-    → map (λ (v : DeleteVector). v.dv-id) (dvs (held_by m).next_vector b) ≡ following (held_by m).next_vector (length (grouped_by h))
+    → map (λ (v : DeleteVector). v.dv_id) (dvs (held_by m).next_vector b) ≡ following (held_by m).next_vector (length (grouped_by h))
 accepted-ids m h rs ls cs fs ms b a w =
     let next = (held_by m).next_vector in
     let rules = (bad_manager m ⇒ BadManager) ∷ group_rules (handles_of h) h.count next (length rs) (length ls) (length cs) (length fs) (length ms) in

@@ -22,7 +22,7 @@ use Rattle.plain_record.specs.Plain.{Id, ids_of, Plain, Former, gone, Record, re
 use Rattle.plain_record.specs.Plain as plain
 use Rattle.plain_record.specs.Claim.{below_next}
 use Rattle.risinglight.specs.Manifest.{Value, frame, replay}
-use Rattle.risinglight.specs.VersionManager.{Inner, find-vacuum}
+use Rattle.risinglight.specs.VersionManager.{Inner, find_vacuum}
 use Rattle.risinglight.specs.Storage.{NextId, next_id, storage}
 use Rattle.risinglight.specs.Run.{Engine, engine, landing, landed}
 use Rattle.risinglight.proofs.Changes.{adds_any, of_pairs, of_vectors}
@@ -121,16 +121,16 @@ module _ (g : Engine) (m : State) (r : Record) (k : Pool g m r) where
 
   -- a vacuum, which lists what is gone by the epoch b
   module _ (b : ℕ) (s : State) (p : Plain) (place : ℕ) (ordered : Ascending by_ids m.pairs) (left : s ≡ vacuumed b m)
-      (answer : arranged itself (find-vacuum g.running.version).deletions ≡ arranged itself (map by_ids (vacuum_list b m))) (added : p.added ≡ r.whole.added) where
-    listed-alike : (j : List ℕ) → has itself j (find-vacuum g.running.version).deletions ≡ has by_ids j (keep (gone_by b) m.pairs)
+      (answer : arranged itself (find_vacuum g.running.version).deletions ≡ arranged itself (map by_ids (vacuum_list b m))) (added : p.added ≡ r.whole.added) where
+    listed-alike : (j : List ℕ) → has itself j (find_vacuum g.running.version).deletions ≡ has by_ids j (keep (gone_by b) m.pairs)
     listed-alike j =
-        sym (has-arranged j (find-vacuum g.running.version).deletions)
+        sym (has-arranged j (find_vacuum g.running.version).deletions)
         ∙ ap (has itself j) answer
         ∙ has-arranged j (map by_ids (vacuum_list b m))
         ∙ any_of-map by_ids (is_at itself j) (vacuum_list b m)
         ∙ any-arranged by_deletion (is_at by_ids j) (keep (gone_by b) m.pairs)
 
-    pub pool-vacuum : Pool (landed (find-vacuum g.running.version).left g.running.next g) s (recorded p p gone place)
+    pub pool-vacuum : Pool (landed (find_vacuum g.running.version).left g.running.next g) s (recorded p p gone place)
     pool-vacuum =
         record {
           rowsets = λ j.
@@ -138,7 +138,7 @@ module _ (g : Engine) (m : State) (r : Record) (k : Pool g m r) where
               ∙ kept-apart (gone_by b) j m.pairs ordered
               ∙ ap (λ y. not (has by_ids j (keep (gone_by b) m.pairs)) && y) (k.rowsets j)
               ∙ ap (λ y. not y && has itself j g.running.version.rowsets) (sym (listed-alike j))
-              ∙ sym (has-released j (find-vacuum g.running.version).deletions g.running.version.rowsets);
+              ∙ sym (has-released j (find_vacuum g.running.version).deletions g.running.version.rowsets);
           dvs = λ t q v h. k.dvs t q v (has_kept (λ x. not (gone_by b x)) (t ∷ q ∷ v ∷ []) m.vectors (sym (ap (λ (u : State). has by_ids (t ∷ q ∷ v ∷ []) u.vectors) left) ∙ h));
           next_rowset = subst (NotAbove g.starts g.running.next.rowset) (sym (ap (λ (u : State). u.next_rowset) left)) k.next_rowset;
           next_dv = subst (NotAbove g.starts g.running.next.dv) (sym (ap (λ (u : State). u.next_vector) left)) k.next_dv;

@@ -27,7 +27,7 @@ use Rattle.plain_record.specs.Sets.{itself}
 use Rattle.plain_record.specs.Plain.{Id, table_id, rowset_id, vector_id, ids_by, ids_of}
 use Rattle.plain_record.specs.Claim.{below_next}
 use Rattle.plain_record.proofs.CommitSets.{steps_on}
-use Rattle.risinglight.specs.Storage.{NextId, raise, raised, Rowset, pair_of, open_rowset, rowsets-to-open, Dv, triple_of, open_dv, dvs-to-open, table-changeset, changeset}
+use Rattle.risinglight.specs.Storage.{NextId, raise, raised, Rowset, pair_of, open_rowset, rowsets_to_open, Dv, triple_of, open_dv, dvs_to_open, table_changeset, changeset}
 use Rattle.risinglight.specs.VersionManager.{released}
 use Rattle.risinglight.proofs.Maps.{has-without, shuffle}
 use Rattle.risinglight.proofs.Changes.{adds_it, adds_any, of_pairs, of_vectors}
@@ -208,7 +208,7 @@ module _ (P : Id → Bool) where
   without_all Q q [] h = tt
   without_all Q q (x ∷ l) h = by_cases (q x) (λ e. rw e (h.0, without_all Q q l h.1)) (λ e. rw e (without_all Q q l h.1))
 
-  rowsets-have : (os : List Operation) (l : List Rowset) → all_of P (ids_of os) ≡ true → All RowsetHas l → All RowsetHas (rowsets-to-open os l)
+  rowsets-have : (os : List Operation) (l : List Rowset) → all_of P (ids_of os) ≡ true → All RowsetHas l → All RowsetHas (rowsets_to_open os l)
   rowsets-have [] l h a = a
   rowsets-have (create_table t z n ∷ os) l h a = rowsets-have os l (both (P (table_id t)) (all_of P (ids_of os)) h).1 a
   rowsets-have (drop_table t ∷ os) l h a = rowsets-have os l h a
@@ -220,7 +220,7 @@ module _ (P : Id → Bool) where
   rowsets-have (delete_vector t r v ∷ os) l h a = rowsets-have os l h a
   rowsets-have (next_ids t r v ∷ os) l h a = rowsets-have os l h a
 
-  dvs-have : (os : List Operation) (l : List Dv) → all_of P (ids_of os) ≡ true → All DvHas l → All DvHas (dvs-to-open os l)
+  dvs-have : (os : List Operation) (l : List Dv) → all_of P (ids_of os) ≡ true → All DvHas l → All DvHas (dvs_to_open os l)
   dvs-have [] l h a = a
   dvs-have (create_table t z n ∷ os) l h a = dvs-have os l (both (P (table_id t)) (all_of P (ids_of os)) h).1 a
   dvs-have (drop_table t ∷ os) l h a = dvs-have os l h a
@@ -232,7 +232,7 @@ module _ (P : Id → Bool) where
   dvs-have (delete_vector t r v ∷ os) l h a = dvs-have os (open_dv (delete_vector t r v) l) h (without_all DvHas (λ y. not (is_at triple_of (t ∷ r ∷ v ∷ []) y)) l a)
   dvs-have (next_ids t r v ∷ os) l h a = dvs-have os l h a
 
-  tables-have : (os : List Operation) → all_of P (ids_of os) ≡ true → all_of P (ids_of (table-changeset os)) ≡ true
+  tables-have : (os : List Operation) → all_of P (ids_of os) ≡ true → all_of P (ids_of (table_changeset os)) ≡ true
   tables-have [] h = refl
   tables-have (create_table t z n ∷ os) h =
       let k = both (P (table_id t)) (all_of P (ids_of os)) h in
@@ -252,10 +252,10 @@ module _ (P : Id → Bool) where
   opened-dvs [] h = refl
   opened-dvs (x ∷ l) h = join h.0 (opened-dvs l h.1)
 
-  pub written-ids : (ops : List Operation) → all_of P (ids_of ops) ≡ true → all_of P (ids_of (changeset (rowsets-to-open ops []) (dvs-to-open ops []) (table-changeset ops))) ≡ true
+  pub written-ids : (ops : List Operation) → all_of P (ids_of ops) ≡ true → all_of P (ids_of (changeset (rowsets_to_open ops []) (dvs_to_open ops []) (table_changeset ops))) ≡ true
   written-ids ops h =
-      let rs = map (λ (x : Rowset). add_rowset x.table x.rowset) (rowsets-to-open ops []) in
-      let vs = map (λ (x : Dv). add_vector x.table x.rowset x.dv) (dvs-to-open ops []) in
-      ids-append P rs (vs ++ table-changeset ops)
-      ∙ join (opened-rowsets (rowsets-to-open ops []) (rowsets-have ops [] h tt))
-      (ids-append P vs (table-changeset ops) ∙ join (opened-dvs (dvs-to-open ops []) (dvs-have ops [] h tt)) (tables-have ops h))
+      let rs = map (λ (x : Rowset). add_rowset x.table x.rowset) (rowsets_to_open ops []) in
+      let vs = map (λ (x : Dv). add_vector x.table x.rowset x.dv) (dvs_to_open ops []) in
+      ids-append P rs (vs ++ table_changeset ops)
+      ∙ join (opened-rowsets (rowsets_to_open ops []) (rowsets-have ops [] h tt))
+      (ids-append P vs (table_changeset ops) ∙ join (opened-dvs (dvs_to_open ops []) (dvs-have ops [] h tt)) (tables-have ops h))

@@ -29,9 +29,9 @@ use Rattle.plain_record.proofs.Vacuum.{keep-arranged, map-map}
 use Rattle.risinglight.specs.Maps.{ok, unwrap_or, Binding, get, insert, remove}
 use Rattle.risinglight.specs.Snapshot.{Snapshot}
 use Rattle.risinglight.specs.Manifest.{Value, frame, replay}
-use Rattle.risinglight.specs.VersionManager.{Inner, Changing, changing, latest, committed, commit-changes, with_counts, Pinned, Dropped, dropped, vacuum-epoch, can-apply, find-vacuum}
+use Rattle.risinglight.specs.VersionManager.{Inner, Changing, changing, latest, committed, commit_changes, with_counts, Pinned, Dropped, dropped, vacuum_epoch, can_apply, find_vacuum}
 use Rattle.risinglight.specs.VersionManager as version
-use Rattle.risinglight.specs.Storage.{Storage, storage, apply-tables}
+use Rattle.risinglight.specs.Storage.{Storage, storage, apply_tables}
 use Rattle.risinglight.specs.Run.{Engine, engine, landing, landed}
 use Rattle.risinglight.specs.Agreement.{deletions_in}
 use Rattle.risinglight.proofs.Maps.{get-insert, get-remove}
@@ -52,9 +52,9 @@ pub record Beside (s : Storage) (p : Plain) : Type 0 where
   pub epoch : s.version.epoch ≡ epoch_of p
   pub now : Shows (latest s.version) p.now
   pub status : (d : ℕ) → 1 ≤ d → d ≤ epoch_of p → Showing (get d s.version.status) (sets_at d p)
-  pub counts : (d : ℕ) → get d s.version.ref-cnt ≡ counts.counted (pins_at (place_on d) p.pinned)
-  pub waiting : arranged itself (deletions_in s.version.rowset-deletion-to-apply) ≡ waiting_of p
-  pub up_to : UpTo s.version.epoch s.version.rowset-deletion-to-apply
+  pub counts : (d : ℕ) → get d s.version.ref_cnt ≡ counts.counted (pins_at (place_on d) p.pinned)
+  pub waiting : arranged itself (deletions_in s.version.rowset_deletion_to_apply) ≡ waiting_of p
+  pub up_to : UpTo s.version.epoch s.version.rowset_deletion_to_apply
   pub catalog : arranged by_id s.catalog ≡ p.now.tables
   pub file : Filed s.manifest p.now
 
@@ -80,7 +80,7 @@ module _ (s : Storage) (p : Plain) (b : Beside s p) (os : List Operation) (f : F
   abbrev after : Inner
   after = committed m change.left
 
-  commit-runs : commit-changes os m ≡ ok after
+  commit-runs : commit_changes os m ≡ ok after
   commit-runs = rw change.runs
 
   get-new : get (m.epoch + 1) after.status ≡ some change.left.snapshot
@@ -108,11 +108,11 @@ module _ (s : Storage) (p : Plain) (b : Beside s p) (os : List Operation) (f : F
       let q : d ≡ m.epoch + 1 = omega (arith, leb-false d m.epoch t, long) in
       rw (q, get-new, sets-new) change.shows)
 
-  waiting-after : arranged itself (deletions_in after.rowset-deletion-to-apply) ≡ waiting_of (counted c os p)
+  waiting-after : arranged itself (deletions_in after.rowset_deletion_to_apply) ≡ waiting_of (counted c os p)
   waiting-after =
       let e = m.epoch + 1 in
-      ap (arranged itself) (inserted m.epoch e change.left.deletions m.rowset-deletion-to-apply (omega arith) b.up_to)
-      ∙ arranged-append (map (λ k. e ∷ k) change.left.deletions) (deletions_in m.rowset-deletion-to-apply)
+      ap (arranged itself) (inserted m.epoch e change.left.deletions m.rowset_deletion_to_apply (omega arith) b.up_to)
+      ∙ arranged-append (map (λ k. e ∷ k) change.left.deletions) (deletions_in m.rowset_deletion_to_apply)
       ∙ ap (placed_all (map (λ k. e ∷ k) change.left.deletions)) b.waiting
       ∙ ap (λ l. placed_all (map (λ k. e ∷ k) l) (waiting_of p)) change.deletions
       ∙ ap (λ l. placed_all l (waiting_of p)) (sym (deleted-keys c e 0 os))
@@ -130,7 +130,7 @@ module _ (s : Storage) (p : Plain) (b : Beside s p) (os : List Operation) (f : F
         status = status-after;
         counts = b.counts;
         waiting = waiting-after;
-        up_to = (omega arith, all_keep (λ (x : Binding (List (List ℕ))). x.key ≤ m.epoch + 1) (λ x. not (eqb x.key (m.epoch + 1))) m.rowset-deletion-to-apply (up-later m.epoch (m.epoch + 1) m.rowset-deletion-to-apply (omega arith) b.up_to));
+        up_to = (omega arith, all_keep (λ (x : Binding (List (List ℕ))). x.key ≤ m.epoch + 1) (λ x. not (eqb x.key (m.epoch + 1))) m.rowset_deletion_to_apply (up-later m.epoch (m.epoch + 1) m.rowset_deletion_to_apply (omega arith) b.up_to));
         catalog = follow.same;
         file = filed-more s.manifest os p.now f.tables b.file;
       }
@@ -150,8 +150,8 @@ pub record Committing (cut : ℕ) (g : Engine) (r : Record) (os : List Operation
   pub rowsets : (k : List ℕ) → has itself k (version).rowsets ≡ adds_any of_pairs os k || has itself k g.running.version.rowsets
   pub dvs : (k : List ℕ) → has itself k (version).dvs ≡ adds_any of_vectors os k || has itself k g.running.version.dvs
   pub catalog : List Table
-  pub runs : commit-changes os g.running.version ≡ ok version
-  pub follows : apply-tables os g.running.catalog ≡ ok catalog
+  pub runs : commit_changes os g.running.version ≡ ok version
+  pub follows : apply_tables os g.running.catalog ≡ ok catalog
   pub rel :
       let file = g.running.manifest in
       Rel (engine (storage catalog version g.running.next (file ++ frame os)) (file ++ take (landing missing cut (length (frame os))) (frame os)) g.starts) (counts os missing r)
@@ -190,7 +190,7 @@ some-shown none x h = absurd h
 some-shown (some s) x h = (s, refl)
 
 pin-runs : (m : Inner) (s : Snapshot) → get m.epoch m.status ≡ some s
-    → version.pin m ≡ ok (record { epoch = m.epoch; snapshot = s; left = with_counts (insert m.epoch (unwrap_or 0 (get m.epoch m.ref-cnt) + 1) m.ref-cnt) m })
+    → version.pin m ≡ ok (record { epoch = m.epoch; snapshot = s; left = with_counts (insert m.epoch (unwrap_or 0 (get m.epoch m.ref_cnt) + 1) m.ref_cnt) m })
 pin-runs m s h = rw h
 
 module _ (g : Engine) (r : Record) (k : Rel g r) where
@@ -212,8 +212,8 @@ module _ (g : Engine) (r : Record) (k : Rel g r) where
       let q = k.whole.epoch in
       let o = some-shown (get e running.status) (sets_at e p) (k.whole.status e (omega (arith, q)) (omega (arith, q))) in
       let n = pins_at (place_on e) p.pinned in
-      let back : unwrap_or 0 (get e running.ref-cnt) ≡ n = ap (unwrap_or 0) (k.whole.counts e) ∙ counted_back n in
-      let c = insert e (unwrap_or 0 (get e running.ref-cnt) + 1) running.ref-cnt in
+      let back : unwrap_or 0 (get e running.ref_cnt) ≡ n = ap (unwrap_or 0) (k.whole.counts e) ∙ counted_back n in
+      let c = insert e (unwrap_or 0 (get e running.ref_cnt) + 1) running.ref_cnt in
       record {
         result = record { epoch = e; snapshot = o.0; left = with_counts c running };
         runs = pin-runs running o.0 o.1;
@@ -224,8 +224,8 @@ module _ (g : Engine) (r : Record) (k : Rel g r) where
             subst (λ (d : ℕ). Rel (landed (with_counts c running) g.running.next g) (plain.repinned (recounted (place_on d) (pins_at (place_on d) p.pinned + 1) p.pinned) r)) q
             (rel-landed (storage g.running.catalog (with_counts c running) g.running.next g.running.manifest) (with_pins (recounted (place_on e) (n + 1) p.pinned) p) g.starts r.former (r.place + 1)
             (beside-counts g.running p c (recounted (place_on e) (n + 1) p.pinned) k.whole
-            (λ d. get-insert d e (unwrap_or 0 (get e running.ref-cnt) + 1) running.ref-cnt
-            ∙ recounts e (n + 1) d p.pinned (some (unwrap_or 0 (get e running.ref-cnt) + 1)) running.ref-cnt k.whole.counts (ap (λ (x : ℕ). some (x + 1)) back ∙ sym (counted-some (n + 1) (omega arith))))));
+            (λ d. get-insert d e (unwrap_or 0 (get e running.ref_cnt) + 1) running.ref_cnt
+            ∙ recounts e (n + 1) d p.pinned (some (unwrap_or 0 (get e running.ref_cnt) + 1)) running.ref_cnt k.whole.counts (ap (λ (x : ℕ). some (x + 1)) back ∙ sym (counted-some (n + 1) (omega arith))))));
       }
 
   pub record DropsOne (e : ℕ) : Type 0 where
@@ -240,10 +240,10 @@ module _ (g : Engine) (r : Record) (k : Rel g r) where
   drops-one e h =
       let p = r.whole in
       let n = pins_at (place_on e) p.pinned in
-      let o : get e running.ref-cnt ≡ some n = k.whole.counts e ∙ counted-some n h in
+      let o : get e running.ref_cnt ≡ some n = k.whole.counts e ∙ counted-some n h in
       by_cases (eqb (n - 1) 0)
       (λ t.
-      let c = remove e running.ref-cnt in
+      let c = remove e running.ref_cnt in
       record {
         result = dropped (not (eqb e running.epoch)) (with_counts c running);
         runs = rw (o, t);
@@ -253,10 +253,10 @@ module _ (g : Engine) (r : Record) (k : Rel g r) where
         rel =
             rel-landed (storage g.running.catalog (with_counts c running) g.running.next g.running.manifest) (with_pins (recounted (place_on e) (n - 1) p.pinned) p) g.starts r.former (r.place + 1)
             (beside-counts g.running p c (recounted (place_on e) (n - 1) p.pinned) k.whole
-            (λ d. get-remove d e running.ref-cnt ∙ recounts e (n - 1) d p.pinned none running.ref-cnt k.whole.counts (ap counts.counted (sym (eqb-true (n - 1) 0 t)))));
+            (λ d. get-remove d e running.ref_cnt ∙ recounts e (n - 1) d p.pinned none running.ref_cnt k.whole.counts (ap counts.counted (sym (eqb-true (n - 1) 0 t)))));
       })
       (λ t.
-      let c = insert e (n - 1) running.ref-cnt in
+      let c = insert e (n - 1) running.ref_cnt in
       record {
         result = dropped false (with_counts c running);
         runs = rw (o, t);
@@ -266,7 +266,7 @@ module _ (g : Engine) (r : Record) (k : Rel g r) where
         rel =
             rel-landed (storage g.running.catalog (with_counts c running) g.running.next g.running.manifest) (with_pins (recounted (place_on e) (n - 1) p.pinned) p) g.starts r.former (r.place + 1)
             (beside-counts g.running p c (recounted (place_on e) (n - 1) p.pinned) k.whole
-            (λ d. get-insert d e (n - 1) running.ref-cnt ∙ recounts e (n - 1) d p.pinned (some (n - 1)) running.ref-cnt k.whole.counts (sym (counted-some (n - 1) (positive (n - 1) (eqb-false (n - 1) 0 t))))));
+            (λ d. get-insert d e (n - 1) running.ref_cnt ∙ recounts e (n - 1) d p.pinned (some (n - 1)) running.ref_cnt k.whole.counts (sym (counted-some (n - 1) (positive (n - 1) (eqb-false (n - 1) 0 t))))));
       })
     where
       positive : (n : ℕ) → (n ≡ 0 → ⊥) → 1 ≤ n
@@ -276,7 +276,7 @@ module _ (g : Engine) (r : Record) (k : Rel g r) where
   -- A vacuum.
   module _ (pinning : Pinning r.whole.pinned) where
     abbrev dels : List (Binding (List (List ℕ)))
-    dels = running.rowset-deletion-to-apply
+    dels = running.rowset_deletion_to_apply
 
     abbrev free : List ℕ → Bool
     free x = not (blocked (guards_in r.whole) (get_or x 0 0))
@@ -284,7 +284,7 @@ module _ (g : Engine) (r : Record) (k : Rel g r) where
     abbrev held : List ℕ → Bool
     held x = blocked (guards_in r.whole) (get_or x 0 0)
 
-    applied : (x : List ℕ) → get_or x 0 0 ≤ running.epoch → leb (get_or x 0 0) (vacuum-epoch running) ≡ free x
+    applied : (x : List ℕ) → get_or x 0 0 ≤ running.epoch → leb (get_or x 0 0) (vacuum_epoch running) ≡ free x
     applied x h =
         applies running r.whole.pinned (get_or x 0 0) pinning k.whole.counts h
         ∙ ap (λ (e : ℕ). not (blocked (guards_by e r.whole.pinned) (get_or x 0 0))) k.whole.epoch
@@ -293,15 +293,15 @@ module _ (g : Engine) (r : Record) (k : Rel g r) where
     not-not true = refl
     not-not false = refl
 
-    now-free : deletions_in (keep (can-apply running) dels) ≡ keep free (deletions_in dels)
+    now-free : deletions_in (keep (can_apply running) dels) ≡ keep free (deletions_in dels)
     now-free =
-        deletions-kept (λ e. leb e (vacuum-epoch running)) dels
-        ∙ keep_same (λ x. leb (get_or x 0 0) (vacuum-epoch running)) free (deletions_in dels) (all_map (deletions_in dels) applied (epochs-up running.epoch dels k.whole.up_to))
+        deletions-kept (λ e. leb e (vacuum_epoch running)) dels
+        ∙ keep_same (λ x. leb (get_or x 0 0) (vacuum_epoch running)) free (deletions_in dels) (all_map (deletions_in dels) applied (epochs-up running.epoch dels k.whole.up_to))
 
-    still-held : deletions_in (keep (λ b. not (can-apply running b)) dels) ≡ keep held (deletions_in dels)
+    still-held : deletions_in (keep (λ b. not (can_apply running b)) dels) ≡ keep held (deletions_in dels)
     still-held =
-        deletions-kept (λ e. not (leb e (vacuum-epoch running))) dels
-        ∙ keep_same (λ x. not (leb (get_or x 0 0) (vacuum-epoch running))) held (deletions_in dels)
+        deletions-kept (λ e. not (leb e (vacuum_epoch running))) dels
+        ∙ keep_same (λ x. not (leb (get_or x 0 0) (vacuum_epoch running))) held (deletions_in dels)
         (all_map (deletions_in dels) (λ x h. ap not (applied x h) ∙ not-not (held x)) (epochs-up running.epoch dels k.whole.up_to))
 
     listed-keys : map pair_in (keep free (waiting_of r.whole)) ≡ pairs_of (listed r.whole)
@@ -309,30 +309,30 @@ module _ (g : Engine) (r : Record) (k : Rel g r) where
         ap (map pair_in) (keep-map by_epoch_and_pair free r.whole.waiting)
         ∙ map-map by_epoch_and_pair pair_in (listed r.whole)
 
-    pub vacuum-answer : arranged itself (find-vacuum running).deletions ≡ arranged itself (pairs_of (listed r.whole))
+    pub vacuum-answer : arranged itself (find_vacuum running).deletions ≡ arranged itself (pairs_of (listed r.whole))
     vacuum-answer =
-        ap (arranged itself) (extended-pairs (keep (can-apply running) dels) ∙ ap (map pair_in) now-free)
+        ap (arranged itself) (extended-pairs (keep (can_apply running) dels) ∙ ap (map pair_in) now-free)
         ∙ sym (arranged-map pair_in (keep free (deletions_in dels)))
         ∙ ap (λ l. arranged itself (map pair_in l)) (sym (keep-arranged itself free (deletions_in dels)) ∙ ap (keep free) k.whole.waiting)
         ∙ ap (arranged itself) listed-keys
 
-    waiting-left : arranged itself (deletions_in (find-vacuum running).left.rowset-deletion-to-apply) ≡ waiting_of (swept r.whole)
+    waiting-left : arranged itself (deletions_in (find_vacuum running).left.rowset_deletion_to_apply) ≡ waiting_of (swept r.whole)
     waiting-left =
         ap (arranged itself) still-held
         ∙ sym (keep-arranged itself held (deletions_in dels))
         ∙ ap (keep held) k.whole.waiting
         ∙ keep-map by_epoch_and_pair held r.whole.waiting
 
-    pub vacuum-rel : Rel (landed (find-vacuum running).left g.running.next g) (plain.landed (swept r.whole) r)
+    pub vacuum-rel : Rel (landed (find_vacuum running).left g.running.next g) (plain.landed (swept r.whole) r)
     vacuum-rel =
-        rel-landed (storage g.running.catalog (find-vacuum running).left g.running.next g.running.manifest) (swept r.whole) g.starts gone (r.place + 1)
+        rel-landed (storage g.running.catalog (find_vacuum running).left g.running.next g.running.manifest) (swept r.whole) g.starts gone (r.place + 1)
         (record {
           epoch = k.whole.epoch;
           now = k.whole.now;
           status = k.whole.status;
           counts = k.whole.counts;
           waiting = waiting-left;
-          up_to = all_keep (λ (x : Binding (List (List ℕ))). x.key ≤ running.epoch) (λ b. not (can-apply running b)) dels k.whole.up_to;
+          up_to = all_keep (λ (x : Binding (List (List ℕ))). x.key ≤ running.epoch) (λ b. not (can_apply running b)) dels k.whole.up_to;
           catalog = k.whole.catalog;
           file = k.whole.file;
         })

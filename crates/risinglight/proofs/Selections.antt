@@ -30,8 +30,8 @@ use Rattle.plain_record.specs.Sets.{itself}
 use Rattle.risinglight.specs.Maps.{contains}
 use Rattle.risinglight.specs.Snapshot.{Snapshot, has_rowset}
 use Rattle.risinglight.specs.Numbers.{wrapping}
-use Rattle.risinglight.specs.Compactor.{get-rowsets-of, rowset-id, by_rowset, selecting, select}
-use Rattle.risinglight.specs.Selections.{selected_of, selection-order, wraps_on, selection-wraps, SelectionLaws}
+use Rattle.risinglight.specs.Compactor.{get_rowsets_of, sized_rowset_id, by_rowset, selecting, select}
+use Rattle.risinglight.specs.Selections.{selected_of, selection_order, wraps_on, selection_wraps, SelectionLaws}
 
 pub is_in-contains : (l : List ℕ) (x : ℕ) → is_in l x ≡ contains x l
 is_in-contains [] x = refl
@@ -54,18 +54,18 @@ pub arranged-sorted : {A : Type 0} (key : A → List ℕ) (l : List A) → Sorte
 arranged-sorted key [] s = refl
 arranged-sorted key (x ∷ l) s = ap (placed key x) (arranged-sorted key l s.1) ∙ placed_first key x l s.0
 
-arranged-ids : (l : List Sized) → map rowset-id (arranged by_rowset l) ≡ arranged compactor.by_rowset (map rowset-id l)
-arranged-ids l = arranged-map rowset-id by_rowset compactor.by_rowset (λ x. Unit {0}) (λ x y p q. refl) l (all_any l (λ x. tt))
+arranged-ids : (l : List Sized) → map sized_rowset_id (arranged by_rowset l) ≡ arranged compactor.by_rowset (map sized_rowset_id l)
+arranged-ids l = arranged-map sized_rowset_id by_rowset compactor.by_rowset (λ x. Unit {0}) (λ x y p q. refl) l (all_any l (λ x. tt))
 
 -- where no sum wraps, the rule of one or none and the sort are what is left to compare
-module _ (target : ℕ) (l : List Sized) (w : selection-wraps target l ≡ false) where
+module _ (target : ℕ) (l : List Sized) (w : selection_wraps target l ≡ false) where
   abbrev chosen : List Sized
   chosen = taken target l
 
-  table_taken : select target l ≡ cond (leb (length chosen) 1) [] (map rowset-id (arranged by_rowset chosen))
-  table_taken = ap (λ (k : List Sized). cond (leb (length k) 1) [] (map rowset-id (arranged by_rowset k))) (selecting-on target 0 l w)
+  table_taken : select target l ≡ cond (leb (length chosen) 1) [] (map sized_rowset_id (arranged by_rowset chosen))
+  table_taken = ap (λ (k : List Sized). cond (leb (length k) 1) [] (map sized_rowset_id (arranged by_rowset k))) (selecting-on target 0 l w)
 
-  table_same : (leb (length chosen) 1 ≡ false → map rowset-id (arranged by_rowset chosen) ≡ map rowset-id chosen) → select target l ≡ selected_of target l
+  table_same : (leb (length chosen) 1 ≡ false → map sized_rowset_id (arranged by_rowset chosen) ≡ map sized_rowset_id chosen) → select target l ≡ selected_of target l
   table_same h = table_taken ∙ by_cases (leb (length chosen) 1) (λ e. rw e) (λ e. rw e (h e))
 
 taken-all : (P : Sized → Type 0) (target n : ℕ) (l : List Sized) → All P l → All P (taken_on target n l)
@@ -82,17 +82,17 @@ taken-rises target n (x ∷ l) h =
     (λ e. rw e (taken-all (λ y. less (by_rowset x) (by_rowset y) ≡ true) target (n + x.size) l h.0, taken-rises target (n + x.size) l h.1))
     (λ e. rw e (taken-rises target n l h.1))
 
-upwards-same : (target : ℕ) (l : List Sized) → selection-order l ≡ false → selection-wraps target l ≡ false → select target l ≡ selected_of target l
+upwards-same : (target : ℕ) (l : List Sized) → selection_order l ≡ false → selection_wraps target l ≡ false → select target l ≡ selected_of target l
 upwards-same target l h w =
     let up : ascending by_rowset l ≡ true = by_cases (ascending by_rowset l) (λ e. e) (λ e. clash (ap not e) h) in
     table_same target l w
-    (λ e. ap (map rowset-id) (arranged-sorted by_rowset (taken target l) (ascending-sorted by_rowset (taken target l) (taken-rises target 0 l (ascend-to by_rowset l up)))))
+    (λ e. ap (map sized_rowset_id) (arranged-sorted by_rowset (taken target l) (ascending-sorted by_rowset (taken target l) (taken-rises target 0 l (ascend-to by_rowset l up)))))
 
-shown-same : (m : VersionManagerInner) → bad_inner m ≡ false → (t target : ℕ) (ns : List ℕ) → selection-wraps target (sized (rowsets_now t (state_of m)) ns) ≡ false
+shown-same : (m : VersionManagerInner) → bad_inner m ≡ false → (t target : ℕ) (ns : List ℕ) → selection_wraps target (sized (rowsets_now t (state_of m)) ns) ≡ false
     → select target (sized (rowsets_now t (state_of m)) ns) ≡ selected t target ns (state_of m)
 shown-same m g t target ns w =
     let l = sized (rowsets_now t (state_of m)) ns in
-    let ids = map rowset-id (taken target l) in
+    let ids = map sized_rowset_id (taken target l) in
     table_same target l w
     (λ e.
     let up : ascending compactor.by_rowset ids ≡ true = rw e at (selected-rises m g t target ns) in
@@ -108,11 +108,11 @@ zeros-taken : (rs : List ℕ) → taken_on 0 0 (sized rs (zeros rs)) ≡ sized r
 zeros-taken [] = refl
 zeros-taken (r ∷ rs) = ap (λ (l : List Sized). sized_as r 0 ∷ l) (zeros-taken rs)
 
-zeros-ids : (rs : List ℕ) → map rowset-id (sized rs (zeros rs)) ≡ rs
+zeros-ids : (rs : List ℕ) → map sized_rowset_id (sized rs (zeros rs)) ≡ rs
 zeros-ids [] = refl
 zeros-ids (r ∷ rs) = ap (λ (l : List ℕ). r ∷ l) (zeros-ids rs)
 
-few-rise : (l : List Sized) → leb (length l) 1 ≡ true → Ascending row_key (map rowset-id l)
+few-rise : (l : List Sized) → leb (length l) 1 ≡ true → Ascending row_key (map sized_rowset_id l)
 few-rise [] h = tt
 few-rise (x ∷ []) h = (tt, tt)
 few-rise (x ∷ (y ∷ l)) h = absurd (omega (arith, leb-true (length (x ∷ (y ∷ l))) 1 h))
@@ -122,11 +122,11 @@ now-rises m g t =
     let rs = rowsets_now t (state_of m) in
     let l = sized rs (zeros rs) in
     let q : taken 0 l ≡ l = zeros-taken rs in
-    let up : ascending row_key (map rowset-id (compacted l)) ≡ true = subst (λ (k : List Sized). ascending row_key (map rowset-id (compacted k)) ≡ true) q (selected-rises m g t 0 (zeros rs)) in
+    let up : ascending row_key (map sized_rowset_id (compacted l)) ≡ true = subst (λ (k : List Sized). ascending row_key (map sized_rowset_id (compacted k)) ≡ true) q (selected-rises m g t 0 (zeros rs)) in
     subst (Ascending row_key) (zeros-ids rs)
     (by_cases (leb (length l) 1)
     (λ e. few-rise l e)
-    (λ e. let v : ascending row_key (map rowset-id l) ≡ true = rw e at up in ascend-to row_key (map rowset-id l) v))
+    (λ e. let v : ascending row_key (map sized_rowset_id l) ≡ true = rw e at up in ascend-to row_key (map sized_rowset_id l) v))
 
 -- they are those of the pairs
 abbrev Pair : List ℕ → Type 0
@@ -149,11 +149,11 @@ now-has t r (k ∷ l) h =
     (λ e. rw (q, e) ih)
 
 set-walked : (m : VersionManagerInner) → bad_inner m ≡ false → (t : ℕ) (s : Snapshot) → ((r : ℕ) → has itself (t ∷ r ∷ []) (pairs_at m.epoch (state_of m)) ≡ has_rowset t r s)
-    → in_memory (get-rowsets-of t s) ≡ rowsets_now t (state_of m)
+    → in_memory (get_rowsets_of t s) ≡ rowsets_now t (state_of m)
 set-walked m g t s h =
     let rs = rowsets_now t (state_of m) in
-    laws-hold.one_form (get-rowsets-of t s) rs
-    (λ r. is_in-contains (get-rowsets-of t s) r ∙ sym (h r) ∙ sym (now-has t r (pairs_at m.epoch (state_of m)) (pairs-now m)) ∙ sym (is_in-contains rs r))
+    laws-hold.one_form (get_rowsets_of t s) rs
+    (λ r. is_in-contains (get_rowsets_of t s) r ∙ sym (h r) ∙ sym (now-has t r (pairs_at m.epoch (state_of m)) (pairs-now m)) ∙ sym (is_in-contains rs r))
     ∙ memory-of rs (now-rises m g t)
 
 fits_on : (target n : ℕ) (l : List Sized) → n + total l ≤ largest64 → wraps_on target n l ≡ false
@@ -183,12 +183,12 @@ total-arranged (x ∷ l) = let h = total-placed x (arranged by_rowset l) in let 
 all_same : (target : ℕ) (l : List Sized) → total l ≤ target → target ≤ largest64 → select target l ≡ selected_of target (arranged by_rowset l)
 all_same target l h k =
     let s = arranged by_rowset l in
-    let w : selection-wraps target l ≡ false = fits_on target 0 l (omega arith) in
+    let w : selection_wraps target l ≡ false = fits_on target 0 l (omega arith) in
     let c : taken target l ≡ l = whole-on target 0 l (omega arith) in
     let d : taken target s ≡ s = whole-on target 0 s (let q = total-arranged l in omega arith) in
     let n : length s ≡ length l = length-arranged by_rowset l in
     table_taken target l w
-    ∙ ap (λ (x : List Sized). cond (leb (length x) 1) [] (map rowset-id (arranged by_rowset x))) c
+    ∙ ap (λ (x : List Sized). cond (leb (length x) 1) [] (map sized_rowset_id (arranged by_rowset x))) c
     ∙ by_cases (leb (length l) 1) (λ e. rw (d, n, e)) (λ e. rw (d, n, e))
 
 pub selections : SelectionLaws

@@ -9,7 +9,7 @@ use borrow.Author.Tests.{eqb-true}
 use Rattle.lists.specs.Order.{same}
 use Rattle.lists.proofs.Tests.{by_cases, clash}
 use Rattle.risinglight.specs.Maps.{ok, unwrap_or, contains, with_number, without_number, Binding, get, insert}
-use Rattle.risinglight.specs.Snapshot.{Snapshot, snapshot, settled, add-rowset, delete-rowset, add-dv, delete-dv, has_rowset, has_dv}
+use Rattle.risinglight.specs.Snapshot.{Snapshot, snapshot, settled, snapshot_add_rowset, snapshot_delete_rowset, snapshot_add_dv, snapshot_delete_dv, has_rowset, has_dv}
 use Rattle.risinglight.proofs.Maps.{contains-without, contains-with, get-insert, get-settled}
 
 -- what a map of sets or maps has at a key
@@ -41,12 +41,12 @@ row-without t r u q m l h =
     (λ e. rw (e, row-there u t m l e h) (contains-without r q l ∙ by_cases (eqb q r) (λ f. rw f) (λ f. rw f)))
     (λ e. rw e))
 
-pub added-rowset : (t r u q : ℕ) (s : Snapshot) → has_rowset t r (add-rowset u q s) ≡ same (u ∷ q ∷ []) (t ∷ r ∷ []) || has_rowset t r s
+pub added-rowset : (t r u q : ℕ) (s : Snapshot) → has_rowset t r (snapshot_add_rowset u q s) ≡ same (u ∷ q ∷ []) (t ∷ r ∷ []) || has_rowset t r s
 added-rowset t r u q s = row-with t r u q s.rowsets
 
 pub record RowsetDeleted (u q : ℕ) (s : Snapshot) : Type 0 where
   pub left : Snapshot
-  pub runs : delete-rowset u q s ≡ ok left
+  pub runs : snapshot_delete_rowset u q s ≡ ok left
   pub rowsets : (t r : ℕ) → has_rowset t r left ≡ not (same (u ∷ q ∷ []) (t ∷ r ∷ [])) && has_rowset t r s
   pub dvs : left.dvs ≡ s.dvs
 
@@ -63,7 +63,7 @@ deleted-rowset u q s h = go (get u s.rowsets) refl h
           dvs = refl;
         }
 
-pub added-dv : (t r v u q w : ℕ) (s : Snapshot) → has_dv t r v (add-dv u q w s) ≡ same (u ∷ q ∷ w ∷ []) (t ∷ r ∷ v ∷ []) || has_dv t r v s
+pub added-dv : (t r v u q w : ℕ) (s : Snapshot) → has_dv t r v (snapshot_add_dv u q w s) ≡ same (u ∷ q ∷ w ∷ []) (t ∷ r ∷ v ∷ []) || has_dv t r v s
 added-dv t r v u q w s =
     let table = row u s.dvs in
     rw (row-insert t u (insert q (with_number w (row q table)) table) s.dvs)
@@ -75,7 +75,7 @@ added-dv t r v u q w s =
 
 pub record DvDeleted (u q w : ℕ) (s : Snapshot) : Type 0 where
   pub left : Snapshot
-  pub runs : delete-dv u q w s ≡ ok left
+  pub runs : snapshot_delete_dv u q w s ≡ ok left
   pub dvs : (t r v : ℕ) → has_dv t r v left ≡ not (same (u ∷ q ∷ w ∷ []) (t ∷ r ∷ v ∷ [])) && has_dv t r v s
   pub rowsets : left.rowsets ≡ s.rowsets
 

@@ -16,7 +16,7 @@ use Rattle.risinglight.specs.Maps.{Outcome, fails, ok, and_then}
 use Rattle.risinglight.specs.Manifest.{Value, frame, Replaying, replay}
 use Rattle.risinglight.specs.Snapshot.{default}
 use Rattle.risinglight.specs.VersionManager.{fresh, Changing, changing, committed}
-use Rattle.risinglight.specs.Storage.{apply-table, apply-tables, Rowset, pair_of, open_rowset, rowsets-to-open, Dv, triple_of, open_dv, dvs-to-open, through, is_of_table, table-changeset, changeset, next_id, raised, Storage, storage, bootstrap}
+use Rattle.risinglight.specs.Storage.{apply_table, apply_tables, Rowset, pair_of, open_rowset, rowsets_to_open, Dv, triple_of, open_dv, dvs_to_open, through, is_of_table, table_changeset, changeset, next_id, raised, Storage, storage, bootstrap}
 use Rattle.risinglight.proofs.Fitting.{Finds, FindsAll}
 use Rattle.risinglight.proofs.Changes.{Shows, deleted_by, deleted_all, adds_any, of_pairs, of_vectors, changed}
 use Rattle.risinglight.proofs.Maps.{instead, shuffle, or-none}
@@ -74,17 +74,17 @@ of-table (add_vector t r v) e = clash e refl
 of-table (delete_vector t r v) e = clash e refl
 of-table (next_ids t r v) e = clash e refl
 
-all-of-table : (ops : List Operation) → All OfTable (table-changeset ops)
-all-of-table ops = all_map (table-changeset ops) of-table (kept-all is_of_table ops)
+all-of-table : (ops : List Operation) → All OfTable (table_changeset ops)
+all-of-table ops = all_map (table_changeset ops) of-table (kept-all is_of_table ops)
 
 then-alike : {A B : Type 0} (x : Outcome A) (f g : A → Outcome B) → ((y : A) → f y ≡ g y) → and_then x f ≡ and_then x g
 then-alike fails f g h = refl
 then-alike (ok y) f g h = h y
 
-changeset-tables : (ops : List Operation) (l : List Table) → apply-tables (table-changeset ops) l ≡ apply-tables ops l
+changeset-tables : (ops : List Operation) (l : List Table) → apply_tables (table_changeset ops) l ≡ apply_tables ops l
 changeset-tables [] l = refl
-changeset-tables (create_table t h n ∷ ops) l = then-alike (apply-table (create_table t h n) l) (apply-tables (table-changeset ops)) (apply-tables ops) (changeset-tables ops)
-changeset-tables (drop_table t ∷ ops) l = then-alike (apply-table (drop_table t) l) (apply-tables (table-changeset ops)) (apply-tables ops) (changeset-tables ops)
+changeset-tables (create_table t h n ∷ ops) l = then-alike (apply_table (create_table t h n) l) (apply_tables (table_changeset ops)) (apply_tables ops) (changeset-tables ops)
+changeset-tables (drop_table t ∷ ops) l = then-alike (apply_table (drop_table t) l) (apply_tables (table_changeset ops)) (apply_tables ops) (changeset-tables ops)
 changeset-tables (add_rowset t r ∷ ops) l = changeset-tables ops l
 changeset-tables (delete_rowset t r ∷ ops) l = changeset-tables ops l
 changeset-tables (add_vector t r v ∷ ops) l = changeset-tables ops l
@@ -92,9 +92,9 @@ changeset-tables (delete_vector t r v ∷ ops) l = changeset-tables ops l
 changeset-tables (next_ids t r v ∷ ops) l = changeset-tables ops l
 
 -- Operations that leave one of the three.
-tables-stay : (os : List Operation) (l : List Table) → All (λ o. apply-table o l ≡ ok l) os → apply-tables os l ≡ ok l
+tables-stay : (os : List Operation) (l : List Table) → All (λ o. apply_table o l ≡ ok l) os → apply_tables os l ≡ ok l
 tables-stay [] l h = refl
-tables-stay (o ∷ os) l h = ap (λ x. and_then x (apply-tables os)) h.0 ∙ tables-stay os l h.1
+tables-stay (o ∷ os) l h = ap (λ x. and_then x (apply_tables os)) h.0 ∙ tables-stay os l h.1
 
 through-stays : {A : Type 0} (f : Operation → A → A) (os : List Operation) (x : A) → All (λ o. (y : A) → f o y ≡ y) os → through f os x ≡ x
 through-stays f [] x h = refl
@@ -141,7 +141,7 @@ adds-dv t r v (x ∷ vs) h =
 -- The changeset of what is opened.
 module _ (rs : List Rowset) (vs : List Dv) (ops : List Operation) where
   abbrev ts : List Operation
-  ts = table-changeset ops
+  ts = table_changeset ops
 
   abbrev cs : List Operation
   cs = changeset rs vs ts
@@ -154,31 +154,31 @@ module _ (rs : List Rowset) (vs : List Dv) (ops : List Operation) where
       (all-mapped Deletionless opens_dv vs (all_any vs (λ x. record { pairs = tt; vectors = tt })))
       (all_map ts (λ o h. h.deletionless) (all-of-table ops)))
 
-  tables-of : apply-tables cs [] ≡ apply-tables ops []
+  tables-of : apply_tables cs [] ≡ apply_tables ops []
   tables-of =
       tables-append (map opens rs) (map opens_dv vs ++ ts) []
-      ∙ ap (λ x. and_then x (apply-tables (map opens_dv vs ++ ts))) (tables-stay (map opens rs) [] (all-mapped (λ o. apply-table o [] ≡ ok []) opens rs (all_any rs (λ x. refl))))
+      ∙ ap (λ x. and_then x (apply_tables (map opens_dv vs ++ ts))) (tables-stay (map opens rs) [] (all-mapped (λ o. apply_table o [] ≡ ok []) opens rs (all_any rs (λ x. refl))))
       ∙ tables-append (map opens_dv vs) ts []
-      ∙ ap (λ x. and_then x (apply-tables ts)) (tables-stay (map opens_dv vs) [] (all-mapped (λ o. apply-table o [] ≡ ok []) opens_dv vs (all_any vs (λ x. refl))))
+      ∙ ap (λ x. and_then x (apply_tables ts)) (tables-stay (map opens_dv vs) [] (all-mapped (λ o. apply_table o [] ≡ ok []) opens_dv vs (all_any vs (λ x. refl))))
       ∙ changeset-tables ops []
 
-  rowsets-of : (k : List ℕ) → has pair_of k (rowsets-to-open cs []) ≡ has pair_of k rs
+  rowsets-of : (k : List ℕ) → has pair_of k (rowsets_to_open cs []) ≡ has pair_of k rs
   rowsets-of k =
       ap (has pair_of k)
       (through-append open_rowset (map opens rs) (map opens_dv vs ++ ts) []
-      ∙ through-append open_rowset (map opens_dv vs) ts (rowsets-to-open (map opens rs) [])
-      ∙ ap (rowsets-to-open ts) (through-stays open_rowset (map opens_dv vs) (rowsets-to-open (map opens rs) []) (all-mapped (λ o. (m : List Rowset) → open_rowset o m ≡ m) opens_dv vs (all_any vs (λ x m. refl))))
-      ∙ through-stays open_rowset ts (rowsets-to-open (map opens rs) []) (all_map ts (λ o h. h.rowsets) (all-of-table ops)))
+      ∙ through-append open_rowset (map opens_dv vs) ts (rowsets_to_open (map opens rs) [])
+      ∙ ap (rowsets_to_open ts) (through-stays open_rowset (map opens_dv vs) (rowsets_to_open (map opens rs) []) (all-mapped (λ o. (m : List Rowset) → open_rowset o m ≡ m) opens_dv vs (all_any vs (λ x m. refl))))
+      ∙ through-stays open_rowset ts (rowsets_to_open (map opens rs) []) (all_map ts (λ o h. h.rowsets) (all-of-table ops)))
       ∙ through-opened pair_of open_rowset opens (λ x l. refl) k rs []
       ∙ or-none (has pair_of k rs)
 
-  dvs-of : (k : List ℕ) → has triple_of k (dvs-to-open cs []) ≡ has triple_of k vs
+  dvs-of : (k : List ℕ) → has triple_of k (dvs_to_open cs []) ≡ has triple_of k vs
   dvs-of k =
       ap (has triple_of k)
       (through-append open_dv (map opens rs) (map opens_dv vs ++ ts) []
-      ∙ ap (dvs-to-open (map opens_dv vs ++ ts)) (through-stays open_dv (map opens rs) [] (all-mapped (λ o. (m : List Dv) → open_dv o m ≡ m) opens rs (all_any rs (λ x m. refl))))
+      ∙ ap (dvs_to_open (map opens_dv vs ++ ts)) (through-stays open_dv (map opens rs) [] (all-mapped (λ o. (m : List Dv) → open_dv o m ≡ m) opens rs (all_any rs (λ x m. refl))))
       ∙ through-append open_dv (map opens_dv vs) ts []
-      ∙ through-stays open_dv ts (dvs-to-open (map opens_dv vs) []) (all_map ts (λ o h. h.dvs) (all-of-table ops)))
+      ∙ through-stays open_dv ts (dvs_to_open (map opens_dv vs) []) (all_map ts (λ o h. h.dvs) (all-of-table ops)))
       ∙ through-opened triple_of open_dv opens_dv (λ x l. refl) k vs []
       ∙ or-none (has triple_of k vs)
 
@@ -219,7 +219,7 @@ pub record Started (f : List Value) (x : Sets) : Type 0 where
   pub next : result.next ≡ raised (replay f) (next_id 0 0)
   pub rowsets : (k : List ℕ) → has itself k x.pairs ≡ has itself k changing.rowsets
   pub dvs : (t r v : ℕ) → has itself (t ∷ r ∷ v ∷ []) x.vectors ≡ true → has itself (t ∷ v ∷ []) changing.dvs ≡ true
-  pub written : replay result.manifest ≡ changeset (rowsets-to-open (replay f) []) (dvs-to-open (replay f) []) (table-changeset (replay f))
+  pub written : replay result.manifest ≡ changeset (rowsets_to_open (replay f) []) (dvs_to_open (replay f) []) (table_changeset (replay f))
   pub filed : Filed result.manifest x
 
 module _ (f : List Value) (x : Sets) (b : Boots (replay f) x) (w : Whole x) where
@@ -227,13 +227,13 @@ module _ (f : List Value) (x : Sets) (b : Boots (replay f) x) (w : Whole x) wher
   ops = replay f
 
   abbrev rows : List Rowset
-  rows = rowsets-to-open ops []
+  rows = rowsets_to_open ops []
 
   abbrev dvs : List Dv
-  dvs = dvs-to-open ops []
+  dvs = dvs_to_open ops []
 
   abbrev written : List Operation
-  written = changeset rows dvs (table-changeset ops)
+  written = changeset rows dvs (table_changeset ops)
 
   in-catalog : (t : ℕ) → has by_id (t ∷ []) x.tables ≡ true → has by_id (t ∷ []) b.catalog ≡ true
   in-catalog t h = sym (any-arranged by_id (is_at by_id (t ∷ [])) b.catalog) ∙ ap (has by_id (t ∷ [])) b.tables ∙ h

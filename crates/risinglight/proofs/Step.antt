@@ -73,7 +73,7 @@ use Rattle.plain_record.proofs.Reopen.{at_one, pairs-stand, vectors-stand}
 use Rattle.plain_record.proofs.Standing.{Standing, all_shown}
 use Rattle.risinglight.specs.Maps.{}
 use Rattle.risinglight.specs.Run.{Engine, started, landed, Commits, DoesBy, Draws}
-use Rattle.risinglight.specs.VersionManager.{find-vacuum, Inner}
+use Rattle.risinglight.specs.VersionManager.{find_vacuum, Inner}
 use Rattle.risinglight.specs.Storage.{NextId, next_id, storage}
 use Rattle.risinglight.proofs.Starts.{Whole}
 use Rattle.risinglight.proofs.Relation.{Rel, rel-landed, commits, pins-on, drops-one, vacuum-answer, vacuum-rel, starts-on, Beside}
@@ -324,7 +324,7 @@ module _ (cut : ℕ) (g : Engine) (r : Record) (k : Rel g r) (e : Event) (i : In
       let listed-pairs : e.listed ≡ map by_ids (vacuum_list b m) = vacuum-pairs w r e.told e.listed e.after ts rs i d a in
       let answer = vacuum-answer g r k p ∙ ap (arranged itself) (sym (s a).0) in
       record {
-        engine = landed (find-vacuum g.running.version).left g.running.next g;
+        engine = landed (find_vacuum g.running.version).left g.running.next g;
         does = record { answer = answer; after = refl };
         rel = vacuum-rel g r k p;
         pool = pool-vacuum g m r pool b held_after (swept r.whole) (r.place + 1) (ascend-to by_ids m.pairs (sound-of w.manager.inner (passes w r i)).ordered.pairs)

@@ -44,7 +44,7 @@ pub record Matches (S : Steps) (w : World) (g : Engine) : Type 0 where
   -- of the current epoch and of each pinned one
   pub pairs : (d : ℕ) → may_show (guards_of (held_by w.manager) w.book) d ≡ true → SamePairs S w d (snapshot_at d g.running.version)
   pub vectors : (d : ℕ) → may_show (guards_of (held_by w.manager) w.book) d ≡ true → SameVectors S w d (snapshot_at d g.running.version)
-  pub pins : (d : ℕ) → pins_at (place_on d) (pins_of w.book) ≡ unwrap_or 0 (get d g.running.version.ref-cnt)
+  pub pins : (d : ℕ) → pins_at (place_on d) (pins_of w.book) ≡ unwrap_or 0 (get d g.running.version.ref_cnt)
   -- what is held is in the pool of rowsets, and no other; held vectors are in theirs
   pub rowsets : (k : List ℕ) → has by_ids k (held_by w.manager).pairs ≡ has itself k g.running.version.rowsets
   pub dvs : (t r v : ℕ) → has by_ids (t ∷ r ∷ v ∷ []) (held_by w.manager).vectors ≡ true → has itself (t ∷ v ∷ []) g.running.version.dvs ≡ true
@@ -52,7 +52,7 @@ pub record Matches (S : Steps) (w : World) (g : Engine) : Type 0 where
   pub next_rowset : (g.running.next.rowset ≤ (held_by w.manager).next_rowset) × (g.starts ≡ 0 → g.running.next.rowset ≡ (held_by w.manager).next_rowset)
   pub next_dv : (g.running.next.dv ≤ (held_by w.manager).next_vector) × (g.starts ≡ 0 → g.running.next.dv ≡ (held_by w.manager).next_vector)
   -- the same deletions, each as often
-  pub waiting : waiting_in (held_by w.manager) ≡ arranged itself (deletions_in g.running.version.rowset-deletion-to-apply)
+  pub waiting : waiting_in (held_by w.manager) ≡ arranged itself (deletions_in g.running.version.rowset_deletion_to_apply)
 
 -- what the Rust does at an accepted call, and from there on
 pub record Onward (S : Steps) (g : Engine) (cut : ℕ) (e : Event) (Rest : Engine → Type 0) : Type 0 where

@@ -7,15 +7,15 @@ use Rattle.risinglight.specs.Snapshot.{Snapshot}
 use Rattle.risinglight.specs.Numbers.{wrapping}
 
 -- `get_rowsets_of`: the set that is walked; where a table has none, nothing is
-abbrev pub get-rowsets-of : ℕ → Snapshot → List ℕ
-get-rowsets-of t s = unwrap_or [] (get t s.rowsets)
+abbrev pub get_rowsets_of : ℕ → Snapshot → List ℕ
+get_rowsets_of t s = unwrap_or [] (get t s.rowsets)
 
-abbrev pub rowset-id : Sized → ℕ
-rowset-id x = x.rowset
+abbrev pub sized_rowset_id : Sized → ℕ
+sized_rowset_id x = x.rowset
 
 -- a rowset, by its id
 abbrev pub by_rowset : Sized → List ℕ
-by_rowset x = rowset-id x ∷ []
+by_rowset x = sized_rowset_id x ∷ []
 
 -- the loop over the rowsets in the order in which they come, with sizes of the sum current-size selected
 abbrev pub selecting : ℕ → ℕ → List Sized → List Sized
@@ -29,4 +29,4 @@ selecting target-rowset-size current-size (x ∷ rowsets) =
 abbrev pub select : ℕ → List Sized → List ℕ
 select target-rowset-size rowsets =
     let selected-rowsets = selecting target-rowset-size 0 rowsets in
-    cond (leb (length selected-rowsets) 1) [] (map rowset-id (arranged by_rowset selected-rowsets))
+    cond (leb (length selected-rowsets) 1) [] (map sized_rowset_id (arranged by_rowset selected-rowsets))

@@ -18,9 +18,9 @@ use Rattle.plain_record.specs.Sets.{by_id, itself, edit}
 use Rattle.risinglight.specs.Maps.{Outcome, fails, ok, and_then as then, is_empty, binding}
 use Rattle.risinglight.specs.Snapshot.{snapshot, has_dv}
 use Rattle.risinglight.specs.Manifest.{Value, Begin, End, entry, frame, Replaying, replaying, next, replay, read}
-use Rattle.risinglight.specs.VersionManager.{Inner, inner, fresh, latest, commit-changes, pin, can-apply, find-vacuum}
+use Rattle.risinglight.specs.VersionManager.{Inner, inner, fresh, latest, commit_changes, pin, can_apply, find_vacuum}
 use Rattle.risinglight.specs.Agreement.{deletions_in}
-use Rattle.risinglight.specs.Storage.{through, pair_of, rowsets-to-open, Dv, dvs-to-open, Storage, bootstrap}
+use Rattle.risinglight.specs.Storage.{through, pair_of, rowsets_to_open, Dv, dvs_to_open, Storage, bootstrap}
 
 -- Manifests that others wrote: the port reads the same values as lines.
 abbrev pub line_in : Value → Line
@@ -41,13 +41,13 @@ second_begin_from (Begin ∷ l) s = not (is_empty s.buffered) || second_begin_fr
 second_begin_from (End ∷ l) s = second_begin_from l (next End s)
 second_begin_from (entry o ∷ l) s = second_begin_from l (next (entry o) s)
 
-abbrev pub second-begin : List Value → Bool
-second-begin file = second_begin_from file (replaying [] [] false)
+abbrev pub has_second_begin : List Value → Bool
+has_second_begin file = second_begin_from file (replaying [] [] false)
 
 -- orphan-vector: at the end a vector stands without its rowset
-abbrev pub orphan-vector : List Value → Bool
-orphan-vector file =
-    any_of (λ (x : Dv). not (has pair_of (x.table ∷ x.rowset ∷ []) (rowsets-to-open (replay file) []))) (dvs-to-open (replay file) [])
+abbrev pub has_orphan_vector : List Value → Bool
+has_orphan_vector file =
+    any_of (λ (x : Dv). not (has pair_of (x.table ∷ x.rowset ∷ []) (rowsets_to_open (replay file) []))) (dvs_to_open (replay file) [])
 
 -- live-id: a create has the id of a table that is there. The Rust writes no ids: only the stand-in's manifests can have it
 abbrev pub takes_live : Edit Table → List Table → Bool
@@ -59,19 +59,19 @@ abbrev pub live_id_from : List Operation → List Table → Bool
 live_id_from [] l = false
 live_id_from (o ∷ os) l = takes_live (edits_of o).tables l || live_id_from os (edit by_id (edits_of o).tables l)
 
-abbrev pub live-id : List Value → Bool
-live-id file = live_id_from (replay file) []
+abbrev pub takes_live_id : List Value → Bool
+takes_live_id file = live_id_from (replay file) []
 
 -- over-limits: at the end there are more tables, rowsets or vectors than the port holds
-abbrev pub over-limits : List Value → Bool
-over-limits file =
+abbrev pub is_over_limits : List Value → Bool
+is_over_limits file =
     let ops = replay file in
     ltb most_tables (length (through (λ o l. edit by_id (edits_of o).tables l) ops []))
-    || (ltb most_held (length (rowsets-to-open ops [])) || ltb most_held (length (dvs-to-open ops [])))
+    || (ltb most_held (length (rowsets_to_open ops [])) || ltb most_held (length (dvs_to_open ops [])))
 
 -- last-id: a value is none of the port's lines, since an id is its width's largest
-abbrev pub last-id : List Value → Bool
-last-id file = not (all_of (λ v. well_line (line_in v)) file)
+abbrev pub has_last_id : List Value → Bool
+has_last_id file = not (all_of (λ v. well_line (line_in v)) file)
 
 -- Names and operations of the cases.
 abbrev pub name_a : List ℕ
@@ -111,15 +111,15 @@ pub record OpeningDiffers : Type 0 where
   -- second-begin: the Rust has the table of a frame that never ended
   pub second_begin :
       let file = Begin ∷ entry create_a ∷ Begin ∷ End ∷ [] in
-      (second-begin file ≡ true) × (shown_in (bootstrap file) has_table_a ≡ true) × (state_in (port_opens file) (λ s. is_empty s.tables) ≡ true)
+      (has_second_begin file ≡ true) × (shown_in (bootstrap file) has_table_a ≡ true) × (state_in (port_opens file) (λ s. is_empty s.tables) ≡ true)
   -- orphan-vector: the Rust has it, the port drops it
   pub orphan_vector :
       let file = frame (create_a ∷ add_vector 0 0 0 ∷ []) in
-      (orphan-vector file ≡ true) × (shown_in (bootstrap file) has_vector ≡ true) × (state_in (port_opens file) (λ s. is_empty s.vectors) ≡ true)
+      (has_orphan_vector file ≡ true) × (shown_in (bootstrap file) has_vector ≡ true) × (state_in (port_opens file) (λ s. is_empty s.vectors) ≡ true)
   -- and without its table the Rust panics, where the port opens
   pub orphan_without_table :
       let file = frame (add_vector 0 0 0 ∷ []) in
-      (orphan-vector file ≡ true) × (bootstrap file ≡ fails) × (state_in (port_opens file) (λ s. is_empty s.vectors) ≡ true)
+      (has_orphan_vector file ≡ true) × (bootstrap file ≡ fails) × (state_in (port_opens file) (λ s. is_empty s.vectors) ≡ true)
   -- rowset-without-table: both refuse, the Rust by a panic
   pub rowset_without_table :
       let file = frame (add_rowset 5 0 ∷ []) in
@@ -134,11 +134,11 @@ pub record OpeningDiffers : Type 0 where
   -- a live id the port alone refuses: the Rust's creates have none
   pub live_id :
       let file = frame (create_a ∷ create_table 0 7 name_b ∷ []) in
-      (live-id file ≡ true) × (shown_in (bootstrap file) has_table_a ≡ true) × (port_opens file ≡ refused (TableConflict 3))
+      (takes_live_id file ≡ true) × (shown_in (bootstrap file) has_table_a ≡ true) × (port_opens file ≡ refused (TableConflict 3))
   -- limits: 17 tables; more than 65,536 bytes; more than 600 operations in a frame
   pub tables :
       let file = frame (creates 17) in
-      (over-limits file ≡ true) × (shown_in (bootstrap file) has_table_a ≡ true) × (port_opens file ≡ refused (OverLimit 19))
+      (is_over_limits file ≡ true) × (shown_in (bootstrap file) has_table_a ≡ true) × (port_opens file ≡ refused (OverLimit 19))
   pub bytes : (src : List ℕ) → longest_manifest < length src → replay_of src ≡ refused ManifestTooLong
   pub operations : (s : State) (m n : ℕ) (os : List Operation) (o : Operation) → length os ≡ most_operations
       → (line_read (operation o) (carried s (opened m os) n) ≡ refused (TooManyOperations n))
@@ -146,7 +146,7 @@ pub record OpeningDiffers : Type 0 where
   -- last-id: the port's line is none, and the Rust's next id wraps
   pub last_id :
       let file = frame (create_a ∷ add_rowset 0 4294967295 ∷ []) in
-      (last-id file ≡ true) × (shown_in (bootstrap file) (λ s. eqb s.next.rowset 0) ≡ true) × (port_opens file ≡ refused (Malformed 3))
+      (has_last_id file ≡ true) × (shown_in (bootstrap file) (λ s. eqb s.next.rowset 0) ≡ true) × (port_opens file ≡ refused (Malformed 3))
   -- torn-tail: part of a value is an error; of the port's bytes what no newline ends does not count
   pub torn_tail : (then (read [] true) bootstrap ≡ fails) × (state_in (replay_of (66 ∷ [])) (λ s. is_empty s.tables) ≡ true)
   -- first-epoch: opening nothing is a commit
@@ -171,27 +171,27 @@ held_pairs =
     record { epoch = 1; next_table = 1; next_rowset = 2; next_vector = 1; tables = []; pairs = gone (0 ∷ 0 ∷ []) ∷ gone (0 ∷ 1 ∷ []) ∷ []; vectors = gone (0 ∷ 0 ∷ 0 ∷ []) ∷ []; manifest = 0 }
 
 -- vacuum-order: what the Rust lists does not come by epoch, table, rowset
-abbrev pub vacuum-order : Inner → Bool
-vacuum-order m = not (sorted itself (deletions_in (keep (can-apply m) m.rowset-deletion-to-apply)))
+abbrev pub lists_unordered : Inner → Bool
+lists_unordered m = not (sorted itself (deletions_in (keep (can_apply m) m.rowset_deletion_to_apply)))
 
 -- next-ids: a start has forgotten ids that the port still keeps
-abbrev pub next-ids : Storage → State → Bool
-next-ids s m = ltb s.next.rowset m.next_rowset || ltb s.next.dv m.next_vector
+abbrev pub has_forgotten_ids : Storage → State → Bool
+has_forgotten_ids s m = ltb s.next.rowset m.next_rowset || ltb s.next.dv m.next_vector
 
 pub record ListsDiffer : Type 0 where
   -- next-ids: after two starts the Rust draws 0 again, and the port 1
   pub ids_forgotten :
       let file = frame (create_a ∷ add_rowset 0 0 ∷ delete_rowset 0 0 ∷ []) in
-      (shown_in (twice file) (λ s. state_in (port_twice file) (next-ids s)) ≡ true)
+      (shown_in (twice file) (λ s. state_in (port_twice file) (has_forgotten_ids s)) ≡ true)
       × (shown_in (twice file) (λ s. eqb s.next.rowset 0) ≡ true)
       × (state_in (port_twice file) (λ s. eqb s.next_rowset 1) ≡ true)
   -- vacuum-order
   pub vacuum_order :
-      (vacuum-order deleted_pairs ≡ true)
-      × ((find-vacuum deleted_pairs).deletions ≡ (0 ∷ 1 ∷ []) ∷ (0 ∷ 0 ∷ []) ∷ [])
+      (lists_unordered deleted_pairs ≡ true)
+      × ((find_vacuum deleted_pairs).deletions ≡ (0 ∷ 1 ∷ []) ∷ (0 ∷ 0 ∷ []) ∷ [])
       × (map by_ids (vacuum_list 1 held_pairs) ≡ (0 ∷ 0 ∷ []) ∷ (0 ∷ 1 ∷ []) ∷ [])
   -- vectors that are let go stay in the Rust's pool
-  pub pool_of_vectors : ((find-vacuum deleted_pairs).left.dvs ≡ (0 ∷ 0 ∷ []) ∷ []) × ((vacuumed 1 held_pairs).vectors ≡ [])
+  pub pool_of_vectors : ((find_vacuum deleted_pairs).left.dvs ≡ (0 ∷ 0 ∷ []) ∷ []) × ((vacuumed 1 held_pairs).vectors ≡ [])
   -- rewritten: the Rust writes rowsets first, and every create and drop there ever was
   pub rewritten :
       let file = frame (create_a ∷ create_table 1 7 name_b ∷ add_rowset 0 0 ∷ drop_table 1 ∷ []) in
@@ -225,20 +225,20 @@ port_commits os = commit_of one_held (length os) os 1000
 
 pub record CommitsDiffer : Type 0 where
   -- absent-rowset: not there beside another; and where the table has none, the Rust panics
-  pub absent_rowset : (commits (commit-changes (delete_rowset 0 9 ∷ []) one_rowset) ≡ true) × (port_commits (delete_rowset 0 9 ∷ []) ≡ refused (PairNotShown 0))
-  pub absent_table : (commits (commit-changes (delete_rowset 1 9 ∷ []) one_rowset) ≡ false) × (port_commits (delete_rowset 1 9 ∷ []) ≡ refused (PairNotShown 0))
+  pub absent_rowset : (commits (commit_changes (delete_rowset 0 9 ∷ []) one_rowset) ≡ true) × (port_commits (delete_rowset 0 9 ∷ []) ≡ refused (PairNotShown 0))
+  pub absent_table : (commits (commit_changes (delete_rowset 1 9 ∷ []) one_rowset) ≡ false) × (port_commits (delete_rowset 1 9 ∷ []) ≡ refused (PairNotShown 0))
   -- absent-vector
-  pub absent_vector : (commits (commit-changes (delete_vector 0 0 5 ∷ []) one_rowset) ≡ false) × (port_commits (delete_vector 0 0 5 ∷ []) ≡ refused (VectorNotShown 0))
+  pub absent_vector : (commits (commit_changes (delete_vector 0 0 5 ∷ []) one_rowset) ≡ false) × (port_commits (delete_vector 0 0 5 ∷ []) ≡ refused (VectorNotShown 0))
   -- not-drawn
-  pub not_drawn : (commits (commit-changes (add_rowset 0 9 ∷ []) one_rowset) ≡ true) × (port_commits (add_rowset 0 9 ∷ []) ≡ refused (IdNotDrawn 0))
+  pub not_drawn : (commits (commit_changes (add_rowset 0 9 ∷ []) one_rowset) ≡ true) × (port_commits (add_rowset 0 9 ∷ []) ≡ refused (IdNotDrawn 0))
   -- waiting-again: what is deleted is held until a vacuum
   pub waiting_again :
-      (commits (commit-changes (delete_rowset 0 0 ∷ add_rowset 0 0 ∷ []) one_rowset) ≡ true)
+      (commits (commit_changes (delete_rowset 0 0 ∷ add_rowset 0 0 ∷ []) one_rowset) ≡ true)
       × (port_commits (delete_rowset 0 0 ∷ add_rowset 0 0 ∷ []) ≡ refused (StillHeld 1))
   -- left-behind
-  pub left_behind : (commits (commit-changes (drop_table 0 ∷ []) one_rowset) ≡ true) × (port_commits (drop_table 0 ∷ []) ≡ refused LeftBehind)
+  pub left_behind : (commits (commit_changes (drop_table 0 ∷ []) one_rowset) ≡ true) × (port_commits (drop_table 0 ∷ []) ≡ refused LeftBehind)
   -- unknown-table
-  pub unknown_table : (commits (commit-changes (add_rowset 5 0 ∷ []) one_rowset) ≡ true) × (port_commits (add_rowset 5 0 ∷ []) ≡ refused (TableNotLive 0))
+  pub unknown_table : (commits (commit_changes (add_rowset 5 0 ∷ []) one_rowset) ≡ true) × (port_commits (add_rowset 5 0 ∷ []) ≡ refused (TableNotLive 0))
   -- pin-at-0
   pub pin_at_zero : pin fresh ≡ fails
 

@@ -21,12 +21,12 @@ abbrev pub Walks : List Handle → List (Binding (List ℕ)) → Type 0
 Walks hs m = arranged by_key m ≡ arranged by_key (split hs)
 
 -- grouping-order: it is walked in another order than upwards
-abbrev pub grouping-order : List (Binding (List ℕ)) → Bool
-grouping-order m = not (ascending by_key m)
+abbrev pub grouping_order : List (Binding (List ℕ)) → Bool
+grouping_order m = not (ascending by_key m)
 
 -- a vector of the Rust's as one of the port's
 abbrev pub vector_in : DeleteVector → Vector
-vector_in v = record { rowset = v.rowset-id; file = records_of v.records; memory = v.deletes }
+vector_in v = record { rowset = v.sized_rowset_id; file = records_of v.records; memory = v.deletes }
 
 abbrev pub by_rowset : Vector → List ℕ
 by_rowset v = v.rowset ∷ []
@@ -48,9 +48,9 @@ otherwise = binding 2 (1 ∷ 1 ∷ []) ∷ binding 1 (1 ∷ []) ∷ binding 3 (1
 -- a higher id for a lower rowset
 pub record OrderTells : Type 0 where
   pub walks : Walks handles otherwise
-  pub apart : grouping-order otherwise ≡ true
-  pub ids : map (λ (v : DeleteVector). v.dv-id) (dvs 0 otherwise) ≡ 0 ∷ 1 ∷ 2 ∷ []
-  pub rust : map (λ (v : DeleteVector). v.rowset-id) (dvs 0 otherwise) ≡ 2 ∷ 1 ∷ 3 ∷ []
+  pub apart : grouping_order otherwise ≡ true
+  pub ids : map (λ (v : DeleteVector). v.dv_id) (dvs 0 otherwise) ≡ 0 ∷ 1 ∷ 2 ∷ []
+  pub rust : map (λ (v : DeleteVector). v.sized_rowset_id) (dvs 0 otherwise) ≡ 2 ∷ 1 ∷ 3 ∷ []
   pub port : rowsets_of handles ≡ 1 ∷ 2 ∷ 3 ∷ []
 
 pub record GroupingLaws : Type 0 where
@@ -62,11 +62,11 @@ pub record GroupingLaws : Type 0 where
   pub vectors : (hs : List Handle) (m : List (Binding (List ℕ))) (next : ℕ) → Walks hs m → arranged by_rowset (map vector_in (dvs next m)) ≡ vectors_of hs
   -- with the same ids, where the port has so many
   pub ids : (hs : List Handle) (m : List (Binding (List ℕ))) (next : ℕ) → Walks hs m → used_up next (vectors_of hs) ≡ false
-      → map (λ (v : DeleteVector). v.dv-id) (dvs next m) ≡ following next (length (vectors_of hs))
+      → map (λ (v : DeleteVector). v.dv_id) (dvs next m) ≡ following next (length (vectors_of hs))
   -- which it has for a grouping that it accepts
   pub accepted : (m : VersionManager) (h : Handles) (rs ls cs fs ms : List ℕ) (b : List (Binding (List ℕ))) → group_verdict m h rs ls cs fs ms ≡ Accepted → Walks (handles_of h) b
-      → map (λ (v : DeleteVector). v.dv-id) (dvs (held_by m).next_vector b) ≡ following (held_by m).next_vector (length (grouped_by h))
+      → map (λ (v : DeleteVector). v.dv_id) (dvs (held_by m).next_vector b) ≡ following (held_by m).next_vector (length (grouped_by h))
   -- and upwards in the same order, so that each has the same id
-  pub upwards : (hs : List Handle) (m : List (Binding (List ℕ))) (next : ℕ) → Walks hs m → grouping-order m ≡ false → map vector_in (dvs next m) ≡ vectors_of hs
+  pub upwards : (hs : List Handle) (m : List (Binding (List ℕ))) (next : ℕ) → Walks hs m → grouping_order m ≡ false → map vector_in (dvs next m) ≡ vectors_of hs
   -- where they differ
   pub order : OrderTells

@@ -14,9 +14,9 @@ use Rattle.plain_record.specs.Calls.{Call, draw_rowset, draw_vector, group, lock
 use Rattle.plain_record.specs.Run.{Event, value}
 use Rattle.risinglight.specs.Maps.{ok}
 use Rattle.risinglight.specs.Manifest.{Value, frame}
-use Rattle.risinglight.specs.VersionManager.{Inner, fresh, commit-changes, Pinned, Dropped, find-vacuum}
+use Rattle.risinglight.specs.VersionManager.{Inner, fresh, commit_changes, Pinned, Dropped, find_vacuum}
 use Rattle.risinglight.specs.VersionManager as version
-use Rattle.risinglight.specs.Storage.{Storage, storage, NextId, next_id, apply-tables, bootstrap}
+use Rattle.risinglight.specs.Storage.{Storage, storage, NextId, next_id, apply_tables, bootstrap}
 
 -- the storage, the manifest that a start finds if it is the next call, and how many starts there were
 pub record Engine : Type 0 where
@@ -60,8 +60,8 @@ module _ (cut : ℕ) (g h : Engine) (e : Event) where
   pub record Commits (os : List Operation) (missing : ℕ) : Type 0 where
     pub version : Inner
     pub catalog : List Table
-    pub runs : commit-changes os g.running.version ≡ ok version
-    pub follows : apply-tables os g.running.catalog ≡ ok catalog
+    pub runs : commit_changes os g.running.version ≡ ok version
+    pub follows : apply_tables os g.running.catalog ≡ ok catalog
     pub epoch : (version).epoch ≡ (held_by e.after.manager).epoch
     pub after :
         let file = g.running.manifest in
@@ -82,8 +82,8 @@ module _ (cut : ℕ) (g h : Engine) (e : Event) where
 
   -- the same pairs, each as often
   pub record Vacuums : Type 0 where
-    pub answer : arranged itself (find-vacuum g.running.version).deletions ≡ arranged itself e.listed
-    pub after : h ≡ landed (find-vacuum g.running.version).left ids g
+    pub answer : arranged itself (find_vacuum g.running.version).deletions ≡ arranged itself e.listed
+    pub after : h ≡ landed (find_vacuum g.running.version).left ids g
 
   pub record Starts (stale : Bool) : Type 0 where
     pub result : Storage

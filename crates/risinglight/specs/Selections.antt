@@ -10,15 +10,15 @@ use Rattle.compactor.specs.Selection.{Sized, sized_as, taken, compacted, sized, 
 use Rattle.compactor.specs.Laws.{total}
 use Rattle.plain_record.specs.Sets.{itself}
 use Rattle.risinglight.specs.Snapshot.{Snapshot, has_rowset}
-use Rattle.risinglight.specs.Compactor.{get-rowsets-of, rowset-id, by_rowset, select}
+use Rattle.risinglight.specs.Compactor.{get_rowsets_of, sized_rowset_id, by_rowset, select}
 
 -- what the port selects of rowsets
 abbrev pub selected_of : ℕ → List Sized → List ℕ
-selected_of target l = map rowset-id (compacted (taken target l))
+selected_of target l = map sized_rowset_id (compacted (taken target l))
 
 -- selection-order: they come in another order than upwards
-abbrev pub selection-order : List Sized → Bool
-selection-order l = not (ascending by_rowset l)
+abbrev pub selection_order : List Sized → Bool
+selection_order l = not (ascending by_rowset l)
 
 -- with sizes of the sum n taken, a sum on the way passes 64 bits
 abbrev pub wraps_on : ℕ → ℕ → List Sized → Bool
@@ -26,8 +26,8 @@ wraps_on target n [] = false
 wraps_on target n (x ∷ l) = ltb largest64 (n + x.size) || wraps_on target (cond (leb (n + x.size) target) (n + x.size) n) l
 
 -- selection-wraps
-abbrev pub selection-wraps : ℕ → List Sized → Bool
-selection-wraps target l = wraps_on target 0 l
+abbrev pub selection_wraps : ℕ → List Sized → Bool
+selection_wraps target l = wraps_on target 0 l
 
 -- 50, 40 and 20, upwards and in another order
 abbrev pub upwards : List Sized
@@ -37,9 +37,9 @@ abbrev pub otherwise : List Sized
 otherwise = sized_as 1 40 ∷ sized_as 2 20 ∷ sized_as 0 50 ∷ []
 
 pub record OrderTells : Type 0 where
-  pub apart : selection-order otherwise ≡ true
+  pub apart : selection_order otherwise ≡ true
   pub alike : arranged by_rowset otherwise ≡ upwards
-  pub fits : selection-wraps 70 otherwise ≡ false
+  pub fits : selection_wraps 70 otherwise ≡ false
   pub rust : select 70 otherwise ≡ 1 ∷ 2 ∷ []
   pub port : selected_of 70 upwards ≡ 0 ∷ 2 ∷ []
 
@@ -48,21 +48,21 @@ abbrev pub large : List Sized
 large = sized_as 0 18446744073709551615 ∷ sized_as 1 1 ∷ []
 
 pub record WrapsTells : Type 0 where
-  pub apart : selection-wraps 18446744073709551615 large ≡ true
-  pub ordered : selection-order large ≡ false
+  pub apart : selection_wraps 18446744073709551615 large ≡ true
+  pub ordered : selection_order large ≡ false
   pub rust : select 18446744073709551615 large ≡ 0 ∷ 1 ∷ []
   pub port : selected_of 18446744073709551615 large ≡ []
 
 pub record SelectionLaws : Type 0 where
-  pub same : (target : ℕ) (l : List Sized) → selection-order l ≡ false → selection-wraps target l ≡ false → select target l ≡ selected_of target l
+  pub same : (target : ℕ) (l : List Sized) → selection_order l ≡ false → selection_wraps target l ≡ false → select target l ≡ selected_of target l
   -- of the rowsets of a table that the current epoch shows, with their sizes
-  pub shown : (m : VersionManagerInner) → bad_inner m ≡ false → (t target : ℕ) (ns : List ℕ) → selection-wraps target (sized (rowsets_now t (state_of m)) ns) ≡ false
+  pub shown : (m : VersionManagerInner) → bad_inner m ≡ false → (t target : ℕ) (ns : List ℕ) → selection_wraps target (sized (rowsets_now t (state_of m)) ns) ≡ false
       → select target (sized (rowsets_now t (state_of m)) ns) ≡ selected t target ns (state_of m)
   -- which are the set of a snapshot that has the same pairs, in ascending order
   pub walked : (m : VersionManagerInner) → bad_inner m ≡ false → (t : ℕ) (s : Snapshot) → ((r : ℕ) → has itself (t ∷ r ∷ []) (pairs_at m.epoch (state_of m)) ≡ has_rowset t r s)
-      → in_memory (get-rowsets-of t s) ≡ rowsets_now t (state_of m)
+      → in_memory (get_rowsets_of t s) ≡ rowsets_now t (state_of m)
   -- no sum passes 64 bits where all sizes together do not
-  pub fits : (target : ℕ) (l : List Sized) → total l ≤ largest64 → selection-wraps target l ≡ false
+  pub fits : (target : ℕ) (l : List Sized) → total l ≤ largest64 → selection_wraps target l ≡ false
   -- in any order where all are taken
   pub all : (target : ℕ) (l : List Sized) → total l ≤ target → target ≤ largest64 → select target l ≡ selected_of target (arranged by_rowset l)
   -- where they differ

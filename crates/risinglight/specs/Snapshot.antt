@@ -18,19 +18,19 @@ default = snapshot [] []
 abbrev pub settled : {A : Type 0} → ℕ → List A → List (Binding (List A)) → List (Binding (List A))
 settled k l m = cond (is_empty l) (remove k m) (insert k l m)
 
-abbrev pub add-rowset : ℕ → ℕ → Snapshot → Snapshot
-add-rowset t r s = snapshot (insert t (with_number r (unwrap_or [] (get t s.rowsets))) s.rowsets) s.dvs
+abbrev pub snapshot_add_rowset : ℕ → ℕ → Snapshot → Snapshot
+snapshot_add_rowset t r s = snapshot (insert t (with_number r (unwrap_or [] (get t s.rowsets))) s.rowsets) s.dvs
 
-abbrev pub delete-rowset : ℕ → ℕ → Snapshot → Outcome Snapshot
-delete-rowset t r s = and_then (unwrap (get t s.rowsets)) (λ table. ok (snapshot (settled t (without_number r table) s.rowsets) s.dvs))
+abbrev pub snapshot_delete_rowset : ℕ → ℕ → Snapshot → Outcome Snapshot
+snapshot_delete_rowset t r s = and_then (unwrap (get t s.rowsets)) (λ table. ok (snapshot (settled t (without_number r table) s.rowsets) s.dvs))
 
-abbrev pub add-dv : ℕ → ℕ → ℕ → Snapshot → Snapshot
-add-dv t r v s =
+abbrev pub snapshot_add_dv : ℕ → ℕ → ℕ → Snapshot → Snapshot
+snapshot_add_dv t r v s =
     let table = unwrap_or [] (get t s.dvs) in
     snapshot s.rowsets (insert t (insert r (with_number v (unwrap_or [] (get r table))) table) s.dvs)
 
-abbrev pub delete-dv : ℕ → ℕ → ℕ → Snapshot → Outcome Snapshot
-delete-dv t r v s =
+abbrev pub snapshot_delete_dv : ℕ → ℕ → ℕ → Snapshot → Outcome Snapshot
+snapshot_delete_dv t r v s =
     and_then (unwrap (get t s.dvs))
     (λ table. and_then (unwrap (get r table)) (λ dvs. ok (snapshot s.rowsets (settled t (settled r (without_number v dvs) table) s.dvs))))
 

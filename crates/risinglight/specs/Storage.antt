@@ -8,21 +8,21 @@ use Rattle.plain_record.specs.Sets.{by_id}
 use Rattle.risinglight.specs.Maps.{Outcome, fails, ok, and_then}
 use Rattle.risinglight.specs.Numbers.{wrapping, wrapping32}
 use Rattle.risinglight.specs.Manifest.{Value, frame, replay}
-use Rattle.risinglight.specs.VersionManager.{Inner, fresh, commit-changes}
+use Rattle.risinglight.specs.VersionManager.{Inner, fresh, commit_changes}
 
 -- `apply_create_table` refuses a name that is there, `apply_drop_table` a table that is not
-abbrev pub apply-table : Operation → List Table → Outcome (List Table)
-apply-table (create_table t h n) l = cond (any_of (λ (x : Table). same x.name n) l) fails (ok (table t h n ∷ l))
-apply-table (drop_table t) l = cond (has by_id (t ∷ []) l) (ok (without by_id (t ∷ []) l)) fails
-apply-table (add_rowset t r) l = ok l
-apply-table (delete_rowset t r) l = ok l
-apply-table (add_vector t r v) l = ok l
-apply-table (delete_vector t r v) l = ok l
-apply-table (next_ids t r v) l = ok l
+abbrev pub apply_table : Operation → List Table → Outcome (List Table)
+apply_table (create_table t h n) l = cond (any_of (λ (x : Table). same x.name n) l) fails (ok (table t h n ∷ l))
+apply_table (drop_table t) l = cond (has by_id (t ∷ []) l) (ok (without by_id (t ∷ []) l)) fails
+apply_table (add_rowset t r) l = ok l
+apply_table (delete_rowset t r) l = ok l
+apply_table (add_vector t r v) l = ok l
+apply_table (delete_vector t r v) l = ok l
+apply_table (next_ids t r v) l = ok l
 
-abbrev pub apply-tables : List Operation → List Table → Outcome (List Table)
-apply-tables [] l = ok l
-apply-tables (o ∷ os) l = and_then (apply-table o l) (apply-tables os)
+abbrev pub apply_tables : List Operation → List Table → Outcome (List Table)
+apply_tables [] l = ok l
+apply_tables (o ∷ os) l = and_then (apply_table o l) (apply_tables os)
 
 -- The loop of `bootstrap` over what `replay` gave, for each thing that it fills.
 abbrev pub through : {A : Type 0} → (Operation → A → A) → List Operation → A → A
@@ -48,8 +48,8 @@ open_rowset (add_vector t r v) l = l
 open_rowset (delete_vector t r v) l = l
 open_rowset (next_ids t r v) l = l
 
-abbrev pub rowsets-to-open : List Operation → List Rowset → List Rowset
-rowsets-to-open os l = through open_rowset os l
+abbrev pub rowsets_to_open : List Operation → List Rowset → List Rowset
+rowsets_to_open os l = through open_rowset os l
 
 pub record Dv : Type 0 where
   pub table : ℕ
@@ -71,8 +71,8 @@ open_dv (add_vector t r v) l = dv t r v ∷ without triple_of (t ∷ r ∷ v ∷
 open_dv (delete_vector t r v) l = without triple_of (t ∷ r ∷ v ∷ []) l
 open_dv (next_ids t r v) l = l
 
-abbrev pub dvs-to-open : List Operation → List Dv → List Dv
-dvs-to-open os l = through open_dv os l
+abbrev pub dvs_to_open : List Operation → List Dv → List Dv
+dvs_to_open os l = through open_dv os l
 
 -- every create and drop there ever was
 abbrev pub is_of_table : Operation → Bool
@@ -84,8 +84,8 @@ is_of_table (add_vector t r v) = false
 is_of_table (delete_vector t r v) = false
 is_of_table (next_ids t r v) = false
 
-abbrev pub table-changeset : List Operation → List Operation
-table-changeset os = keep is_of_table os
+abbrev pub table_changeset : List Operation → List Operation
+table_changeset os = keep is_of_table os
 
 -- what is opened is committed, and written anew; a rowset or vector whose table is not there panics
 abbrev pub changeset : List Rowset → List Dv → List Operation → List Operation
@@ -128,13 +128,13 @@ storage c v n m = record { catalog = c; version = v; next = n; manifest = m }
 
 -- `rewrite_changes`: committed by a manager that has nothing yet, into a new file
 abbrev pub rewritten : List Table → NextId → List Operation → Outcome Storage
-rewritten l n os = and_then (commit-changes os fresh) (λ m. ok (storage l m n (frame os)))
+rewritten l n os = and_then (commit_changes os fresh) (λ m. ok (storage l m n (frame os)))
 
 abbrev pub opened : List Operation → List Table → Outcome Storage
 opened ops l =
-    let rs = rowsets-to-open ops [] in
-    let vs = dvs-to-open ops [] in
-    cond (openable l rs vs) (rewritten l (raised ops (next_id 0 0)) (changeset rs vs (table-changeset ops))) fails
+    let rs = rowsets_to_open ops [] in
+    let vs = dvs_to_open ops [] in
+    cond (openable l rs vs) (rewritten l (raised ops (next_id 0 0)) (changeset rs vs (table_changeset ops))) fails
 
 abbrev pub bootstrap : List Value → Outcome Storage
-bootstrap file = and_then (apply-tables (replay file) []) (opened (replay file))
+bootstrap file = and_then (apply_tables (replay file) []) (opened (replay file))

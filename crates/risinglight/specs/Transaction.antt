@@ -19,14 +19,14 @@ split delete-buffer = split_on delete-buffer []
 
 -- a vector with its file: the records that `write_all` is given, in their order
 pub record DeleteVector : Type 0 where
-  pub dv-id : ℕ
-  pub rowset-id : ℕ
+  pub dv_id : ℕ
+  pub rowset_id : ℕ
   pub deletes : List ℕ
   pub records : List ℕ
 
 -- `DeleteVector::new`
 abbrev pub new : ℕ → ℕ → List ℕ → DeleteVector
-new v r deletes = record { dv-id = v; rowset-id = r; deletes = vector.new deletes; records = deletes }
+new v r deletes = record { dv_id = v; rowset_id = r; deletes = vector.new deletes; records = deletes }
 
 -- the loop over the map in the order in which its bindings come, the next id being v; `fetch_add` wraps
 abbrev pub dvs : ℕ → List (Binding (List ℕ)) → List DeleteVector

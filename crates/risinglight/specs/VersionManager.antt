@@ -5,20 +5,20 @@ use Rattle.lists.specs.Keyed.{keep, without}
 use Rattle.manifest.specs.Operations.{Operation, create_table, drop_table, add_rowset, delete_rowset, add_vector, delete_vector, next_ids}
 use Rattle.plain_record.specs.Sets.{itself}
 use Rattle.risinglight.specs.Maps.{Outcome, ok, and_then, unwrap, unwrap_or, Binding, get, insert, remove, keys}
-use Rattle.risinglight.specs.Snapshot.{Snapshot, default, add-rowset, delete-rowset, add-dv, delete-dv}
+use Rattle.risinglight.specs.Snapshot.{Snapshot, default, snapshot_add_rowset, snapshot_delete_rowset, snapshot_add_dv, snapshot_delete_dv}
 
 pub record Inner : Type 0 where
   pub status : List (Binding Snapshot)
   -- the pools of rowsets, by (table, rowset), and of vectors, by (table, vector): what has an object
   pub rowsets : List (List ℕ)
   pub dvs : List (List ℕ)
-  pub ref-cnt : List (Binding ℕ)
+  pub ref_cnt : List (Binding ℕ)
   -- by epoch: pairs (table, rowset)
-  pub rowset-deletion-to-apply : List (Binding (List (List ℕ)))
+  pub rowset_deletion_to_apply : List (Binding (List (List ℕ)))
   pub epoch : ℕ
 
 abbrev pub inner : List (Binding Snapshot) → List (List ℕ) → List (List ℕ) → List (Binding ℕ) → List (Binding (List (List ℕ))) → ℕ → Inner
-inner s r v c d e = record { status = s; rowsets = r; dvs = v; ref-cnt = c; rowset-deletion-to-apply = d; epoch = e }
+inner s r v c d e = record { status = s; rowsets = r; dvs = v; ref_cnt = c; rowset_deletion_to_apply = d; epoch = e }
 
 -- `VersionManagerInner::default`
 abbrev pub fresh : Inner
@@ -41,11 +41,11 @@ changing s r v d = record { snapshot = s; rowsets = r; dvs = v; deletions = d }
 abbrev pub change : Operation → Changing → Outcome Changing
 change (create_table t h n) c = ok c
 change (drop_table t) c = ok c
-change (add_rowset t r) c = ok (changing (add-rowset t r c.snapshot) (pooled (t ∷ r ∷ []) c.rowsets) c.dvs c.deletions)
+change (add_rowset t r) c = ok (changing (snapshot_add_rowset t r c.snapshot) (pooled (t ∷ r ∷ []) c.rowsets) c.dvs c.deletions)
 change (delete_rowset t r) c =
-    and_then (delete-rowset t r c.snapshot) (λ s. ok (changing s c.rowsets c.dvs (c.deletions ++ ((t ∷ r ∷ []) ∷ []))))
-change (add_vector t r v) c = ok (changing (add-dv t r v c.snapshot) c.rowsets (pooled (t ∷ v ∷ []) c.dvs) c.deletions)
-change (delete_vector t r v) c = and_then (delete-dv t r v c.snapshot) (λ s. ok (changing s c.rowsets c.dvs c.deletions))
+    and_then (snapshot_delete_rowset t r c.snapshot) (λ s. ok (changing s c.rowsets c.dvs (c.deletions ++ ((t ∷ r ∷ []) ∷ []))))
+change (add_vector t r v) c = ok (changing (snapshot_add_dv t r v c.snapshot) c.rowsets (pooled (t ∷ v ∷ []) c.dvs) c.deletions)
+change (delete_vector t r v) c = and_then (snapshot_delete_dv t r v c.snapshot) (λ s. ok (changing s c.rowsets c.dvs c.deletions))
 change (next_ids t r v) c = ok c
 
 abbrev pub changes : List Operation → Changing → Outcome Changing
@@ -58,11 +58,11 @@ latest m = unwrap_or default (get m.epoch m.status)
 abbrev pub committed : Inner → Changing → Inner
 committed m c =
     let e = m.epoch + 1 in
-    inner (insert e c.snapshot m.status) c.rowsets c.dvs m.ref-cnt (insert e c.deletions m.rowset-deletion-to-apply) e
+    inner (insert e c.snapshot m.status) c.rowsets c.dvs m.ref_cnt (insert e c.deletions m.rowset_deletion_to_apply) e
 
 -- the new epoch is the answer
-abbrev pub commit-changes : List Operation → Inner → Outcome Inner
-commit-changes ops m = and_then (changes ops (changing (latest m) m.rowsets m.dvs [])) (λ c. ok (committed m c))
+abbrev pub commit_changes : List Operation → Inner → Outcome Inner
+commit_changes ops m = and_then (changes ops (changing (latest m) m.rowsets m.dvs [])) (λ c. ok (committed m c))
 
 -- `pin`: the `Version`, and what is left
 pub record Pinned : Type 0 where
@@ -71,13 +71,13 @@ pub record Pinned : Type 0 where
   pub left : Inner
 
 abbrev pub with_counts : List (Binding ℕ) → Inner → Inner
-with_counts c m = inner m.status m.rowsets m.dvs c m.rowset-deletion-to-apply m.epoch
+with_counts c m = inner m.status m.rowsets m.dvs c m.rowset_deletion_to_apply m.epoch
 
 abbrev pub pin : Inner → Outcome Pinned
 pin m =
-    let n = unwrap_or 0 (get m.epoch m.ref-cnt) in
+    let n = unwrap_or 0 (get m.epoch m.ref_cnt) in
     and_then (unwrap (get m.epoch m.status))
-    (λ s. ok (record { epoch = m.epoch; snapshot = s; left = with_counts (insert m.epoch (n + 1) m.ref-cnt) m }))
+    (λ s. ok (record { epoch = m.epoch; snapshot = s; left = with_counts (insert m.epoch (n + 1) m.ref_cnt) m }))
 
 -- `Drop` of a `Version` of epoch e: whether a notice is sent, and what is left
 pub record Dropped : Type 0 where
@@ -89,10 +89,10 @@ dropped b m = record { notice = b; left = m }
 
 abbrev pub drop : ℕ → Inner → Outcome Dropped
 drop e m =
-    and_then (unwrap (get e m.ref-cnt))
+    and_then (unwrap (get e m.ref_cnt))
     (λ n. ok (cond (eqb (n - 1) 0)
-    (dropped (not (eqb e m.epoch)) (with_counts (remove e m.ref-cnt) m))
-    (dropped false (with_counts (insert e (n - 1) m.ref-cnt) m))))
+    (dropped (not (eqb e m.epoch)) (with_counts (remove e m.ref_cnt) m))
+    (dropped false (with_counts (insert e (n - 1) m.ref_cnt) m))))
 
 -- `find-vacuum`
 abbrev pub smallest : ℕ → List ℕ → ℕ
@@ -103,11 +103,11 @@ abbrev pub minimum : List ℕ → Option ℕ
 minimum [] = none
 minimum (x ∷ l) = some (smallest x l)
 
-abbrev pub vacuum-epoch : Inner → ℕ
-vacuum-epoch m = unwrap_or m.epoch (minimum (keys m.ref-cnt))
+abbrev pub vacuum_epoch : Inner → ℕ
+vacuum_epoch m = unwrap_or m.epoch (minimum (keys m.ref_cnt))
 
-abbrev pub can-apply : Inner → Binding (List (List ℕ)) → Bool
-can-apply m b = leb b.key (vacuum-epoch m)
+abbrev pub can_apply : Inner → Binding (List (List ℕ)) → Bool
+can_apply m b = leb b.key (vacuum_epoch m)
 
 abbrev pub extended : List (Binding (List (List ℕ))) → List (List ℕ)
 extended [] = []
@@ -123,8 +123,8 @@ abbrev pub released : List (List ℕ) → List (List ℕ) → List (List ℕ)
 released [] pool = pool
 released (k ∷ l) pool = released l (without itself k pool)
 
-abbrev pub find-vacuum : Inner → Vacuumed
-find-vacuum m =
-    let d = m.rowset-deletion-to-apply in
-    let l = extended (keep (can-apply m) d) in
-    record { deletions = l; left = inner m.status (released l m.rowsets) m.dvs m.ref-cnt (keep (λ b. not (can-apply m b)) d) m.epoch }
+abbrev pub find_vacuum : Inner → Vacuumed
+find_vacuum m =
+    let d = m.rowset_deletion_to_apply in
+    let l = extended (keep (can_apply m) d) in
+    record { deletions = l; left = inner m.status (released l m.rowsets) m.dvs m.ref_cnt (keep (λ b. not (can_apply m b)) d) m.epoch }

@@ -20,8 +20,8 @@ pub record ColumnsOf (h : Handles) (n : ℕ) (us ws : List ℕ) : Type 0 where
   pub count : n ≡ min h.count most_handles
   pub rowsets : take n us ≡ map (λ (k : Handle). k.rowset) (handles_of h)
   pub rows : take n ws ≡ map (λ (k : Handle). k.row) (handles_of h)
-  pub us-full : length us ≡ most_handles
-  pub ws-full : length ws ≡ most_handles
+  pub us_full : length us ≡ most_handles
+  pub ws_full : length ws ≡ most_handles
 
 -- the first place of r; past all where it has none
 abbrev pub first_in : ℕ → List ℕ → ℕ

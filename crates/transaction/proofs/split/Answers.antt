@@ -75,6 +75,6 @@ returns c =
       count = m;
       rowsets = rw (← e) (column-done (λ (h : Handle). h.rowset) c.args.handles.items c.args.handles.count _ _ n c.loop-i.invariant.4);
       rows = rw (← e) (column-done (λ (h : Handle). h.row) c.args.handles.items c.args.handles.count _ _ n c.loop-i.invariant.5);
-      us-full = c.loop-i.invariant.1;
-      ws-full = c.loop-i.invariant.2;
+      us_full = c.loop-i.invariant.1;
+      ws_full = c.loop-i.invariant.2;
     }
