@@ -91,7 +91,8 @@ def definitions():
             to = m.group(2).replace("-", "_") if field else RENAMED.get(m.group(2), m.group(2).replace("-", "_"))
             return m.group(1) + to + (m.group(3) or "")
 
-        for path in files(root, (".antt", ".rt", ".edit")):
+        users = [path for path in files("crates", (".antt", ".rt", ".edit")) if f"Rattle.{crate}." in read(path) or path.startswith(root + os.sep) or (crate == "transaction" and path.startswith(os.path.join("crates", "version_manager")))]
+        for path in users:
             before = read(path)
             lines = before.split("\n")
             for i, line in enumerate(lines):

@@ -106,7 +106,9 @@ module _ (s : Storage) (p : Plain) (b : Beside s p) (os : List Operation) (f : F
       rw (get-old d q, sets-old d q) (b.status d h (omega (arith, b.epoch))))
       (λ t.
       let q : d ≡ m.epoch + 1 = omega (arith, leb-false d m.epoch t, long) in
-      rw (q, get-new, sets-new) change.shows)
+      subst (λ (e : ℕ). Showing (get e after.status) (sets_at e (counted c os p))) (sym q)
+      (subst (λ (o : Option Snapshot). Showing o (sets_at (m.epoch + 1) (counted c os p))) (sym get-new)
+      (subst (λ (x : Sets). Showing (some change.left.snapshot) x) (sym sets-new) change.shows)))
 
   waiting-after : arranged itself (deletions_in after.rowset_deletion_to_apply) ≡ waiting_of (counted c os p)
   waiting-after =

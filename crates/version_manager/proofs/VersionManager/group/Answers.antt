@@ -18,23 +18,23 @@ pub split-n-requires : goal.split-n-requires
 split-n-requires c = search rules
 
 pub slice_bounds-of-end : goal.slice_bounds-of-end
-slice_bounds-of-end c = let s = c.split-n.ensures in omega (arith, c.split-n.ensures.count, c.split-n.ensures.us-full)
+slice_bounds-of-end c = let s = c.split-n.ensures in omega (arith, c.split-n.ensures.count, c.split-n.ensures.us_full)
 
 pub slice_bounds-group-end : goal.slice_bounds-group-end
-slice_bounds-group-end c = let s = c.split-n.ensures in sym (length-take-le _ _ (omega (arith, c.split-n.ensures.count, c.split-n.ensures.us-full)))
+slice_bounds-group-end c = let s = c.split-n.ensures in sym (length-take-le _ _ (omega (arith, c.split-n.ensures.count, c.split-n.ensures.us_full)))
 
 pub slice_bounds-deleted-end : goal.slice_bounds-deleted-end
-slice_bounds-deleted-end c = let s = c.split-n.ensures in omega (arith, c.split-n.ensures.count, c.split-n.ensures.ws-full)
+slice_bounds-deleted-end c = let s = c.split-n.ensures in omega (arith, c.split-n.ensures.count, c.split-n.ensures.ws_full)
 
 pub slice_bounds-group-end-2 : goal.slice_bounds-group-end-2
-slice_bounds-group-end-2 c = let s = c.split-n.ensures in sym (length-take-le _ _ (omega (arith, c.split-n.ensures.count, c.split-n.ensures.ws-full)))
+slice_bounds-group-end-2 c = let s = c.split-n.ensures in sym (length-take-le _ _ (omega (arith, c.split-n.ensures.count, c.split-n.ensures.ws_full)))
 
 pub group-done-requires : goal.group-done-requires
 group-done-requires c =
     let s = c.split-n in
     let w = c.split-n.ensures in
-    let u = length-take-le c.split-n.result c.split-n.new.rowsets (omega (arith, c.split-n.ensures.count, c.split-n.ensures.us-full)) in
-    let v = length-take-le c.split-n.result c.split-n.new.rows (omega (arith, c.split-n.ensures.count, c.split-n.ensures.ws-full)) in
+    let u = length-take-le c.split-n.result c.split-n.new.rowsets (omega (arith, c.split-n.ensures.count, c.split-n.ensures.us_full)) in
+    let v = length-take-le c.split-n.result c.split-n.new.rows (omega (arith, c.split-n.ensures.count, c.split-n.ensures.ws_full)) in
     (v ∙ sym u, u ∙ c.split-n.ensures.count)
 
 pub enum_known-verdict : goal.enum_known-verdict
