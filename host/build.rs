@@ -24,16 +24,27 @@ fn main() {
 fn prove() -> PathBuf {
     let here = PathBuf::from(env::var_os("CARGO_MANIFEST_DIR").unwrap_or_default());
     let root = here.parent().unwrap_or(Path::new("."));
-    for source in ["crates", "crates.txt"] {
-        println!("cargo:rerun-if-changed={}", root.join(source).display());
+    println!("cargo:rerun-if-changed={}", root.join("crates.txt").display());
+    for source in sources(&root.join("crates")) {
+        println!("cargo:rerun-if-changed={}", source.display());
     }
-    match Command::new("rt").args(["staticlib", "host"]).current_dir(root).status() {
-        Ok(status) if status.success() => root.join("target/staticlib/libhost.a"),
-        Ok(status) => fail(&format!("`rt staticlib host` in the repository's root ended with {status}")),
+    let host = root.join("crates/host");
+    match Command::new("rt").arg("lib").current_dir(&host).status() {
+        Ok(status) if status.success() => host.join("out/libhost.a"),
+        Ok(status) => fail(&format!("`rt lib` in {} ended with {status}", host.display())),
         Err(_) => fail(&format!(
-            "`rt` is not on the path: put the Rattle toolchain there, or set {VARIABLE} to a libhost.a that `rt staticlib host` has made"
+            "`rt` is not on the path: put the Rattle toolchain there, or set {VARIABLE} to a libhost.a that `rt lib` in crates/host has made"
         )),
     }
+}
+
+/// The code and the proofs of each crate. What `rt` makes lies beside them, in `out`.
+fn sources(crates: &Path) -> Vec<PathBuf> {
+    let folders = std::fs::read_dir(crates).into_iter().flatten().flatten();
+    folders
+        .flat_map(|folder| ["src", "specs", "proofs"].map(|part| folder.path().join(part)))
+        .filter(|part| part.is_dir())
+        .collect()
 }
 
 fn fail(why: &str) -> ! {

@@ -2,13 +2,13 @@
 use mathlib.Core.Path.{◌≡◌, refl, sym, ap, subst, ◌∙◌}
 use mathlib.Core.Bool.{false}
 use mathlib.Core.List.{List, [], map}
-use Prim.Native.Nat.{ℕ, ◌+◌, ◌≤◌, ◌<◌, min}
+use Prim.Native.Nat.{ℕ, ◌+◌, ◌<◌, min}
 use native.Mathlib.Omega.{arith}
 use native.Mathlib.Numerals.{add-one}
 use lib.Dec.{leb, ltb}
 use lib.ListN.{length, take, get_or, set, length-map, get_or-map}
 use lib.Seq.{take-suc, take-suc-set, take_all}
-use borrow.Author.Tests.{leb-true, leb-false, le-leb, lt-leb}
+use borrow.Author.Tests.{leb-true, leb-false}
 use Rattle.lists.proofs.Tests.{by_cases}
 use Rattle.lists.proofs.Views.{map-take, map-set}
 use Rattle.ids.specs.declared.SecondaryRowHandler.{SecondaryRowHandler}
@@ -30,12 +30,6 @@ use Rattle.version_manager.specs.Made.{MadeSays}
 use Rattle.version_manager.specs.Create.{create_verdict, CreateSays}
 use Rattle.version_manager.specs.Compact.{CompactSays}
 use Rattle.host.specs.Arguments.{name_in, handle_in}
-
-pub name-long : (l : List ℕ) → longest_name < length l → name_in l ≡ []
-name-long l h = rw (lt-leb (length l) longest_name h)
-
-pub name-short : (l : List ℕ) → length l ≤ longest_name → name_in l ≡ l
-name-short l h = rw (le-leb (length l) longest_name h)
 
 -- where the refusal is the same, what was to be committed makes no difference
 refused-alike : (v w : Verdict) (k : Refusal) (os ps : List Operation) (is js : List ℕ) (m : VersionManager) (out : List ℕ) (t : Told) (n : VersionManager) (out' : List ℕ)

@@ -13,21 +13,21 @@ pub mod answers;
 pub mod arguments;
 
 #[repr(C)]
-#[derive(Drop)]
+#[derive(Clone, Copy)]
 pub struct Handed {
     pub manager: VersionManager,
     pub answer: Answer,
 }
 
 #[repr(C)]
-#[derive(Drop)]
+#[derive(Clone, Copy)]
 pub struct Booked {
     pub book: PinBook,
     pub answer: Answer,
 }
 
 #[repr(C)]
-#[derive(Drop)]
+#[derive(Clone, Copy)]
 pub struct Begun {
     pub manager: VersionManager,
     pub book: PinBook,

@@ -41,7 +41,7 @@ pub struct Follower {
     pub half: bool,
     /// The file as the driver shows it.
     pub found: Option<File>,
-    /// Document 01's counter of table ids, which stands in the driver's catalog.
+    /// The specification's counter of table ids, which stands in the driver's catalog.
     pub next_table: u32,
     /// What the last opening made of the next ids, and whether the driver may have raised them since.
     pub opened_with: NextId,

@@ -41,7 +41,7 @@ pub fn creates_a_live_id(catalog: &[Table], ops: &[Operation]) -> bool {
     false
 }
 
-/// What document 01's counter of table ids is raised to by creates, in the driver's catalog.
+/// What the specification's counter of table ids is raised to by creates, in the driver's catalog.
 pub fn next_table_of(ops: &[Operation]) -> u32 {
     let id = |o: &Operation| match o {
         CreateTable(t, ..) => Some((*t as u32).wrapping_add(1)),

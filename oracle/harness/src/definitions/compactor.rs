@@ -21,13 +21,13 @@ pub fn get_rowsets_of(t: u64, s: &Snapshot) -> Vec<u64> {
     unwrap_or(vec![], get(t, &s.rowsets))
 }
 
-pub fn rowset_id(x: &Sized) -> u64 {
+pub fn sized_rowset_id(x: &Sized) -> u64 {
     x.rowset
 }
 
 /// A rowset, by its id.
 pub fn by_rowset(x: &Sized) -> [u64; 1] {
-    [rowset_id(x)]
+    [sized_rowset_id(x)]
 }
 
 /// The loop over the rowsets in the order in which they come, with sizes of the sum current_size selected.
@@ -48,6 +48,6 @@ pub fn select(target_rowset_size: u64, rowsets: &[Sized]) -> Vec<u64> {
     let selected_rowsets = selecting(target_rowset_size, 0, rowsets);
     match selected_rowsets.len() <= 1 {
         true => vec![],
-        false => arranged(by_rowset, selected_rowsets).iter().map(rowset_id).collect(),
+        false => arranged(by_rowset, selected_rowsets).iter().map(sized_rowset_id).collect(),
     }
 }

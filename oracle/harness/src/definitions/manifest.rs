@@ -14,7 +14,7 @@ pub enum Operation {
     /// Table, rowset, vector.
     AddVector(u64, u64, u64),
     DeleteVector(u64, u64, u64),
-    // `nextIds` is left out: no value of the original's has it.
+    // `next_ids` is left out: no value of the original's has it.
 }
 
 #[derive(Clone, Debug, PartialEq)]

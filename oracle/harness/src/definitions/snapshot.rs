@@ -22,24 +22,24 @@ pub fn settled<A>(k: u64, l: Vec<A>, m: Vec<Binding<Vec<A>>>) -> Vec<Binding<Vec
     if is_empty(&l) { remove(k, m) } else { insert(k, l, m) }
 }
 
-pub fn add_rowset(t: u64, r: u64, s: Snapshot) -> Snapshot {
+pub fn snapshot_add_rowset(t: u64, r: u64, s: Snapshot) -> Snapshot {
     let table = unwrap_or(vec![], get(t, &s.rowsets));
     snapshot(insert(t, with_number(r, table), s.rowsets), s.dvs)
 }
 
-pub fn delete_rowset(t: u64, r: u64, s: Snapshot) -> Outcome<Snapshot> {
+pub fn snapshot_delete_rowset(t: u64, r: u64, s: Snapshot) -> Outcome<Snapshot> {
     and_then(unwrap(get(t, &s.rowsets)), |table| {
         Ok(snapshot(settled(t, without_number(r, table), s.rowsets), s.dvs))
     })
 }
 
-pub fn add_dv(t: u64, r: u64, v: u64, s: Snapshot) -> Snapshot {
+pub fn snapshot_add_dv(t: u64, r: u64, v: u64, s: Snapshot) -> Snapshot {
     let table = unwrap_or(vec![], get(t, &s.dvs));
     let dvs = unwrap_or(vec![], get(r, &table));
     snapshot(s.rowsets, insert(t, insert(r, with_number(v, dvs), table), s.dvs))
 }
 
-pub fn delete_dv(t: u64, r: u64, v: u64, s: Snapshot) -> Outcome<Snapshot> {
+pub fn snapshot_delete_dv(t: u64, r: u64, v: u64, s: Snapshot) -> Outcome<Snapshot> {
     and_then(unwrap(get(t, &s.dvs)), |table| {
         and_then(unwrap(get(r, &table)), |dvs| {
             Ok(snapshot(s.rowsets, settled(t, settled(r, without_number(v, dvs), table), s.dvs)))

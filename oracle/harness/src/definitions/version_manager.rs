@@ -5,7 +5,7 @@ use std::rc::Rc;
 use super::keyed::{cons, itself, joined, keep, without};
 use super::manifest::Operation::{self, *};
 use super::maps::*;
-use super::snapshot::{self, Snapshot, add_dv, add_rowset, delete_dv, delete_rowset};
+use super::snapshot::{self, Snapshot, snapshot_add_dv, snapshot_add_rowset, snapshot_delete_dv, snapshot_delete_rowset};
 
 pub type Pair = [u64; 2];
 
@@ -61,16 +61,16 @@ pub fn change(o: &Operation, c: Changing) -> Outcome<Changing> {
         CreateTable(..) => Ok(c),
         DropTable(_) => Ok(c),
         AddRowset(t, r) => {
-            Ok(changing(add_rowset(t, r, c.snapshot), pooled([t, r], c.rowsets), c.dvs, c.deletions))
+            Ok(changing(snapshot_add_rowset(t, r, c.snapshot), pooled([t, r], c.rowsets), c.dvs, c.deletions))
         }
-        DeleteRowset(t, r) => and_then(delete_rowset(t, r, c.snapshot), |s| {
+        DeleteRowset(t, r) => and_then(snapshot_delete_rowset(t, r, c.snapshot), |s| {
             Ok(changing(s, c.rowsets, c.dvs, joined(c.deletions, vec![[t, r]])))
         }),
         AddVector(t, r, v) => {
-            Ok(changing(add_dv(t, r, v, c.snapshot), c.rowsets, pooled([t, v], c.dvs), c.deletions))
+            Ok(changing(snapshot_add_dv(t, r, v, c.snapshot), c.rowsets, pooled([t, v], c.dvs), c.deletions))
         }
         DeleteVector(t, r, v) => {
-            and_then(delete_dv(t, r, v, c.snapshot), |s| Ok(changing(s, c.rowsets, c.dvs, c.deletions)))
+            and_then(snapshot_delete_dv(t, r, v, c.snapshot), |s| Ok(changing(s, c.rowsets, c.dvs, c.deletions)))
         }
     }
 }

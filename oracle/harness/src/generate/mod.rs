@@ -57,7 +57,7 @@ impl Generator<'_> {
         let answer = self.port.ask(&line);
         let entry = Entry { line, answer: Some(answer.clone()) };
         if entry.accepted() && !READING.contains(&entry.word()) {
-            // by document 01's write rules the last append has landed, and so has the rewritten manifest
+            // by the specification's write rules the last append has landed, and so has the rewritten manifest
             self.append = None;
             self.may_be_stale = false;
         }

@@ -1,4 +1,4 @@
-//! Document 01's stand-in for catalog ids: a counter that starts at 0, and on a reopen the id of the `T` line. The
+//! The specification's stand-in for catalog ids: a counter that starts at 0, and on a reopen the id of the `T` line. The
 //! original's create has no field for an id, so it travels as the only entry of `ordered_pk_ids`; the shape is the id
 //! of the only column.
 use std::collections::BTreeMap;

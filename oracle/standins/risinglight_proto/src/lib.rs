@@ -1,4 +1,4 @@
-//! In place of the code made from rowset.proto, which is not among the files: the record as document 01 has it,
+//! In place of the code made from rowset.proto, which is not among the files: the record as the specification has it,
 //! one uint32 as field 1, and the two enums that are named.
 pub mod rowset {
     #[derive(Clone, PartialEq, ::prost::Message)]

@@ -301,7 +301,7 @@ impl Store {
         vectors.chain(rowsets.iter().map(|r| format!("D,{table},{r}"))).collect()
     }
 
-    /// The commit as document 01 has it. The original's compactor makes its own from the same snapshot, aside.
+    /// The commit as the specification has it. The original's compactor makes its own from the same snapshot, aside.
     pub async fn compact(&mut self, table: u32, new: Option<u32>, taken: &[u32]) -> StorageResult<u64> {
         if !self.settle {
             return self.compact_in_place(table, new, taken).await;
