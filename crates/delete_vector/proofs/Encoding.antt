@@ -1,5 +1,5 @@
 -- Laws of the encoding. Assumes nothing.
-use Rattle.std.proofs.Common.{◌≡◌, ℕ, zero, suc, ◌+◌, ◌-◌, ◌/◌, ◌%◌, ◌<◌, ◌≤◌, Bool, true, false, ltb, List, [], ◌∷◌, refl, ap, arith, ltb-false, ltb-true, le-ltb, lt-ltb}
+use Rattle.std.proofs.Common.{◌≡◌, ℕ, zero, suc, ◌+◌, ◌/◌, ◌%◌, ◌<◌, ◌≤◌, Bool, true, false, ltb, List, [], ◌∷◌, refl, ap, arith, ltb-false, ltb-true, le-ltb, lt-ltb}
 use Rattle.lists.proofs.Tests.{by_cases}
 use Rattle.delete_vector.specs.Encoding.{varint_by, varint, value_of}
 

@@ -1,5 +1,5 @@
 -- What the loops over a file's records need. Assumes nothing.
-use Rattle.std.proofs.Common.{◌≡◌, ℕ, ◌+◌, ◌-◌, ◌<◌, ◌≤◌, min, true, false, List, [], ◌∷◌, ◌++◌, length, get_or, drop, sym, refl, ap, ◌∙◌, add-one, arith, length-append, length-drop, drop_of_length-le, drop-cons, drop-drop, le-ltb, lt-ltb}
+use Rattle.std.proofs.Common.{◌≡◌, ℕ, ◌+◌, ◌<◌, ◌≤◌, min, true, false, List, [], ◌∷◌, ◌++◌, length, get_or, drop, sym, refl, ap, ◌∙◌, add-one, arith, length-append, length-drop, drop_of_length-le, drop-cons, drop-drop, le-ltb, lt-ltb}
 use Rattle.lists.specs.Written.{written, Wrote}
 use Rattle.lists.proofs.Tests.{by_cases, clash}
 use Rattle.lists.proofs.Written.{written_on}

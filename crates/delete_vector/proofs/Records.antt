@@ -1,5 +1,5 @@
 -- Laws of a vector's file: what is written reads back, and what is read was written. Assumes nothing.
-use Rattle.std.proofs.Common.{◌≡◌, ℕ, zero, suc, ◌+◌, ◌-◌, ◌<◌, ◌≤◌, true, false, eqb, ltb, List, [], ◌∷◌, ◌++◌, length, take, drop, sym, refl, ap, ◌∙◌, append_assoc, arith, length-append, length-drop, take_at, ltb-false, ltb-true, lt-ltb, eq-eqb, eqb-true}
+use Rattle.std.proofs.Common.{◌≡◌, ℕ, zero, suc, ◌+◌, ◌<◌, ◌≤◌, true, false, eqb, ltb, List, [], ◌∷◌, ◌++◌, length, take, drop, sym, refl, ap, ◌∙◌, append_assoc, arith, length-append, length-drop, take_at, ltb-false, ltb-true, lt-ltb, eq-eqb, eqb-true}
 use lib.Seq.{drop-append_seam}
 use borrow.Author.Tests.{eqb-false}
 use Rattle.lists.proofs.Tests.{by_cases, clash, both}

@@ -1,4 +1,4 @@
--- Document 01's number (0 where accepted), place and values of each answer. Assumes nothing.
+-- The specification's number (0 where accepted), place and values of each answer. Assumes nothing.
 use Rattle.std.specs.Prelude.{ℕ, ◌+◌, [], ◌∷◌, length}
 use Rattle.ids.specs.declared.refusal.Verdict.TheVariants.{Accepted, Refused}
 use Rattle.ids.specs.Answers.{Told, told}

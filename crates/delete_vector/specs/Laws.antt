@@ -1,5 +1,5 @@
 -- What the definitions say together: the reader and the writer are each other's inverse, and in memory is the same set. Assumes nothing.
-use Rattle.std.specs.Prelude.{◌≡◌, ℕ, ◌+◌, ◌<◌, Bool, true, List, ◌++◌, length, ◌≢◌, nat_lt}
+use Rattle.std.specs.Prelude.{◌≡◌, ℕ, ◌<◌, Bool, true, List, ◌++◌, length, ◌≢◌, nat_lt}
 use Rattle.lists.specs.Keyed.{all_of, ascending}
 use Rattle.delete_vector.specs.Records.{row_limit, record_of, records_of, Rows, Bad, records_in}
 use Rattle.delete_vector.specs.Memory.{row_key, is_in, in_memory}

@@ -1,4 +1,4 @@
--- What an answer tells: document 01's number (0 where the call is accepted), place and values. Assumes nothing.
+-- What an answer tells: the specification's number (0 where the call is accepted), place and values. Assumes nothing.
 use Rattle.std.specs.Prelude.{ℕ, List, []}
 use Rattle.ids.specs.declared.refusal.Verdict.{Verdict}
 use Rattle.ids.specs.declared.refusal.Verdict.TheVariants.{Accepted, Refused}

@@ -1,4 +1,4 @@
--- Document 01's limits. Assumes nothing.
+-- The specification's limits. Assumes nothing.
 use Rattle.std.specs.Prelude.{ℕ}
 
 abbrev pub most_tables : ℕ

@@ -1,4 +1,4 @@
-// Document 01's limits, for code and for the lengths of arrays.
+// The specification's limits, for code and for the lengths of arrays.
 pub const MOST_TABLES: usize = 16;
 
 // Pairs held, and vectors held.

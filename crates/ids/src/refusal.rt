@@ -65,7 +65,7 @@ pub enum Refusal {
     // 29: a manager out of order or beyond its limits.
     BadManager,
     // 31: a report of a short write that takes nothing back: as many bytes landed as were appended, no commit is kept, or the
-    // current epoch is pinned. Document 02 has no 30.
+    // current epoch is pinned. There is no 30.
     NotReportable,
 }
 

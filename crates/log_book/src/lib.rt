@@ -1,4 +1,4 @@
-// The cases that document 01 marks with *, as one proved table of facts of the definitions.
+// The cases that the specification marks with *, as one proved table of facts of the definitions.
 #![tactic(auto)]
 
 ghost use Rattle.log_book.specs.LogBook.{LogBook};

@@ -1,4 +1,4 @@
--- When an operation of a commit is refused: its rules in document 01's order, with the operation's place. Assumes nothing.
+-- When an operation of a commit is refused: its rules in the specification's order, with the operation's place. Assumes nothing.
 use Rattle.std.specs.Prelude.{Bool, true, not, List, [], ◌∷◌, ℕ, leb, eqb, length, get_or}
 use Rattle.lists.specs.Keyed.{keep, any_of, has}
 use Rattle.ids.specs.declared.refusal.Refusal.TheVariants.{Malformed, TableNotLive, PairNotShown, VectorNotShown, IdNotDrawn, NameTaken, StillHeld, TablesFull, HeldFull}

@@ -26,7 +26,7 @@ place_key k = k.epoch ∷ []
 abbrev pub by_place : PinEntry → List ℕ
 by_place p = place_key (place_on p.epoch)
 
--- document 01's limits: places at a time, and pins of a place
+-- the specification's limits: places at a time, and pins of a place
 abbrev pub most_pinned : ℕ
 most_pinned = 64
 

@@ -1,4 +1,4 @@
-// The pin book: what document 01's 28 judges of it, the epochs that it guards, and its counts.
+// The pin book: what the specification's 28 judges of it, the epochs that it guards, and its counts.
 #![tactic(auto)]
 
 ghost use Rattle.std.specs.Prelude.{◌≡◌, ◌&&◌, [], ◌≤◌};
@@ -10,7 +10,7 @@ ghost use Rattle.pins.specs.Laws.{BookLaws};
 
 pub mod counts;
 
-// Document 01's limits: epochs that are pinned at a time, and the pins that an epoch may have.
+// The specification's limits: epochs that are pinned at a time, and the pins that an epoch may have.
 pub const MOST_PINNED: usize = 64;
 
 pub const MOST_PINS: u16 = 65535;
@@ -99,7 +99,7 @@ impl PinBook {
         true
     }
 
-    // Document 01's 28 at an epoch, of any value whatsoever.
+    // The specification's 28 at an epoch, of any value whatsoever.
     pub fn bad(self, current: u32) -> bool
         ensures { result ≡ bad_book current self }
     {

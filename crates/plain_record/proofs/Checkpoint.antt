@@ -1,15 +1,13 @@
 -- A checkpoint keeps what holds between calls, and is never refused where enough is lent. Assumes nothing.
 use mathlib.Core.Path.{◌≡◌, refl, sym, ap, subst, ◌∙◌}
-use mathlib.Core.Bool.{Bool, true, false, cond}
+use mathlib.Core.Bool.{Bool, true, cond}
 use mathlib.Core.List.{List, [], ◌∷◌}
 use Prim.Native.Nat.{ℕ, ◌+◌, ◌≤◌}
 use native.Mathlib.Omega.{arith}
-use borrow.Author.Tests.{le-ltb}
-use lib.Dec.{ltb}
 use lib.ListN.{length, take}
 use Rattle.lists.specs.Written.{over}
 use Rattle.ids.specs.declared.refusal.Verdict.{Verdict}
-use Rattle.ids.specs.declared.refusal.Verdict.TheVariants.{Accepted, Refused}
+use Rattle.ids.specs.declared.refusal.Verdict.TheVariants.{Accepted}
 use Rattle.ids.specs.Ids.{Next}
 use Rattle.ids.specs.Answers.{Told, told, after}
 use Rattle.version_state.specs.State.{State}

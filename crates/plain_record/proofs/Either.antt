@@ -2,16 +2,16 @@
 use mathlib.Core.Path.{◌≡◌, refl, sym, ap, subst, ◌∙◌}
 use mathlib.Core.Bool.{Bool, true, false, cond}
 use mathlib.Core.List.{List, [], ◌∷◌, ◌++◌}
-use Prim.Native.Nat.{ℕ, ◌+◌, ◌≤◌}
+use Prim.Native.Nat.{ℕ, ◌≤◌}
 use lib.ListN.{length, take}
 use Rattle.rewrite.specs.Rewritten.{longest_rewritten}
 use Rattle.storage.specs.declared.Reopened.{Reopened}
 use Rattle.storage.specs.Reopen.{reopen_told}
 use Rattle.plain_record.specs.Calls.{Call, checkpoint, reopen}
-use Rattle.plain_record.specs.Plain.{Plain, kept, Record, recorded, at_start}
-use Rattle.plain_record.specs.Run.{Steps, World, Event, is_accepted, value, port, LinkBy, DidCheckpoint, replaced, after_checkpoint, after_reopen, Chain, last_of, Starts}
+use Rattle.plain_record.specs.Plain.{Plain, kept, Record, at_start}
+use Rattle.plain_record.specs.Run.{Steps, World, Event, is_accepted, value, port, LinkBy, DidCheckpoint, after_checkpoint, after_reopen, Chain, last_of, Starts}
 use Rattle.plain_record.specs.Claim.{Agrees, Answers, next_record, record_of, Claim}
-use Rattle.plain_record.specs.Either.{Finds, ReopensTo, EitherStands}
+use Rattle.plain_record.specs.Either.{Finds, EitherStands}
 use Rattle.plain_record.proofs.Story.{chain-front, chain_back, last-append, record-append}
 
 -- a run that goes on

@@ -25,8 +25,7 @@ use Rattle.version_manager.specs.declared.VersionManager.{VersionManager}
 use Rattle.version_manager.specs.Managers.{Manages}
 use Rattle.version_manager.proofs.Managers.{nothing-passes}
 use Rattle.rewrite.specs.Rewritten.{rewritten_of, longest_rewritten}
-use Rattle.replay.specs.Replay.{stands, replay_of}
-use Rattle.recovery.specs.Holds as manifest
+use Rattle.replay.specs.Replay.{replay_of}
 use Rattle.recovery.proofs.SoundReading.{Whole, whole-replayed}
 use Rattle.recovery.proofs.Sound.{replay-sound}
 use Rattle.recovery.proofs.Again.{replay-room, replay-again}

@@ -1,34 +1,33 @@
 -- A report keeps what holds between calls: it hands back the state before the last commit. It is refused by 31 alone. Assumes nothing.
-use mathlib.Core.Path.{◌≡◌, refl, sym, ap, ap₂, subst, ◌∙◌}
+use mathlib.Core.Path.{◌≡◌, refl, sym, ap, subst, ◌∙◌}
 use mathlib.Core.Bool.{Bool, true, false, cond, not, ◌&&◌, ◌||◌}
 use mathlib.Core.List.{List, [], ◌∷◌, ◌++◌}
-use Prim.Native.Nat.{ℕ, ◌+◌, ◌≤◌, ◌<◌}
+use Prim.Native.Nat.{ℕ, ◌+◌}
 use native.Mathlib.Omega.{arith}
-use borrow.Author.Tests.{lt-ltb, le-ltb, le-leb, leb-true, leb-false, eq-eqb, eqb-false}
+use borrow.Author.Tests.{lt-ltb, le-ltb, le-leb, leb-true, leb-false, eqb-false}
 use lib.Dec.{leb, ltb, eqb}
 use lib.ListN.{length, take}
-use Rattle.lists.specs.Keyed.{all_of, any_of}
+use Rattle.lists.specs.Keyed.{all_of}
 use Rattle.lists.proofs.Tests.{by_cases, clash, both, neither}
-use Rattle.lists.proofs.Keyed.{All, all_of-all, all-all_of}
 use Rattle.ids.specs.declared.refusal.Refusal.TheVariants.{NotReportable}
 use Rattle.ids.specs.declared.refusal.Verdict.{Verdict}
-use Rattle.ids.specs.declared.refusal.Verdict.TheVariants.{Accepted, Refused}
+use Rattle.ids.specs.declared.refusal.Verdict.TheVariants.{Accepted}
 use Rattle.ids.specs.Verdicts.{◌⇒◌, judged}
 use Rattle.ids.specs.Answers.{Told, told}
 use Rattle.ids.proofs.Verdicts.{none-judged}
-use Rattle.version_state.specs.State.{State, with_epoch}
+use Rattle.version_state.specs.State.{State}
 use Rattle.pins.specs.declared.PinBook.{PinBook}
 use Rattle.pins.specs.Book.{PinEntry, pins_of, valid_pin, bad_book, pinned}
 use Rattle.pins.proofs.Facts.{good_book, book-good}
 use Rattle.version_manager.specs.declared.VersionManager.{VersionManager}
-use Rattle.version_manager.specs.Managers.{held_by, former_by, HandsBack}
+use Rattle.version_manager.specs.Managers.{former_by, HandsBack}
 use Rattle.version_manager.specs.Report.{report_verdict, reported_state}
 use Rattle.version_manager.proofs.Laws.{report-laws}
 use Rattle.plain_record.specs.Calls.{as_report}
 use Rattle.plain_record.specs.Plain.{Plain, epoch_of, Former, gone, former, taken_off, Record, recorded, turn}
 use Rattle.plain_record.specs.Run.{port, Append, World, world, is_accepted, value, reported, after_report, DidReport}
 use Rattle.plain_record.specs.Claim.{is_former, may_report}
-use Rattle.plain_record.proofs.Invariant.{Inv, Recalls, Recalled}
+use Rattle.plain_record.proofs.Invariant.{Inv, Recalled}
 use Rattle.plain_record.proofs.CommitIds.{next-rise}
 use Rattle.plain_record.proofs.Stands.{Stands, accepted-stands, refused-stands, by-verdict}
 use Rattle.plain_record.proofs.Pin.{filed-pins}

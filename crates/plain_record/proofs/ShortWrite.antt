@@ -8,12 +8,11 @@ use lib.ListN.{length}
 use borrow.Author.Tests.{eq-eqb}
 use Rattle.lists.specs.Keyed.{all_of}
 use Rattle.lists.proofs.Tests.{clash, both}
-use Rattle.manifest.specs.Operations.{Operation}
 use Rattle.pins.specs.Guards.{may_show}
 use Rattle.plain_record.specs.Sets.{Sets, apply_all}
-use Rattle.plain_record.specs.Calls.{Call, Kind, quiet, as_commit, as_pin, as_unpin, as_vacuum, as_report, as_checkpoint, as_reopen, kind_of}
+use Rattle.plain_record.specs.Calls.{Kind, quiet, as_commit, as_pin, as_unpin, as_vacuum, as_report, as_checkpoint, as_reopen, kind_of}
 use Rattle.plain_record.specs.Plain.{Plain, epoch_of, guards_in, former, Record, at_start, turn}
-use Rattle.plain_record.specs.Run.{World, Event, is_accepted, value, port, Chain, last_of}
+use Rattle.plain_record.specs.Run.{World, Event, is_accepted, value, port, last_of}
 use Rattle.plain_record.specs.Shows.{ShowsTables, ShowsPairs, ShowsVectors}
 use Rattle.plain_record.specs.Claim.{Agrees, is_pinning, next_record, record_of, Claim}
 use Rattle.plain_record.specs.ShortWrite.{ShowsNow, only_pins, ShortWrite}

@@ -1,4 +1,4 @@
--- Demand 3: every turn of a run keeps the invariant, and it holds at the start. Assumes nothing.
+-- The first theorem: every turn of a run keeps the invariant, and it holds at the start. Assumes nothing.
 use mathlib.Core.Path.{refl, sym, ap, subst, ◌∙◌}
 use mathlib.Core.Bool.{true, false}
 use mathlib.Core.List.{[], map}

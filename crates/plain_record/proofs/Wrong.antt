@@ -38,7 +38,7 @@ use Rattle.plain_record.specs.Run.{Steps, World, Event, Chain}
 use Rattle.plain_record.specs.Claim.{Claim, Holds}
 use Rattle.plain_record.specs.Shows.{ShowsVectors}
 use Rattle.plain_record.specs.Wrong.{unchanged, keeps_sets, unraised, leaves_epoch, unjudged, judges_nothing, unaware, forgets_waiting, CommitLeaves, leaves_part, PinsNext, answers_next, PinsNothing, counts_no_pin, PinsAnyway, counts_refused, UnpinsNothing, keeps_pin, VacuumsTo, nothing, lists_nothing, port_bound, keeps_listed, counts_one_more, lowered_bound, keeps_own_epoch, unguarded, ignores_pins, loses_pairs, loses_vectors, VacuumsAnyway, lets_go_refused, shows_current, shows_current_vectors, refuses_show, Refuted, WrongRefuted}
-use Rattle.plain_record.proofs.Events.{apart, not-empty, holds_pairs, no_tables, no_pairs, no_vectors, holding_all, holding, following, few-all, few, unpinned, once, first, begun, drawn, drawn_vector, appended, listed_by, draws, draws_vector, commits, pins, unpins, vacuums, commit_refused, pin_refused, vacuum_refused, begins, drew, drew-vector, committed, pinned, released, vacuumed, fresh-says, draw-says, draw-vector-says, adds, deletes, tables, pair, vector_of, ops_tad, frame_tad, held_tad, after_tad, commit_tad, swept_tad, fits-TAD, says-TAD, on-TAD, ops_none, frame_none, after_none, ops_t, frame_t, after_t, commit_none, commit_t, says_none, no_table, a-table, recorded, ops_ta, frame_ta, after_ta, commit_ta, says-TA, on-TA, ops_tav, frame_tav, after_tav, commit_tav, says-TAV, ops_d, frame_d, after_d, pin_ta, commit_d, pin-says-TA, says-D, on-D, no-pair, recorded_pair}
+use Rattle.plain_record.proofs.Events.{apart, not-empty, holds_pairs, no_tables, no_pairs, no_vectors, holding_all, holding, following, few-all, few, unpinned, once, first, begun, drawn, drawn_vector, appended, listed_by, draws, draws_vector, commits, pins, unpins, vacuums, commit_refused, pin_refused, vacuum_refused, begins, drew, drew-vector, committed, pinned, released, vacuumed, fresh-says, draw-says, draw-vector-says, adds, deletes, tables, pair, vector_of, ops_tad, frame_tad, held_tad, after_tad, commit_tad, swept_tad, fits-TAD, says-TAD, on-TAD, ops_none, frame_none, after_none, ops_t, frame_t, after_t, commit_none, commit_t, says_none, no_table, a-table, recorded, ops_ta, says-TA, ops_tav, frame_tav, after_tav, commit_tav, says-TAV, after_d, commit_d, pin-says-TA, says-D, on-D, no-pair, recorded_pair}
 use Rattle.plain_record.proofs.WrongManifests.{opens-empty, reads-first, reads-to-room, counts-early, forgets-ids, appends-no-end, rewrites-no-end, refuses-reopen}
 use Rattle.plain_record.proofs.WrongReports.{stays-at-epoch, keeps-deletions, loses-pinned, reads-torn, appends-no-mark}
 use Rattle.plain_record.proofs.WrongCheckpoints.{writes-waiting, forgets-let-go, keeps-length, drops-older}

@@ -4,7 +4,6 @@ use mathlib.Core.Bool.{false, true≢false}
 use mathlib.Core.List.{List, [], ◌∷◌}
 use Prim.Native.Nat.{ℕ}
 use native.Mathlib.Omega.{arith}
-use lib.ListN.{length}
 use Rattle.columns.specs.Rows.{rows}
 use Rattle.ids.specs.declared.refusal.Refusal.TheVariants.{OutputTooShort}
 use Rattle.text.specs.Class.{is_digit, is_lower}
@@ -13,7 +12,6 @@ use Rattle.text.specs.Decimal.{digits_by, digits, read_on, read_in, read_at}
 use Rattle.manifest.specs.Lines.{field_at, named as named_at, two_fields, three_fields, table_fields, line_by, line_of, fields_text, text_of}
 use Rattle.manifest.specs.Split.{lines_on, lines}
 use Rattle.snapshot.specs.Entries.{gone_at, shown_at}
-use Rattle.version_state.specs.State.{Fit}
 use Rattle.version_state.specs.Widths.{Narrow}
 use Rattle.rewrite.specs.Rewritten.{rewritten_of}
 use Rattle.version_manager.specs.declared.VersionManager.{VersionManager}

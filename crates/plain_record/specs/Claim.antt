@@ -1,4 +1,4 @@
--- Demand 3: what is claimed of every run, beside the plain record of its calls. Assumes nothing.
+-- The first theorem: what is claimed of every run, beside the plain record of its calls. Assumes nothing.
 use Rattle.std.specs.Prelude.{◌≡◌, Bool, true, false, cond, not, ◌&&◌, List, [], ◌∷◌, map, ℕ, ◌+◌, ◌≤◌, eqb, ltb, length}
 use Rattle.lists.specs.Order.{same}
 use Rattle.lists.specs.Keyed.{keep, all_of, any_of, arranged}

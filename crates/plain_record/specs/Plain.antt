@@ -1,4 +1,4 @@
--- Document 01's plain record, with document 02's reports. It is fed the calls' arguments, whether each was accepted, the id that a create answers, and how far an append landed. Assumes nothing.
+-- The specification's plain record, with its reports. It is fed the calls' arguments, whether each was accepted, the id that a create answers, and how far an append landed. Assumes nothing.
 use Rattle.std.specs.Prelude.{Bool, true, false, cond, not, List, [], ◌∷◌, ◌++◌, ℕ, ◌+◌, ◌-◌, eqb, leb, length, get_or}
 use Rattle.lists.specs.Keyed.{keep, placed, put, without}
 use Rattle.manifest.specs.Operations.{Operation}

@@ -1,4 +1,4 @@
-// The plain record, and demand 3: after every list of calls the manager agrees with it. Only the calls in `steps` are code; the
+// The plain record, and the first theorem: after every list of calls the manager agrees with it. Only the calls in `steps` are code; the
 // functions here pin what is claimed to the check.
 #![tactic(auto)]
 

@@ -1,4 +1,4 @@
--- 17 and document 01's limits, of a commit's state and of the replayed one with the same sets. Assumes nothing.
+-- 17 and the specification's limits, of a commit's state and of the replayed one with the same sets. Assumes nothing.
 use mathlib.Core.Path.{◌≡◌, refl, sym, ap, ◌∙◌}
 use mathlib.Core.Bool.{Bool, true, false}
 use mathlib.Core.List.{List, [], ◌∷◌, map}

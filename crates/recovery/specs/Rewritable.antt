@@ -40,7 +40,7 @@ abbrev pub owned : List (List ℕ) → List (List ℕ) → Bool
 owned ps vs = all_of (λ k. has plain (take 2 k) ps) vs
 
 pub record Rewritable (n : Next) (z : Sets) : Type 0 where
-  -- the lists rise strictly, and are within document 01's limits
+  -- the lists rise strictly, and are within the specification's limits
   pub tables : ascending by_table z.tables ≡ true
   pub pairs : ascending plain z.pairs ≡ true
   pub vectors : ascending plain z.vectors ≡ true

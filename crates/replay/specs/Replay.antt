@@ -1,4 +1,4 @@
--- Replay: from the bytes of a manifest to the state at its end, line by line as document 01 reads them. Assumes nothing.
+-- Replay: from the bytes of a manifest to the state at its end, line by line as the specification reads them. Assumes nothing.
 use Rattle.std.specs.Prelude.{◌≡◌, Bool, false, cond, not, ◌||◌, List, [], ◌∷◌, ◌++◌, ℕ, ◌+◌, leb, ltb, length}
 use Rattle.lists.specs.Keyed.{keep, all_of, has}
 use Rattle.ids.specs.declared.refusal.Refusal.TheVariants.{ManifestTooLong, Malformed, TableConflict, OverLimit, RowsetWithoutTable, TooManyOperations}

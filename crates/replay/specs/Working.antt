@@ -208,7 +208,7 @@ unfoldable pub FrameIs : Result State → List ℕ → Slices → Applied → Ty
 FrameIs (refused k) src l r = r.verdict ≡ Refused k
 FrameIs (given s) src l r = (r.verdict ≡ Accepted) × Held src l r.sets s
 
--- within document 01's limits
+-- within the specification's limits
 pub record Small (z : Sets) : Type 0 where
   pub tables : z.tables ≤ most_tables
   pub pairs : z.pairs ≤ most_held

@@ -97,7 +97,7 @@ fn apply_frame(
     crate::changes::accepted(held)
 }
 
-// More than document 01 lets be held.
+// More than the specification lets be held.
 fn over(sets: Sets) -> bool
     ensures { result ≡ ltb most_tables sets.tables || (ltb most_held sets.pairs || ltb most_held sets.vectors) }
 {

@@ -1,4 +1,4 @@
--- Demand 2: every accepted call of a run is one that the Rust does too. Assumes nothing.
+-- The second theorem: every accepted call of a run is one that the Rust does too. Assumes nothing.
 use mathlib.Core.Path.{◌≡◌, refl, sym, ap, subst, ◌∙◌}
 use mathlib.Core.Bool.{Bool, true, false, not, ◌&&◌}
 use mathlib.Core.List.{List, [], ◌∷◌}

@@ -1,4 +1,4 @@
--- Demand 2: what the port accepts the Rust does too, with the same answers, and both then show the same. Assumes nothing.
+-- The second theorem: what the port accepts the Rust does too, with the same answers, and both then show the same. Assumes nothing.
 use Rattle.std.specs.Prelude.{◌≡◌, Bool, true, false, not, ◌&&◌, List, [], ◌∷◌, ◌++◌, map, ℕ, ◌+◌, ◌≤◌}
 use Rattle.lists.specs.Keyed.{any_of, has, arranged}
 use Rattle.snapshot.specs.Entries.{by_ids}

@@ -3,7 +3,7 @@ use Rattle.std.specs.Prelude.{Bool, true, false, cond, List, [], ◌∷◌, ◌+
 use Rattle.manifest.specs.Operations.{Operation}
 use Rattle.risinglight.specs.Maps.{Outcome, fails, ok}
 
--- `ManifestOperation`. The create of a table has its id, as document 01 wants: the Rust counts creates. `N` is none of its operations
+-- `ManifestOperation`. The create of a table has its id, as the specification wants: the Rust counts creates. `N` is none of its operations
 pub data Value : Type 0 where
   Begin : Value
   End : Value

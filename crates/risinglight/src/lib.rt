@@ -1,4 +1,4 @@
-// The Rust's own behaviour as functions on values, and demand 2: the port agrees with it. Nothing here is code that runs; the
+// The Rust's own behaviour as functions on values, and the second theorem: the port agrees with it. Nothing here is code that runs; the
 // functions pin what is claimed to the check.
 #![tactic(auto)]
 

@@ -7,7 +7,6 @@ use Rattle.lists.specs.Written.{over}
 use Rattle.ids.specs.declared.refusal.Refusal.{Refusal}
 use Rattle.ids.specs.declared.refusal.Verdict.{Verdict}
 use Rattle.ids.specs.declared.refusal.Verdict.TheVariants.{Accepted, Refused}
-use Rattle.ids.specs.Verdicts.{judged}
 use Rattle.ids.specs.Answers.{told, after}
 use Rattle.ids.specs.Results.{given, onward}
 use Rattle.version_state.specs.State.{State, start}
@@ -16,7 +15,7 @@ use Rattle.version_manager.specs.Managers.{Manages}
 use Rattle.version_manager.proofs.Managers.{manages}
 use Rattle.rewrite.specs.declared.Rewrote.{Rewrote}
 use Rattle.rewrite.specs.Rewritten.{rewritten_of}
-use Rattle.rewrite.specs.Says.{rewrite_rules, with_rewritten, RewriteIs}
+use Rattle.rewrite.specs.Says.{with_rewritten, RewriteIs}
 use Rattle.storage.specs.declared.Reopened.{Reopened}
 use Rattle.storage.specs.declared.ReopenAnswer.TheVariants as answer
 use Rattle.storage.specs.Reopen.{opened_of, reopen_told, ReopenIs}

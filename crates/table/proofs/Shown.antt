@@ -13,7 +13,7 @@ use Rattle.lists.proofs.Order.{same_refl, same_true, same-sym}
 use Rattle.lists.proofs.Keyed.{All, Ascending, all_map, all_keep, all-mapped, keep_same, length-keep, ascending-keep}
 use Rattle.columns.specs.Rows.{rows, rows_from}
 use Rattle.columns.proofs.Rows.{rows-length}
-use Rattle.snapshot.specs.Entries.{Entry, gone_at, shown_at, shown_by, shown, by_ids, below_next, entries}
+use Rattle.snapshot.specs.Entries.{Entry, gone_at, shown_at, shown_by, shown, by_ids, below_next}
 use Rattle.version_state.proofs.Within.{Within}
 use Rattle.operations.specs.Judge.{is_shown}
 use Rattle.table.proofs.Deletes.{among, deleted_all, shown-marked}

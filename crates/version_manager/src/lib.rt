@@ -210,7 +210,7 @@ impl VersionManager {
         Opened { manager, book }
     }
 
-    // Document 01's 29, of any value whatsoever.
+    // The specification's 29, of any value whatsoever.
     pub fn bad(self) -> bool
         ensures { result ≡ bad_manager self }
     {

@@ -58,7 +58,7 @@ state_of m = state_by m.epoch m.next (tables_of m.tables) (rowsets_of m.rowsets)
 abbrev pub lengthened : ℕ → VersionManagerInner → VersionManagerInner
 lengthened n m = record { epoch = m.epoch; next = m.next; tables = m.tables; rowsets = m.rowsets; vectors = m.vectors; manifest = m.manifest + n }
 
--- the counts of the arrays are within document 01's limits
+-- the counts of the arrays are within the specification's limits
 abbrev pub counts_fit : VersionManagerInner → Bool
 counts_fit m = leb m.tables.count most_tables && (leb m.rowsets.count most_held && leb m.vectors.count most_held)
 

@@ -1,4 +1,4 @@
-// What a version manager holds, and what document 01's 29 judges of it.
+// What a version manager holds, and what the specification's 29 judges of it.
 #![tactic(auto)]
 
 use ids::limits::{LONGEST_MANIFEST, MOST_HELD, MOST_TABLES, NAME_BYTES};

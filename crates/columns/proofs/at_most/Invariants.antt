@@ -1,10 +1,8 @@
 -- `columns::at_most` meets its contract.
 use Prim.Native.Nat.{◌-◌, ◌≤◌}
-use borrow.Author.Tests.{lt-leb, le-leb}
 use lib.Dec.{leb}
 use Rattle.ids.specs.Limits.{most_held}
-use Rattle.lists.proofs.Places.{known}
-use Rattle.columns.proofs.Rows.{Testing, test-start, test-stop, test-more, test-done}
+use Rattle.columns.proofs.Rows.{Testing}
 use Rattle.columns.proofs.at_most.Given as goal
 
 abbrev pub invariant-loop-i : goal.invariant-loop-i

@@ -1,9 +1,8 @@
 -- `columns::insert` meets its contract.
 use mathlib.Core.Path.{sym, ◌∙◌}
-use Prim.Native.Nat.{◌+◌, ◌-◌}
 use Rattle.ids.specs.Limits.{most_held}
 use Rattle.lists.proofs.Places.{known}
-use Rattle.lists.proofs.Loops.{Shifting, shift-start, shift-more, shift-done}
+use Rattle.lists.proofs.Loops.{shift-start, shift-more, shift-done}
 use Rattle.columns.proofs.Rows.{column-insert}
 use Rattle.columns.proofs.insert.Goals as goal
 

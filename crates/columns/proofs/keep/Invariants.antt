@@ -1,10 +1,8 @@
 -- `columns::keep` meets its contract.
 use Prim.Native.Nat.{◌-◌}
-use native.Mathlib.Omega.{arith}
 use Rattle.ids.specs.Limits.{most_held}
-use Rattle.lists.proofs.Places.{known}
 use Rattle.columns.specs.Rows.{marks}
-use Rattle.columns.proofs.Rows.{Moving, move_start, move-take, move-pass, move-done}
+use Rattle.columns.proofs.Rows.{Moving}
 use Rattle.columns.proofs.keep.Given as goal
 
 abbrev pub invariant-loop-i : goal.invariant-loop-i

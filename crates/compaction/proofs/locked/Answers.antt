@@ -1,13 +1,7 @@
 -- `compaction::locked` meets its contract.
 use mathlib.Core.Path.{◌∙◌}
-use mathlib.Core.Bool.{◌&&◌}
-use mathlib.Core.List.{[], ◌∷◌}
-use Prim.Native.Nat.{◌-◌, ◌≤◌}
 use borrow.Author.Tests.{eq-eqb, ne_eqb}
-use Rattle.ids.specs.Limits.{most_tables}
-use Rattle.lists.specs.Order.{same}
-use Rattle.columns.specs.Rows.{column, marks}
-use Rattle.snapshot.proofs.TableRows.{Seeking, seek-start, seek_found, seek-more, seek-done}
+use Rattle.snapshot.proofs.TableRows.{seek-start, seek_found, seek-more, seek-done}
 use Rattle.compaction.proofs.Judging.{any-locked}
 use Rattle.lists.proofs.Places.{known}
 use Rattle.compaction.proofs.locked.Goals as goal

@@ -1,15 +1,11 @@
 -- `compactor::places_of` meets its contract.
-use mathlib.Core.Path.{sym, ◌∙◌}
 use mathlib.Core.Bool.{◌&&◌}
-use Prim.Native.Nat.{◌-◌, ◌≤◌, ◌<◌}
-use native.Mathlib.Omega.{arith}
+use Prim.Native.Nat.{◌-◌, ◌≤◌}
 use lib.Dec.{eqb}
 use Rattle.ids.specs.Limits.{most_held}
-use Rattle.lists.proofs.Places.{known}
 use Rattle.columns.specs.Rows.{column}
 use Rattle.snapshot.specs.Entries.{shown_at}
-use Rattle.snapshot.proofs.Picked.{Picking, pick-take, pick-pass}
-use Rattle.compactor.proofs.Runs.{run-start, run-done, before-run, after_run, in-run}
+use Rattle.snapshot.proofs.Picked.{Picking}
 use Rattle.compactor.proofs.places_of.Given as goal
 
 abbrev pub invariant-loop-i : goal.invariant-loop-i

@@ -1,10 +1,7 @@
 -- `compactor::take` meets its contract.
-use mathlib.Core.Path.{◌≡◌, refl}
-use Prim.Native.Nat.{◌-◌, ◌≤◌}
-use lib.ListN.{length}
-use Rattle.ids.specs.Limits.{most_held}
+use mathlib.Core.Path.{refl}
 use Rattle.lists.proofs.Places.{known}
-use Rattle.compactor.proofs.Taking.{Taking, taking-start, taking-one, taking-none, taking-done}
+use Rattle.compactor.proofs.Taking.{taking-start, taking-one, taking-none, taking-done}
 use Rattle.compactor.proofs.take.Goals as goal
 
 pub loop-i-init : goal.loop-i-init

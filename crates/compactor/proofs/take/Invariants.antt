@@ -1,10 +1,9 @@
 -- `compactor::take` meets its contract.
-use mathlib.Core.Path.{◌≡◌, refl}
+use mathlib.Core.Path.{◌≡◌}
 use Prim.Native.Nat.{◌-◌, ◌≤◌}
 use lib.ListN.{length}
 use Rattle.ids.specs.Limits.{most_held}
-use Rattle.lists.proofs.Places.{known}
-use Rattle.compactor.proofs.Taking.{Taking, taking-start, taking-one, taking-none, taking-done}
+use Rattle.compactor.proofs.Taking.{Taking}
 use Rattle.compactor.proofs.take.Given as goal
 
 abbrev pub invariant-loop-i : goal.invariant-loop-i

@@ -4,11 +4,9 @@ use native.Mathlib.Omega.{arith}
 use lib.ListN.{length}
 use Rattle.ids.specs.declared.refusal.Verdict.TheVariants.{Accepted}
 use Rattle.ids.specs.Verdicts.{judged}
-use Rattle.lists.proofs.Places.{known, length-mapped}
+use Rattle.lists.proofs.Places.{known}
 use Rattle.lists.proofs.Views.{view-length}
-use Rattle.pins.specs.declared.PinBook.{PinBook}
 use Rattle.pins.specs.Book.{pin_entry, most_pinned}
-use Rattle.version_manager.specs.declared.VersionManager.{VersionManager}
 use Rattle.pinning.specs.Says.{pin_verdict}
 use Rattle.pinning.proofs.Says.{first_two, two-passed, pin-early, pin-late, Pinnable, pinnable, pin-refuses, pin-accepts}
 use Rattle.pinning.proofs.after_pin.Goals as goal

@@ -7,8 +7,6 @@ use Rattle.ids.specs.declared.refusal.Verdict.TheVariants.{Accepted}
 use Rattle.ids.specs.Verdicts.{judged}
 use Rattle.vacuum.proofs.Laws.{counted-list}
 use Rattle.lists.proofs.Places.{known}
-use Rattle.pins.specs.declared.PinBook.{PinBook}
-use Rattle.version_manager.specs.declared.VersionManager.{VersionManager}
 use Rattle.pinning.specs.Says.{unpin_verdict}
 use Rattle.pinning.proofs.Says.{first_two, two-passed, unpin-early, unpin-24, unpin-passes, Unpinnable, unpinnable, unpin-refuses, unpin-accepts}
 use Rattle.pinning.proofs.Laws.{unpinned-good}

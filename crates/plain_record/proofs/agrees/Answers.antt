@@ -1,4 +1,4 @@
--- `plain_record::agrees` meets its contract: demand 3. Assumes nothing.
+-- `plain_record::agrees` meets its contract: the first theorem. Assumes nothing.
 use Rattle.plain_record.proofs.Theorem.{theorem}
 use Rattle.plain_record.proofs.agrees.Goals as goal
 

@@ -1,9 +1,8 @@
 -- `replay_lists::insert` meets its contract.
 use mathlib.Core.Path.{refl}
-use Prim.Native.Nat.{◌+◌, ◌-◌, ◌<◌}
-use lib.ListN.{length, length-set}
+use lib.ListN.{length-set}
 use Rattle.lists.proofs.Places.{known}
-use Rattle.lists.proofs.Loops.{Shifting, shift-start, shift-more, shift-done}
+use Rattle.lists.proofs.Loops.{shift-start, shift-more, shift-done}
 use Rattle.replay_lists.proofs.insert.Goals as goal
 
 pub loop-i-init : goal.loop-i-init

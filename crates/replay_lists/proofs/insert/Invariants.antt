@@ -1,9 +1,7 @@
 -- `replay_lists::insert` meets its contract.
-use mathlib.Core.Path.{refl}
 use Prim.Native.Nat.{◌+◌, ◌-◌, ◌<◌}
-use lib.ListN.{length, length-set}
-use Rattle.lists.proofs.Places.{known}
-use Rattle.lists.proofs.Loops.{Shifting, shift-start, shift-more, shift-done}
+use lib.ListN.{length}
+use Rattle.lists.proofs.Loops.{Shifting}
 use Rattle.replay_lists.proofs.insert.Given as goal
 
 abbrev pub invariant-loop-i : goal.invariant-loop-i

@@ -1,14 +1,12 @@
 -- `replay_lists::place` meets its contract.
-use mathlib.Core.Path.{◌≡◌, sym, ap, ◌∙◌}
+use mathlib.Core.Path.{sym, ap, ◌∙◌}
 use mathlib.Core.List.{[], ◌∷◌}
-use Prim.Native.Nat.{◌+◌, ◌-◌, ◌≤◌}
 use native.Mathlib.Omega.{arith}
 use native.Mathlib.Nat.{zero-add}
 use borrow.Author.Tests.{not-true, not-false}
-use lib.ListN.{length, drop}
 use Rattle.lists.specs.Keyed.{rank}
 use Rattle.lists.proofs.Places.{known}
-use Rattle.replay_lists.specs.Rows.{rows, by_both}
+use Rattle.replay_lists.specs.Rows.{by_both}
 use Rattle.replay_lists.proofs.Rows.{rows_end, place_here, place-next}
 use Rattle.replay_lists.proofs.place.Goals as goal
 

@@ -1,11 +1,11 @@
 -- `replay_lists::remove` meets its contract.
 use mathlib.Core.Path.{◌≡◌, refl, ap, ◌∙◌}
-use Prim.Native.Nat.{ℕ, suc, ◌-◌, ◌≤◌, ◌<◌}
+use Prim.Native.Nat.{ℕ, suc, ◌-◌}
 use native.Mathlib.Omega.{arith}
-use lib.ListN.{length, take, length-set}
+use lib.ListN.{take, length-set}
 use Rattle.lists.specs.Places.{remove_at}
 use Rattle.lists.proofs.Places.{known}
-use Rattle.lists.proofs.Loops.{Closing, close-start, close_more, close-done}
+use Rattle.lists.proofs.Loops.{close-start, close_more, close-done}
 use Rattle.replay_lists.proofs.remove.Goals as goal
 
 pub loop-i-init : goal.loop-i-init

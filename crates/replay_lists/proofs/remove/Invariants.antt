@@ -1,11 +1,7 @@
 -- `replay_lists::remove` meets its contract.
-use mathlib.Core.Path.{◌≡◌, refl, ap, ◌∙◌}
-use Prim.Native.Nat.{ℕ, suc, ◌-◌, ◌≤◌, ◌<◌}
-use native.Mathlib.Omega.{arith}
-use lib.ListN.{length, take, length-set}
-use Rattle.lists.specs.Places.{remove_at}
-use Rattle.lists.proofs.Places.{known}
-use Rattle.lists.proofs.Loops.{Closing, close-start, close_more, close-done}
+use Prim.Native.Nat.{◌-◌, ◌≤◌, ◌<◌}
+use lib.ListN.{length}
+use Rattle.lists.proofs.Loops.{Closing}
 use Rattle.replay_lists.proofs.remove.Given as goal
 
 abbrev pub invariant-loop-i : goal.invariant-loop-i

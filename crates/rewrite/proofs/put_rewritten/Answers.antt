@@ -1,7 +1,7 @@
 -- `rewrite::put_rewritten` meets its contract.
 use native.Mathlib.Omega.{arith}
 use Rattle.lists.proofs.Places.{known}
-use Rattle.rewrite.proofs.Whole.{whole-wrote, names-sized}
+use Rattle.rewrite.proofs.Whole.{whole-wrote}
 use Rattle.rewrite.proofs.put_rewritten.Goals as goal
 
 pub put_letter-at-requires : goal.put_letter-at-requires

@@ -1,13 +1,7 @@
 -- `rewrite::put_tables` meets its contract.
 use mathlib.Core.Path.{refl}
-use mathlib.Core.Bool.{true}
-use mathlib.Core.List.{[]}
-use Prim.Native.Nat.{◌-◌}
-use Rattle.ids.specs.Limits.{most_tables}
 use Rattle.lists.proofs.Places.{known}
-use Rattle.snapshot.specs.Tables.{table_at}
-use Rattle.rewrite.specs.Rewritten.{create_of, longest_create}
-use Rattle.rewrite.proofs.Lines.{Writing, write-start, write-length, write-room, write-yes, write_done, keep-every}
+use Rattle.rewrite.proofs.Lines.{write-start, write-length, write-room, write-yes, write_done, keep-every}
 use Rattle.rewrite.proofs.put_tables.Goals as goal
 
 pub loop-i-init : goal.loop-i-init

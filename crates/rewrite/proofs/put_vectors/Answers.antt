@@ -1,12 +1,10 @@
 -- `rewrite::put_vectors` meets its contract.
 use mathlib.Core.Path.{sym, ◌∙◌}
-use mathlib.Core.List.{[], ◌∷◌, map-map}
-use Prim.Native.Nat.{◌-◌}
-use Rattle.ids.specs.Limits.{most_held}
+use mathlib.Core.List.{map-map}
 use Rattle.lists.proofs.Places.{known}
-use Rattle.snapshot.specs.Entries.{by_ids, shown_by, entry_at}
-use Rattle.rewrite.specs.Rewritten.{add_vector_of, longest_add_vector}
-use Rattle.rewrite.proofs.Lines.{Writing, write-start, write-length, write-room, write-yes, write-no, write_done}
+use Rattle.snapshot.specs.Entries.{by_ids}
+use Rattle.rewrite.specs.Rewritten.{add_vector_of}
+use Rattle.rewrite.proofs.Lines.{write-start, write-length, write-room, write-yes, write-no, write_done}
 use Rattle.rewrite.proofs.put_vectors.Goals as goal
 
 pub loop-i-init : goal.loop-i-init

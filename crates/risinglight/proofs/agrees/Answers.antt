@@ -1,4 +1,4 @@
--- `risinglight::agrees` meets its contract: demand 2. Assumes nothing.
+-- `risinglight::agrees` meets its contract: the second theorem. Assumes nothing.
 use Rattle.risinglight.proofs.Theorem.{theorem}
 use Rattle.risinglight.proofs.agrees.Goals as goal
 

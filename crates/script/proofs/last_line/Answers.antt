@@ -1,6 +1,4 @@
 -- `script::last_line` meets its contract.
-use Prim.Native.Nat.{◌≤◌}
-use lib.ListN.{length}
 use borrow.Author.Rules.{rules}
 use Rattle.script.proofs.last_line.Goals as goal
 

@@ -1,7 +1,6 @@
 -- `script::last_line` meets its contract.
 use Prim.Native.Nat.{◌≤◌}
 use lib.ListN.{length}
-use borrow.Author.Rules.{rules}
 use Rattle.script.proofs.last_line.Given as goal
 
 abbrev pub invariant-loop-i : goal.invariant-loop-i

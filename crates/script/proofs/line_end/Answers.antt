@@ -1,5 +1,4 @@
 -- `script::line_end` meets its contract.
-use Prim.Native.Nat.{◌≤◌, ◌-◌}
 use borrow.Author.Rules.{rules}
 use Rattle.script.proofs.line_end.Goals as goal
 

@@ -1,6 +1,4 @@
 -- `script::same` meets its contract.
-use Prim.Native.Nat.{◌≤◌, ◌-◌}
-use lib.ListN.{length}
 use borrow.Author.Rules.{rules}
 use Rattle.script.proofs.same.Goals as goal
 

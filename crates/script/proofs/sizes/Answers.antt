@@ -1,7 +1,4 @@
 -- `script::sizes` meets its contract.
-use Prim.Native.Nat.{◌≤◌, ◌-◌}
-use mathlib.Core.Path.{◌≡◌}
-use lib.ListN.{length}
 use borrow.Author.Rules.{rules}
 use Rattle.script.proofs.sizes.Goals as goal
 

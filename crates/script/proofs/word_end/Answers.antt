@@ -1,6 +1,4 @@
 -- `script::word_end` meets its contract.
-use Prim.Native.Nat.{◌≤◌, ◌-◌}
-use lib.ListN.{length}
 use borrow.Author.Rules.{rules}
 use Rattle.script.proofs.word_end.Goals as goal
 

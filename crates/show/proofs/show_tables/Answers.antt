@@ -9,7 +9,7 @@ use lib.ListN.{length}
 use borrow.Author.Tests.{eq-eqb, ne_eqb}
 use Rattle.ids.specs.Names.{longest_name}
 use Rattle.lists.specs.Written.{over}
-use Rattle.lists.proofs.Places.{known, length-mapped}
+use Rattle.lists.proofs.Places.{known}
 use Rattle.version_state.specs.State.{state_of}
 use Rattle.version_state.proofs.Facts.{sound-of}
 use Rattle.show.specs.Says.{not_current}

@@ -1,9 +1,6 @@
 -- `show::write_first` meets its contract.
-use Prim.Native.Nat.{◌-◌, ◌≤◌}
-use Rattle.ids.specs.Limits.{most_tables}
 use Rattle.lists.proofs.Places.{known}
-use Rattle.columns.specs.Rows.{column}
-use Rattle.snapshot.proofs.Picked.{Filling, fill_start, fill_more, fill_done}
+use Rattle.snapshot.proofs.Picked.{fill_start, fill_more, fill_done}
 use Rattle.show.proofs.write_first.Goals as goal
 
 pub loop-i-init : goal.loop-i-init

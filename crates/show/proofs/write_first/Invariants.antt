@@ -1,9 +1,8 @@
 -- `show::write_first` meets its contract.
 use Prim.Native.Nat.{◌-◌, ◌≤◌}
 use Rattle.ids.specs.Limits.{most_tables}
-use Rattle.lists.proofs.Places.{known}
 use Rattle.columns.specs.Rows.{column}
-use Rattle.snapshot.proofs.Picked.{Filling, fill_start, fill_more, fill_done}
+use Rattle.snapshot.proofs.Picked.{Filling}
 use Rattle.show.proofs.write_first.Given as goal
 
 abbrev pub invariant-loop-i : goal.invariant-loop-i

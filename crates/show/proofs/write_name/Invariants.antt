@@ -1,12 +1,10 @@
 -- `show::write_name` meets its contract.
 use mathlib.Core.Path.{◌≡◌}
 use Prim.Native.Nat.{◌+◌, ◌-◌, ◌*◌, ◌≤◌}
-use native.Mathlib.Omega.{arith}
 use lib.ListN.{length}
 use Rattle.ids.specs.Limits.{most_tables}
 use Rattle.ids.specs.Names.{longest_name}
-use Rattle.lists.proofs.Places.{known}
-use Rattle.show.proofs.Names.{Padding, pad-start, pad-byte, pad-zero, pad-done}
+use Rattle.show.proofs.Names.{Padding}
 use Rattle.show.proofs.write_name.Given as goal
 
 abbrev pub invariant-loop-i : goal.invariant-loop-i

@@ -1,13 +1,8 @@
 -- `show::write_names` meets its contract.
-use mathlib.Core.Path.{◌≡◌}
-use Prim.Native.Nat.{ℕ, ◌-◌, ◌*◌, ◌≤◌, ◌<◌}
 use native.Mathlib.Omega.{arith}
-use lib.ListN.{length, take, drop, length-take}
-use Rattle.ids.specs.Limits.{most_tables}
-use Rattle.ids.specs.Names.{longest_name}
+use lib.ListN.{length-take}
 use Rattle.lists.proofs.Places.{known}
-use Rattle.columns.specs.Rows.{column}
-use Rattle.show.proofs.Names.{Naming, naming-start, naming-more, naming-done}
+use Rattle.show.proofs.Names.{naming-start, naming-more, naming-done}
 use Rattle.show.proofs.write_names.Goals as goal
 
 pub loop-i-init : goal.loop-i-init

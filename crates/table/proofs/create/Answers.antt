@@ -6,7 +6,6 @@ use Rattle.lists.proofs.Places.{known}
 use Rattle.ids.specs.Names.{name_of}
 use Rattle.snapshot.proofs.TableRows.{taken-tables}
 use Rattle.version_state.proofs.Facts.{sound-of}
-use Rattle.rewrite.proofs.Whole.{names-sized}
 use Rattle.table.proofs.Judged.{made-no, create-unnamed, create-taken, create-late, create-full, create-long, create-drawn, create-short, create-made}
 use Rattle.table.proofs.create.Goals as goal
 

@@ -1,6 +1,6 @@
 -- `text::put_number` meets its contract.
 use native.Mathlib.Omega.{arith}
-use Prim.Native.Nat.{◌<◌, ◌≤◌}
+use Prim.Native.Nat.{◌≤◌}
 use Rattle.text.proofs.Decimal.{digits-small, digits-big, length-small, length-big}
 use Rattle.lists.proofs.Written.{written_one, written-more}
 use Rattle.text.proofs.+put_number.Goals as goal

@@ -1,12 +1,9 @@
 -- `text::is_name` meets its contract.
 use Prim.Native.Nat.{◌≤◌, ◌-◌}
-use mathlib.Core.Path.{◌≡◌, sym, ◌∙◌}
-use native.Mathlib.Omega.{arith}
-use borrow.Author.Rules.{rules}
-use borrow.Author.Tests.{not-true, not-false}
+use mathlib.Core.Path.{◌≡◌}
 use lib.ListN.{length}
 use Rattle.text.specs.Name.{is_name}
-use Rattle.text.proofs.Names.{all_name_from, names-end, names-stop, names_more, name-empty, name-long, name-all}
+use Rattle.text.proofs.Names.{all_name_from}
 use Rattle.text.proofs.is_name.Given as goal
 
 abbrev pub invariant-loop-i : goal.invariant-loop-i

@@ -1,9 +1,5 @@
 -- `text::number_length` meets its contract: what is counted, with what is still to count, is the length. Assumes nothing.
-use Prim.Native.Nat.{◌+◌, ◌≤◌}
-use mathlib.Core.Path.{◌≡◌}
 use native.Mathlib.Omega.{arith}
-use lib.ListN.{length}
-use Rattle.text.specs.Decimal.{digits}
 use Rattle.text.proofs.Decimal.{length-small, length-big}
 use Rattle.text.proofs.Round.{digits-64}
 use Rattle.text.proofs.number_length.Goals as goal

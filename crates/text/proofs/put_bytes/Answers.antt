@@ -1,10 +1,8 @@
 -- `text::put_bytes` meets its contract.
-use Prim.Native.Nat.{◌≤◌, ◌-◌}
 use mathlib.Core.Path.{◌≡◌, refl, ◌∙◌}
 use native.Mathlib.Omega.{arith}
-use lib.ListN.{length, take, length-set}
+use lib.ListN.{length, length-set}
 use lib.Seq.{take-length}
-use Rattle.lists.specs.Written.{written}
 use Rattle.lists.proofs.Written.{written_none, written-turn}
 use Rattle.text.proofs.put_bytes.Goals as goal
 

@@ -1,12 +1,10 @@
 -- `text::read_number` meets its contract.
-use Prim.Native.Nat.{ℕ, ◌≤◌, ◌-◌}
+use Prim.Native.Nat.{ℕ}
 use mathlib.Core.Path.{◌≡◌, sym, ◌∙◌}
 use native.Mathlib.Omega.{arith}
 use borrow.Author.Rules.{rules}
 use borrow.Author.Tests.{not-true, not-false}
-use lib.ListN.{length, get_or}
-use Rattle.text.specs.Decimal.{read_at}
-use Rattle.text.proofs.Decimal.{read_from}
+use lib.ListN.{get_or}
 use Rattle.text.proofs.Decimal.{on-stop, on-zero, on-over, on-more, on-end, start-stop, start-over, start-more, start-end}
 use mathlib.Core.Bool.{true}
 use Rattle.text.specs.Class.{is_digit}

@@ -1,10 +1,6 @@
 -- `transaction::are_ids` meets its contract.
-use mathlib.Core.Path.{◌≡◌, sym, ◌∙◌}
-use Prim.Native.Nat.{◌-◌, ◌≤◌}
+use mathlib.Core.Path.{sym, ◌∙◌}
 use borrow.Author.Rules.{rules}
-use lib.ListN.{length, drop}
-use Rattle.lists.specs.Keyed.{all_of}
-use Rattle.ids.specs.Ids.{is_id32}
 use Rattle.transaction.proofs.Columns.{ids-fail, ids_more, ids-end}
 use Rattle.transaction.proofs.are_ids.Goals as goal
 

@@ -1,12 +1,10 @@
 -- `transaction::split` meets its contract.
 use mathlib.Core.Path.{◌≡◌}
-use mathlib.Core.List.{map}
-use Prim.Native.Nat.{◌-◌, ◌≤◌, min}
+use Prim.Native.Nat.{◌≤◌, min}
 use native.Mathlib.Omega.{arith}
-use lib.ListN.{length, take, length-set}
+use lib.ListN.{length, length-set}
 use Rattle.lists.proofs.Places.{known}
-use Rattle.transaction.specs.Groups.{Handle, handles_of}
-use Rattle.transaction.specs.Says.{most_handles}
+use Rattle.transaction.specs.Groups.{Handle}
 use Rattle.transaction.proofs.Columns.{column-more, column-done}
 use Rattle.transaction.proofs.split.Goals as goal
 

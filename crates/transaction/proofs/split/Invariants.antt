@@ -1,13 +1,10 @@
 -- `transaction::split` meets its contract.
 use mathlib.Core.Path.{◌≡◌}
 use mathlib.Core.List.{map}
-use Prim.Native.Nat.{◌-◌, ◌≤◌, min}
-use native.Mathlib.Omega.{arith}
-use lib.ListN.{length, take, length-set}
-use Rattle.lists.proofs.Places.{known}
+use Prim.Native.Nat.{◌-◌, ◌≤◌}
+use lib.ListN.{length, take}
 use Rattle.transaction.specs.Groups.{Handle, handles_of}
 use Rattle.transaction.specs.Says.{most_handles}
-use Rattle.transaction.proofs.Columns.{column-more, column-done}
 use Rattle.transaction.proofs.split.Given as goal
 
 abbrev pub invariant-loop-i : goal.invariant-loop-i

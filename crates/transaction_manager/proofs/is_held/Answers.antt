@@ -1,13 +1,7 @@
 -- `transaction_manager::is_held` meets its contract.
-use mathlib.Core.Bool.{◌&&◌}
-use mathlib.Core.List.{[], ◌∷◌}
-use Prim.Native.Nat.{◌-◌, ◌≤◌}
 use borrow.Author.Tests.{eq-eqb, ne_eqb}
-use Rattle.ids.specs.Limits.{most_tables}
-use Rattle.lists.specs.Order.{same}
 use Rattle.lists.proofs.Places.{known}
-use Rattle.columns.specs.Rows.{column, marks}
-use Rattle.snapshot.proofs.TableRows.{Seeking, seek-start, seek_found, seek-more, seek-done}
+use Rattle.snapshot.proofs.TableRows.{seek-start, seek_found, seek-more, seek-done}
 use Rattle.transaction_manager.proofs.is_held.Goals as goal
 
 pub loop-i-init : goal.loop-i-init

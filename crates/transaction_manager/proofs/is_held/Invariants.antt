@@ -2,12 +2,10 @@
 use mathlib.Core.Bool.{◌&&◌}
 use mathlib.Core.List.{[], ◌∷◌}
 use Prim.Native.Nat.{◌-◌, ◌≤◌}
-use borrow.Author.Tests.{eq-eqb, ne_eqb}
 use Rattle.ids.specs.Limits.{most_tables}
 use Rattle.lists.specs.Order.{same}
-use Rattle.lists.proofs.Places.{known}
 use Rattle.columns.specs.Rows.{column, marks}
-use Rattle.snapshot.proofs.TableRows.{Seeking, seek-start, seek_found, seek-more, seek-done}
+use Rattle.snapshot.proofs.TableRows.{Seeking}
 use Rattle.transaction_manager.proofs.is_held.Given as goal
 
 abbrev pub invariant-loop-i : goal.invariant-loop-i

@@ -1,9 +1,7 @@
 -- `transaction_manager::set` meets its contract.
-use Prim.Native.Nat.{◌-◌, ◌≤◌}
 use borrow.Author.Tests.{eq-eqb, ne_eqb}
-use Rattle.ids.specs.Limits.{most_tables}
 use Rattle.lists.proofs.Places.{known}
-use Rattle.transaction_manager.proofs.Locks.{Setting, set-start, set_here, set_past, set-done}
+use Rattle.transaction_manager.proofs.Locks.{set-start, set_here, set_past, set-done}
 use Rattle.transaction_manager.proofs.set.Goals as goal
 
 pub loop-i-init : goal.loop-i-init

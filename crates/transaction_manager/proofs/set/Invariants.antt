@@ -1,9 +1,7 @@
 -- `transaction_manager::set` meets its contract.
 use Prim.Native.Nat.{◌-◌, ◌≤◌}
-use borrow.Author.Tests.{eq-eqb, ne_eqb}
 use Rattle.ids.specs.Limits.{most_tables}
-use Rattle.lists.proofs.Places.{known}
-use Rattle.transaction_manager.proofs.Locks.{Setting, set-start, set_here, set_past, set-done}
+use Rattle.transaction_manager.proofs.Locks.{Setting}
 use Rattle.transaction_manager.proofs.set.Given as goal
 
 abbrev pub invariant-loop-i : goal.invariant-loop-i

@@ -1,11 +1,7 @@
 -- `vacuum::counted` meets its contract.
 use mathlib.Core.Path.{sym, ◌∙◌}
-use Prim.Native.Nat.{◌-◌, ◌≤◌}
-use Rattle.ids.specs.Limits.{most_held}
 use Rattle.lists.proofs.Places.{known}
-use Rattle.columns.specs.Rows.{column}
-use Rattle.snapshot.specs.Entries.{gone_at}
-use Rattle.snapshot.proofs.Picked.{Counting, count-start, count-one, count_none, count-done}
+use Rattle.snapshot.proofs.Picked.{count-start, count-one, count_none, count-done}
 use Rattle.vacuum.proofs.counted.Goals as goal
 
 pub loop-i-init : goal.loop-i-init

@@ -1,11 +1,9 @@
 -- `vacuum::counted` meets its contract.
-use mathlib.Core.Path.{sym, ◌∙◌}
 use Prim.Native.Nat.{◌-◌, ◌≤◌}
 use Rattle.ids.specs.Limits.{most_held}
-use Rattle.lists.proofs.Places.{known}
 use Rattle.columns.specs.Rows.{column}
 use Rattle.snapshot.specs.Entries.{gone_at}
-use Rattle.snapshot.proofs.Picked.{Counting, count-start, count-one, count_none, count-done}
+use Rattle.snapshot.proofs.Picked.{Counting}
 use Rattle.vacuum.proofs.counted.Given as goal
 
 abbrev pub invariant-loop-i : goal.invariant-loop-i

@@ -6,7 +6,6 @@ use Rattle.lists.proofs.Places.{known}
 use Rattle.snapshot.specs.Entries.{Entry}
 use Rattle.snapshot.proofs.Entries.{AllKept, keep-entries, kept-like}
 use Rattle.version_state.specs.State.{state_of, with_pairs, with_vectors}
-use Rattle.vacuum.proofs.Laws.{sized}
 use Rattle.vacuum.proofs.let_go.Goals as goal
 
 pub left-kept-requires : goal.left-kept-requires

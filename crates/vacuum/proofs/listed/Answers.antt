@@ -1,10 +1,8 @@
 -- `vacuum::listed` meets its contract.
 use mathlib.Core.Path.{refl, sym, ◌∙◌}
-use Prim.Native.Nat.{◌-◌, ◌≤◌}
 use native.Mathlib.Omega.{arith}
-use Rattle.ids.specs.Limits.{most_held}
 use Rattle.lists.proofs.Places.{known}
-use Rattle.vacuum.proofs.Arranged.{Listing, list-start, list-rises, list-more, list-pass, list_done}
+use Rattle.vacuum.proofs.Arranged.{list-start, list-rises, list-more, list-pass, list_done}
 use Rattle.vacuum.proofs.listed.Goals as goal
 
 pub loop-i-init : goal.loop-i-init

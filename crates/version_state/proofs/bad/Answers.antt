@@ -83,4 +83,3 @@ returns c = λ s k.
     let m = third e s k in
     let t = m.tables in
     bad-left m (limits e.before.before.before.before s k) (order e.before.before s k) _ (own e s k) (c.left_behind.ensures s t.lengths t.names k m.vectors.vectors)
-

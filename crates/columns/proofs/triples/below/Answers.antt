@@ -1,10 +1,7 @@
 -- `columns::triples::below` meets its contract.
-use Prim.Native.Nat.{◌-◌, ◌≤◌}
 use borrow.Author.Tests.{lt-ltb, le-ltb}
-use lib.Dec.{ltb}
-use Rattle.ids.specs.Limits.{most_held}
 use Rattle.lists.proofs.Places.{known}
-use Rattle.columns.proofs.Rows.{Testing, test-start, test-stop, test-more, test-done}
+use Rattle.columns.proofs.Rows.{test-start, test-stop, test-more, test-done}
 use Rattle.columns.proofs.triples.below.Goals as goal
 
 pub loop-i-init : goal.loop-i-init

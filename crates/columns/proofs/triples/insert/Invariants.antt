@@ -1,10 +1,7 @@
 -- `columns::triples::insert` meets its contract.
-use mathlib.Core.Path.{sym, ◌∙◌}
 use Prim.Native.Nat.{◌+◌, ◌-◌}
 use Rattle.ids.specs.Limits.{most_held}
-use Rattle.lists.proofs.Places.{known}
-use Rattle.lists.proofs.Loops.{Shifting, shift-start, shift-more, shift-done}
-use Rattle.columns.proofs.Rows.{column-insert}
+use Rattle.lists.proofs.Loops.{Shifting}
 use Rattle.columns.proofs.triples.insert.Given as goal
 
 abbrev pub invariant-loop-i : goal.invariant-loop-i

@@ -1,12 +1,9 @@
 -- `columns::triples::ordered` meets its contract.
-use mathlib.Core.Path.{sym, ◌∙◌}
 use mathlib.Core.List.{[], ◌∷◌}
 use Prim.Native.Nat.{◌-◌, ◌≤◌}
-use borrow.Author.Tests.{not-true, not-false}
 use Rattle.ids.specs.Limits.{most_held}
-use Rattle.lists.proofs.Places.{known}
 use Rattle.columns.specs.Rows.{across}
-use Rattle.columns.proofs.Rows.{Rising, rise-start, rise-stop, rise-more, rise-done}
+use Rattle.columns.proofs.Rows.{Rising}
 use Rattle.columns.proofs.triples.ordered.Given as goal
 
 abbrev pub invariant-loop-i : goal.invariant-loop-i

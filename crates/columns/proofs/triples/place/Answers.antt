@@ -1,12 +1,8 @@
 -- `columns::triples::place` meets its contract.
 use mathlib.Core.Path.{sym, ◌∙◌}
-use mathlib.Core.List.{[], ◌∷◌}
-use Prim.Native.Nat.{◌-◌, ◌≤◌}
 use native.Mathlib.Omega.{arith}
-use Rattle.ids.specs.Limits.{most_held}
 use Rattle.lists.proofs.Places.{known}
-use Rattle.columns.specs.Rows.{across}
-use Rattle.columns.proofs.Rows.{Halving, halve-start, halve-up, halve-down, halve-done}
+use Rattle.columns.proofs.Rows.{halve-start, halve-up, halve-down, halve-done}
 use Rattle.columns.proofs.triples.place.Goals as goal
 
 pub loop-low-init : goal.loop-low-init

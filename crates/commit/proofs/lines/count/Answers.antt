@@ -1,10 +1,8 @@
 -- `commit::lines::count` meets its contract.
-use mathlib.Core.Path.{◌≡◌, ap}
-use Prim.Native.Nat.{◌+◌, ◌-◌, ◌≤◌}
+use mathlib.Core.Path.{ap}
 use native.Mathlib.Omega.{arith}
-use lib.ListN.{length, drop}
+use lib.ListN.{length}
 use Rattle.lists.proofs.Places.{known}
-use Rattle.commit.specs.Lent.{operations_in}
 use Rattle.commit.proofs.Lent.{lent-end}
 use Rattle.commit.proofs.lines.count.Goals as goal
 

@@ -1,11 +1,8 @@
 -- `commit::lines::count` meets its contract.
-use mathlib.Core.Path.{◌≡◌, ap}
+use mathlib.Core.Path.{◌≡◌}
 use Prim.Native.Nat.{◌+◌, ◌-◌, ◌≤◌}
-use native.Mathlib.Omega.{arith}
 use lib.ListN.{length, drop}
-use Rattle.lists.proofs.Places.{known}
 use Rattle.commit.specs.Lent.{operations_in}
-use Rattle.commit.proofs.Lent.{lent-end}
 use Rattle.commit.proofs.lines.count.Given as goal
 
 abbrev pub invariant-loop-at : goal.invariant-loop-at

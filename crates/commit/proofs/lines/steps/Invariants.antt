@@ -1,16 +1,9 @@
 -- `commit::lines::steps` meets its contract.
-use mathlib.Core.Path.{refl, sym, ◌∙◌}
 use Prim.Native.Nat.{◌-◌, ◌≤◌}
-use native.Mathlib.Omega.{arith}
-use borrow.Author.Tests.{not-true, not-false}
 use lib.ListN.{length, drop}
-use Rattle.lists.proofs.Places.{known}
-use Rattle.manifest.specs.Operations.{operation_of}
 use Rattle.version_state.specs.Columns.{columns, state_in}
-use Rattle.operations.specs.Columns.{StepIs}
 use Rattle.commit.specs.Lent.{operations_in}
-use Rattle.commit.proofs.Calls.{Going, go_on, go-off, halts-step}
-use Rattle.commit.proofs.Lent.{lent-end}
+use Rattle.commit.proofs.Calls.{Going}
 use Rattle.commit.proofs.lines.steps.Given as goal
 
 abbrev pub invariant-loop-at : goal.invariant-loop-at

@@ -1,17 +1,15 @@
 -- `commit::typed::put_lines` meets its contract.
 use mathlib.Core.Path.{◌≡◌}
 use mathlib.Core.List.{map}
-use Prim.Native.Nat.{◌-◌, ◌≤◌}
+use Prim.Native.Nat.{◌≤◌}
 use native.Mathlib.Omega.{arith}
 use lib.ListN.{length, take, length-map}
 use lib.Seq.{take_all}
-use Rattle.lists.specs.Written.{Wrote}
 use Rattle.lists.proofs.Places.{known}
 use Rattle.lists.proofs.Views.{view-length}
 use Rattle.lists.proofs.Written.{wrote_none, wrote-length}
 use Rattle.ids.specs.Limits.{most_operations}
 use Rattle.manifest.specs.Operations.{operation_of, batch_of}
-use Rattle.frames.specs.Frames.{texts_of}
 use Rattle.frames.proofs.Texts.{texts-le, wrote-turn, place-turn}
 use Rattle.commit.specs.Lent.{as_line}
 use Rattle.commit.proofs.AsLines.{lines-room, line-turn}

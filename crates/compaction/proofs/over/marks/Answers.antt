@@ -1,17 +1,16 @@
 -- `compaction::over::marks` meets its contract.
-use mathlib.Core.Path.{◌≡◌, refl}
-use mathlib.Core.Bool.{Bool, true, ◌&&◌}
+use mathlib.Core.Path.{refl}
+use mathlib.Core.Bool.{Bool, ◌&&◌}
 use mathlib.Core.List.{[], ◌∷◌}
-use Prim.Native.Nat.{ℕ, ◌-◌, ◌≤◌, ◌<◌}
+use Prim.Native.Nat.{ℕ}
 use native.Mathlib.Omega.{arith}
 use native.Mathlib.Nat.{not-suc-le-zero}
-use lib.ListN.{length, length-set}
-use Rattle.lists.specs.Keyed.{ascending}
+use lib.ListN.{length-set}
 use Rattle.ids.specs.Limits.{most_held}
 use Rattle.columns.specs.Rows.{column, marks}
 use Rattle.columns.proofs.Rows.{rows_same, mark-more}
 use Rattle.snapshot.specs.Entries.{shown_at}
-use Rattle.table.specs.Made.{by_number, is_over}
+use Rattle.table.specs.Made.{is_over}
 use Rattle.lists.proofs.Places.{known}
 use Rattle.compaction.proofs.over.marks.Goals as goal
 

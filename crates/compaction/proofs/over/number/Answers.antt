@@ -1,7 +1,5 @@
 -- `compaction::over::number` meets its contract.
-use Prim.Native.Nat.{◌-◌, ◌≤◌}
-use Rattle.ids.specs.Limits.{most_held}
-use Rattle.compaction.proofs.Marking.{Counting, count-start, count-one, count_none, count-done}
+use Rattle.compaction.proofs.Marking.{count-start, count-one, count_none, count-done}
 use Rattle.lists.proofs.Places.{known}
 use Rattle.compaction.proofs.over.number.Goals as goal
 

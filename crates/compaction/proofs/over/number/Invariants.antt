@@ -1,8 +1,7 @@
 -- `compaction::over::number` meets its contract.
 use Prim.Native.Nat.{◌-◌, ◌≤◌}
 use Rattle.ids.specs.Limits.{most_held}
-use Rattle.compaction.proofs.Marking.{Counting, count-start, count-one, count_none, count-done}
-use Rattle.lists.proofs.Places.{known}
+use Rattle.compaction.proofs.Marking.{Counting}
 use Rattle.compaction.proofs.over.number.Given as goal
 
 abbrev pub invariant-loop-i : goal.invariant-loop-i

@@ -1,10 +1,6 @@
 -- `compaction::taken::among` meets its contract.
-use mathlib.Core.List.{[], ◌∷◌}
-use Prim.Native.Nat.{◌-◌, ◌≤◌}
 use native.Mathlib.Omega.{arith}
-use lib.ListN.{length}
-use Rattle.columns.specs.Rows.{across}
-use Rattle.columns.proofs.Rows.{Halving, halve-start, halve-up, halve-down, halve-done}
+use Rattle.columns.proofs.Rows.{halve-start, halve-up, halve-down, halve-done}
 use Rattle.snapshot.proofs.TableRows.{one-before, one-not-before}
 use Rattle.compaction.proofs.Loops.{numbers-rise, none-among, some-among}
 use Rattle.lists.proofs.Places.{known}

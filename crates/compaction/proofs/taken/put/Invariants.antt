@@ -1,16 +1,10 @@
 -- `compaction::taken::put` meets its contract.
 use mathlib.Core.List.{map}
 use Prim.Native.Nat.{◌+◌, ◌-◌, ◌≤◌}
-use native.Mathlib.Omega.{arith}
-use lib.ListN.{length, take, length-map}
-use lib.Seq.{take_all}
+use lib.ListN.{length, take}
 use Rattle.lists.specs.Written.{Wrote}
-use Rattle.lists.proofs.Written.{wrote_none, wrote-length}
 use Rattle.manifest.specs.Operations.{delete_rowset}
 use Rattle.frames.specs.Frames.{texts_of}
-use Rattle.frames.proofs.Texts.{texts-le, wrote-turn, place-turn}
-use Rattle.compaction.proofs.Loops.{turn}
-use Rattle.lists.proofs.Places.{known}
 use Rattle.compaction.proofs.taken.put.Given as goal
 
 abbrev pub invariant-loop-i : goal.invariant-loop-i

@@ -1,7 +1,5 @@
 -- `compaction::taken::rising` meets its contract.
-use Prim.Native.Nat.{◌-◌}
-use lib.ListN.{length}
-use Rattle.compaction.proofs.Loops.{Climbing, climb-start, climb-large, climb-low, climb-more, climb-done}
+use Rattle.compaction.proofs.Loops.{climb-start, climb-large, climb-low, climb-more, climb-done}
 use Rattle.lists.proofs.Places.{known}
 use Rattle.compaction.proofs.taken.rising.Goals as goal
 

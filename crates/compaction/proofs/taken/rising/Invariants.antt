@@ -1,8 +1,7 @@
 -- `compaction::taken::rising` meets its contract.
 use Prim.Native.Nat.{◌-◌}
 use lib.ListN.{length}
-use Rattle.compaction.proofs.Loops.{Climbing, climb-start, climb-large, climb-low, climb-more, climb-done}
-use Rattle.lists.proofs.Places.{known}
+use Rattle.compaction.proofs.Loops.{Climbing}
 use Rattle.compaction.proofs.taken.rising.Given as goal
 
 abbrev pub invariant-loop-i : goal.invariant-loop-i

@@ -1,13 +1,7 @@
 -- `compaction::taken::shown` meets its contract.
 use mathlib.Core.Path.{sym, ◌∙◌}
-use mathlib.Core.List.{[], ◌∷◌}
-use Prim.Native.Nat.{◌-◌}
-use lib.ListN.{length}
 use borrow.Author.Tests.{not-true, not-false}
-use Rattle.snapshot.specs.Entries.{entries}
-use Rattle.operations.specs.Judge.{is_shown}
-use Rattle.operations.specs.Columns.{Rising}
-use Rattle.compaction.proofs.Loops.{Passing, pass-start, pass-stop, pass-more, pass-done}
+use Rattle.compaction.proofs.Loops.{pass-start, pass-stop, pass-more, pass-done}
 use Rattle.lists.proofs.Places.{known}
 use Rattle.compaction.proofs.taken.shown.Goals as goal
 

@@ -1,6 +1,5 @@
 -- `delete_vector::file::file_size` meets its contract.
-use Rattle.std.proofs.Common.{◌≡◌, ◌+◌, ◌-◌, ◌*◌, ◌≤◌, length, drop, ap, arith, rules}
-use Rattle.delete_vector.specs.Records.{records_of}
+use Rattle.std.proofs.Common.{length, ap, arith, rules}
 use Rattle.delete_vector.proofs.Files.{rows-length, rows_end}
 use Rattle.delete_vector.proofs.file.file_size.Goals as goal
 

@@ -1,7 +1,6 @@
 -- `delete_vector::file::file_size` meets its contract.
-use Rattle.std.proofs.Common.{◌≡◌, ◌+◌, ◌-◌, ◌*◌, ◌≤◌, length, drop, ap, arith, rules}
+use Rattle.std.proofs.Common.{◌≡◌, ◌+◌, ◌-◌, ◌*◌, ◌≤◌, length, drop}
 use Rattle.delete_vector.specs.Records.{records_of}
-use Rattle.delete_vector.proofs.Files.{rows-length, rows_end}
 use Rattle.delete_vector.proofs.file.file_size.Given as goal
 
 abbrev pub invariant-loop-i : goal.invariant-loop-i

@@ -1,8 +1,7 @@
 -- `delete_vector::file::put_records` meets its contract.
 use Rattle.lists.proofs.Written.{written_none}
-use Rattle.std.proofs.Common.{◌≡◌, ◌+◌, ◌-◌, ◌≤◌, length, drop, sym, ap, ◌∙◌, arith, rules}
+use Rattle.std.proofs.Common.{length, sym, ap, ◌∙◌, arith, rules}
 use Rattle.lists.specs.Written.{written}
-use Rattle.delete_vector.specs.Records.{records_of}
 use Rattle.delete_vector.proofs.Files.{rows-length, rows_end, rows_written}
 use Rattle.delete_vector.proofs.file.put_records.Goals as goal
 

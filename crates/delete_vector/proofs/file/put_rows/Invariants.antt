@@ -1,10 +1,7 @@
 -- `delete_vector::file::put_rows` meets its contract.
-use Rattle.std.proofs.Common.{◌≡◌, ◌+◌, ◌-◌, ◌≤◌, false, ◌∷◌, length, drop, sym, refl, ap, ◌∙◌, arith, length-set, rules}
-use Rattle.lists.proofs.Written.{written_none, written_over}
-use Rattle.delete_vector.proofs.Bytes.{written_step}
+use Rattle.std.proofs.Common.{◌≡◌, ◌+◌, ◌-◌, ◌≤◌, false, length, drop}
 use Rattle.lists.specs.Written.{written}
 use Rattle.delete_vector.specs.Records.{records_at, records_in, is_bad, rows_in}
-use Rattle.delete_vector.proofs.Files.{value_of, size_of, good-here, good-next, rows-here, end-rows, record-in}
 use Rattle.delete_vector.proofs.file.put_rows.Given as goal
 
 abbrev pub invariant-loop-at : goal.invariant-loop-at

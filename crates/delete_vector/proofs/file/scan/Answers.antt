@@ -1,8 +1,6 @@
 -- `delete_vector::file::scan` meets its contract.
 use borrow.Author.Tests.{not-true, not-false}
-use Rattle.std.proofs.Common.{◌≡◌, ◌-◌, ◌≤◌, length, drop, sym, ◌∙◌, arith, rules}
-use Rattle.delete_vector.specs.Records.{records_at, records_in}
-use Rattle.delete_vector.specs.Answers.{scanned_of}
+use Rattle.std.proofs.Common.{drop, sym, ◌∙◌, arith, rules}
 use Rattle.delete_vector.proofs.Files.{over-limit, in-limit, judge, size_of, scan-bad, scan-more, scan-end, record-in}
 use Rattle.delete_vector.proofs.file.scan.Goals as goal
 

@@ -1,9 +1,7 @@
 -- `delete_vector::file::scan` meets its contract.
-use borrow.Author.Tests.{not-true, not-false}
-use Rattle.std.proofs.Common.{◌≡◌, ◌-◌, ◌≤◌, length, drop, sym, ◌∙◌, arith, rules}
+use Rattle.std.proofs.Common.{◌≡◌, ◌-◌, ◌≤◌, length, drop}
 use Rattle.delete_vector.specs.Records.{records_at, records_in}
 use Rattle.delete_vector.specs.Answers.{scanned_of}
-use Rattle.delete_vector.proofs.Files.{over-limit, in-limit, judge, size_of, scan-bad, scan-more, scan-end, record-in}
 use Rattle.delete_vector.proofs.file.scan.Given as goal
 
 abbrev pub invariant-loop-at : goal.invariant-loop-at

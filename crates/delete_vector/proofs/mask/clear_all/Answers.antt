@@ -1,5 +1,5 @@
 -- `delete_vector::mask::clear_all` meets its contract.
-use Rattle.std.proofs.Common.{◌≡◌, ◌+◌, ◌-◌, ◌≤◌, length, drop, sym, ap, ◌∙◌, arith, rules}
+use Rattle.std.proofs.Common.{◌+◌, drop, sym, ap, ◌∙◌, arith, rules}
 use Rattle.delete_vector.specs.Memory.{is_in}
 use Rattle.delete_vector.specs.Mask.{masked}
 use Rattle.delete_vector.proofs.Masking.{masked-turn, masked-end}

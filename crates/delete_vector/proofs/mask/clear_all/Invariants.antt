@@ -1,8 +1,7 @@
 -- `delete_vector::mask::clear_all` meets its contract.
-use Rattle.std.proofs.Common.{◌≡◌, ◌+◌, ◌-◌, ◌≤◌, length, drop, sym, ap, ◌∙◌, arith, rules}
+use Rattle.std.proofs.Common.{◌≡◌, ◌-◌, ◌≤◌, length, drop}
 use Rattle.delete_vector.specs.Memory.{is_in}
 use Rattle.delete_vector.specs.Mask.{masked}
-use Rattle.delete_vector.proofs.Masking.{masked-turn, masked-end}
 use Rattle.delete_vector.proofs.mask.clear_all.Given as goal
 
 abbrev pub invariant-loop-i : goal.invariant-loop-i

@@ -1,7 +1,5 @@
 -- `delete_vector::record::holds_varint` meets its contract.
-use Rattle.std.proofs.Common.{◌≡◌, ◌-◌, ◌≤◌, length, get_or, drop, sym, refl, ◌∙◌, arith, eq-eqb, ne_eqb}
-use Rattle.delete_vector.specs.Encoding.{varint}
-use Rattle.delete_vector.specs.Records.{starts_with}
+use Rattle.std.proofs.Common.{get_or, sym, refl, ◌∙◌, arith, eq-eqb, ne_eqb}
 use Rattle.delete_vector.proofs.Bytes.{starts-end, starts-big, starts-small}
 use Rattle.delete_vector.proofs.record.holds_varint.Goals as goal
 

@@ -1,8 +1,7 @@
 -- `delete_vector::record::holds_varint` meets its contract.
-use Rattle.std.proofs.Common.{◌≡◌, ◌-◌, ◌≤◌, length, get_or, drop, sym, refl, ◌∙◌, arith, eq-eqb, ne_eqb}
+use Rattle.std.proofs.Common.{◌≡◌, ◌≤◌, length, drop}
 use Rattle.delete_vector.specs.Encoding.{varint}
 use Rattle.delete_vector.specs.Records.{starts_with}
-use Rattle.delete_vector.proofs.Bytes.{starts-end, starts-big, starts-small}
 use Rattle.delete_vector.proofs.record.holds_varint.Given as goal
 
 abbrev pub invariant-loop-left : goal.invariant-loop-left

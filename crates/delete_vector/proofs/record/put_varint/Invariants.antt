@@ -1,8 +1,7 @@
 -- `delete_vector::record::put_varint` meets its contract.
-use Rattle.std.proofs.Common.{◌≡◌, ◌+◌, ◌-◌, length, refl, ◌∙◌, arith, length-set}
+use Rattle.std.proofs.Common.{◌≡◌, ◌+◌, length}
 use Rattle.lists.specs.Written.{written}
 use Rattle.delete_vector.specs.Encoding.{varint}
-use Rattle.delete_vector.proofs.Bytes.{big-length, small-length, varint-put, varint-last}
 use Rattle.delete_vector.proofs.record.put_varint.Given as goal
 
 abbrev pub invariant-loop-left : goal.invariant-loop-left

@@ -1,5 +1,5 @@
 -- `delete_vector::record::record_size` meets its contract.
-use Rattle.std.proofs.Common.{◌-◌, get_or, sym, ap, ◌∙◌, arith, rules}
+use Rattle.std.proofs.Common.{get_or, sym, ap, ◌∙◌, arith, rules}
 use Rattle.delete_vector.proofs.Sizes.{size-rule, record-size, record-short, row-of-bits}
 use Rattle.delete_vector.proofs.record.record_size.Goals as goal
 

@@ -1,5 +1,5 @@
 -- `delete_vector::record::significant_bits` meets its contract.
-use Rattle.std.proofs.Common.{◌-◌, arith}
+use Rattle.std.proofs.Common.{arith}
 use Rattle.delete_vector.proofs.Sizes.{significant}
 use Rattle.delete_vector.proofs.record.significant_bits.Goals as goal
 

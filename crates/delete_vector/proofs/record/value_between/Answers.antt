@@ -1,8 +1,5 @@
 -- `delete_vector::record::value_between` meets its contract.
-use Rattle.std.proofs.Common.{◌≡◌, ◌-◌, ◌<◌, ◌≤◌, min, refl, ◌∙◌, arith}
-use lib.Seq.{slice}
-use Rattle.delete_vector.specs.Encoding.{value_of}
-use Rattle.delete_vector.specs.Records.{row_limit}
+use Rattle.std.proofs.Common.{refl, ◌∙◌, arith}
 use Rattle.delete_vector.proofs.Bytes.{value-more, value_none, value-done}
 use Rattle.delete_vector.proofs.record.value_between.Goals as goal
 

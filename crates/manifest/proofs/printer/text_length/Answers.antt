@@ -1,6 +1,6 @@
 -- `manifest::printer::text_length` meets its contract.
 use native.Mathlib.Omega.{arith}
-use lib.ListN.{length, length-append}
+use lib.ListN.{length-append}
 use mathlib.Core.List.{[], ◌∷◌}
 use Rattle.ids.specs.Names.{name_of}
 use Rattle.ids.proofs.Names.{name-room}

@@ -1,11 +1,8 @@
 -- `manifest::reader::line_at` meets its contract.
-use Prim.Native.Nat.{◌-◌}
-use mathlib.Core.Path.{◌≡◌, sym, ◌∙◌}
+use mathlib.Core.Path.{sym, ◌∙◌}
 use native.Mathlib.Omega.{arith}
 use borrow.Author.Rules.{rules}
-use lib.ListN.{length}
-use Rattle.manifest.specs.Split.{line_at}
-use Rattle.manifest.proofs.Split.{line_on, line-start, line-here, line-more, line-none}
+use Rattle.manifest.proofs.Split.{line-start, line-here, line-more, line-none}
 use Rattle.manifest.proofs.reader.line_at.Goals as goal
 
 pub loop-i-init : goal.loop-i-init

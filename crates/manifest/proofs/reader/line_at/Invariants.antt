@@ -1,11 +1,9 @@
 -- `manifest::reader::line_at` meets its contract.
 use Prim.Native.Nat.{◌-◌}
-use mathlib.Core.Path.{◌≡◌, sym, ◌∙◌}
-use native.Mathlib.Omega.{arith}
-use borrow.Author.Rules.{rules}
+use mathlib.Core.Path.{◌≡◌}
 use lib.ListN.{length}
 use Rattle.manifest.specs.Split.{line_at}
-use Rattle.manifest.proofs.Split.{line_on, line-start, line-here, line-more, line-none}
+use Rattle.manifest.proofs.Split.{line_on}
 use Rattle.manifest.proofs.reader.line_at.Given as goal
 
 abbrev pub invariant-loop-i : goal.invariant-loop-i

@@ -1,11 +1,7 @@
 -- `operations::vectors::numbered` meets its contract.
-use Prim.Native.Nat.{◌-◌, ◌≤◌}
-use lib.Dec.{eqb}
 use borrow.Author.Tests.{eq-eqb, ne_eqb}
-use Rattle.ids.specs.Limits.{most_held}
 use Rattle.lists.proofs.Places.{known}
-use Rattle.columns.specs.Rows.{column}
-use Rattle.snapshot.proofs.TableRows.{Seeking, seek-start, seek_found, seek-more, seek-done}
+use Rattle.snapshot.proofs.TableRows.{seek-start, seek_found, seek-more, seek-done}
 use Rattle.operations.proofs.vectors.numbered.Goals as goal
 
 pub loop-i-init : goal.loop-i-init

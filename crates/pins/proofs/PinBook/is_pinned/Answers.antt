@@ -2,7 +2,7 @@
 use mathlib.Core.Path.{◌≡◌, refl, sym, ap, ◌∙◌}
 use mathlib.Core.Bool.{Bool}
 use mathlib.Core.List.{[]}
-use Prim.Native.Nat.{ℕ, ◌-◌, ◌≤◌}
+use Prim.Native.Nat.{ℕ}
 use native.Mathlib.Omega.{arith}
 use borrow.Author.Tests.{eq-eqb, ne_eqb}
 use lib.Dec.{eqb}
@@ -10,7 +10,7 @@ use lib.ListN.{length, drop}
 use Rattle.lists.specs.Keyed.{any_of}
 use Rattle.lists.proofs.Places.{known}
 use Rattle.lists.proofs.Views.{seen_end, any_here, any_next}
-use Rattle.pins.specs.Book.{PinEntry, most_pinned, pin_entry, pins_of, pinned}
+use Rattle.pins.specs.Book.{PinEntry, most_pinned, pin_entry, pins_of}
 use Rattle.pins.proofs.PinBook.is_pinned.Goals as goal
 
 abbrev is_on : ℕ → PinEntry → Bool

@@ -1,14 +1,11 @@
 -- `pins::PinBook::sound` meets its contract.
-use mathlib.Core.Path.{◌≡◌, sym, ◌∙◌}
+use mathlib.Core.Path.{◌≡◌}
 use mathlib.Core.Bool.{◌&&◌}
 use Prim.Native.Nat.{◌-◌, ◌≤◌}
-use native.Mathlib.Omega.{arith}
-use borrow.Author.Tests.{not-true, not-false}
 use lib.ListN.{length, drop}
 use Rattle.lists.specs.Keyed.{all_of, ascending}
-use Rattle.lists.proofs.Places.{known}
-use Rattle.pins.specs.Book.{most_pinned, pins_of, place_key, by_place, valid_pin}
-use Rattle.pins.proofs.Rising.{sound_from, sound-start, sound-fails, sound-next, sound-end}
+use Rattle.pins.specs.Book.{pins_of, place_key, by_place, valid_pin}
+use Rattle.pins.proofs.Rising.{sound_from}
 use Rattle.pins.proofs.PinBook.sound.Given as goal
 
 abbrev pub invariant-loop-i : goal.invariant-loop-i

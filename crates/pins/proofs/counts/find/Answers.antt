@@ -1,14 +1,11 @@
 -- `pins::counts::find` meets its contract.
 use mathlib.Core.Path.{◌≡◌, sym, ◌∙◌}
-use mathlib.Core.Bool.{true}
-use Prim.Native.Nat.{◌-◌, ◌≤◌}
 use native.Mathlib.Omega.{arith}
 use borrow.Author.Tests.{not-true, not-false}
 use lib.ListN.{length}
-use Rattle.lists.specs.Keyed.{ascending}
 use Rattle.lists.proofs.Places.{known}
-use Rattle.pins.specs.Book.{pins_of, by_place, most_pinned}
-use Rattle.pins.proofs.Counting.{Finding, find-start, find-more, find-here, find-other, find-end}
+use Rattle.pins.specs.Book.{most_pinned}
+use Rattle.pins.proofs.Counting.{find-start, find-more, find-here, find-other, find-end}
 use Rattle.pins.proofs.counts.find.Goals as goal
 
 pub loop-i-init : goal.loop-i-init

@@ -1,14 +1,11 @@
 -- `pins::counts::find` meets its contract.
-use mathlib.Core.Path.{◌≡◌, sym, ◌∙◌}
+use mathlib.Core.Path.{◌≡◌}
 use mathlib.Core.Bool.{true}
 use Prim.Native.Nat.{◌-◌, ◌≤◌}
-use native.Mathlib.Omega.{arith}
-use borrow.Author.Tests.{not-true, not-false}
 use lib.ListN.{length}
 use Rattle.lists.specs.Keyed.{ascending}
-use Rattle.lists.proofs.Places.{known}
-use Rattle.pins.specs.Book.{pins_of, by_place, most_pinned}
-use Rattle.pins.proofs.Counting.{Finding, find-start, find-more, find-here, find-other, find-end}
+use Rattle.pins.specs.Book.{pins_of, by_place}
+use Rattle.pins.proofs.Counting.{Finding}
 use Rattle.pins.proofs.counts.find.Given as goal
 
 abbrev pub invariant-loop-i : goal.invariant-loop-i

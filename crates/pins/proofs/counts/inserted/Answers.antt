@@ -1,10 +1,9 @@
 -- `pins::counts::inserted` meets its contract.
 use mathlib.Core.Path.{◌≡◌, refl, ap, ◌∙◌}
 use mathlib.Core.List.{map}
-use Prim.Native.Nat.{◌+◌, ◌-◌}
 use lib.ListN.{length, take}
 use Rattle.lists.proofs.Places.{known}
-use Rattle.lists.proofs.Loops.{Shifting, shift-start, shift-more, shift-done}
+use Rattle.lists.proofs.Loops.{shift-start, shift-more, shift-done}
 use Rattle.lists.proofs.Views.{map-insert}
 use Rattle.pins.specs.Book.{pin_entry, most_pinned}
 use Rattle.pins.proofs.counts.inserted.Goals as goal

@@ -1,12 +1,7 @@
 -- `pins::counts::inserted` meets its contract.
-use mathlib.Core.Path.{◌≡◌, refl, ap, ◌∙◌}
-use mathlib.Core.List.{map}
 use Prim.Native.Nat.{◌+◌, ◌-◌}
-use lib.ListN.{length, take}
-use Rattle.lists.proofs.Places.{known}
-use Rattle.lists.proofs.Loops.{Shifting, shift-start, shift-more, shift-done}
-use Rattle.lists.proofs.Views.{map-insert}
-use Rattle.pins.specs.Book.{pin_entry, most_pinned}
+use Rattle.lists.proofs.Loops.{Shifting}
+use Rattle.pins.specs.Book.{most_pinned}
 use Rattle.pins.proofs.counts.inserted.Given as goal
 
 abbrev pub invariant-loop-i : goal.invariant-loop-i

@@ -1,13 +1,12 @@
 -- `pins::counts::without` meets its contract.
 use mathlib.Core.Path.{◌≡◌, sym, ap, ◌∙◌}
 use mathlib.Core.Bool.{not}
-use mathlib.Core.Logic.{⊎_elim}
-use Prim.Native.Nat.{◌-◌, ◌≤◌}
+use Prim.Native.Nat.{◌≤◌}
 use native.Mathlib.Omega.{arith}
 use lib.ListN.{length}
 use Rattle.lists.specs.Keyed.{is_at, without}
 use Rattle.lists.proofs.Places.{known}
-use Rattle.lists.proofs.Views.{seen_end, keep-here, keep-next, Making, make-start, make-one, make-none, make-done}
+use Rattle.lists.proofs.Views.{seen_end, keep-here, keep-next, make-start, make-one, make-none, make-done}
 use Rattle.pins.specs.Book.{PinEntry, pin_entry, place_key, by_place, most_pinned}
 use Rattle.pins.proofs.counts.without.Goals as goal
 use Rattle.pins.proofs.counts.without.Goals.{else-not-is_at, then-not-is_at}

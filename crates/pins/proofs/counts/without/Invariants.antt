@@ -1,14 +1,10 @@
 -- `pins::counts::without` meets its contract.
-use mathlib.Core.Path.{◌≡◌, sym, ap, ◌∙◌}
-use mathlib.Core.Bool.{not}
-use mathlib.Core.Logic.{⊎_elim}
+use mathlib.Core.Path.{◌≡◌}
 use Prim.Native.Nat.{◌-◌, ◌≤◌}
-use native.Mathlib.Omega.{arith}
 use lib.ListN.{length}
-use Rattle.lists.specs.Keyed.{is_at, without}
-use Rattle.lists.proofs.Places.{known}
-use Rattle.lists.proofs.Views.{seen_end, keep-here, keep-next, Making, make-start, make-one, make-none, make-done}
-use Rattle.pins.specs.Book.{PinEntry, pin_entry, place_key, by_place, most_pinned}
+use Rattle.lists.specs.Keyed.{without}
+use Rattle.lists.proofs.Views.{Making}
+use Rattle.pins.specs.Book.{pin_entry, place_key, by_place, most_pinned}
 use Rattle.pins.proofs.counts.without.Given as goal
 
 abbrev pub invariant-loop-i : goal.invariant-loop-i

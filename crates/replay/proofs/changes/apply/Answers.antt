@@ -1,7 +1,6 @@
 -- `replay::changes::apply` meets its contract.
 use mathlib.Core.Path.{sym, ap, ◌∙◌}
 use native.Mathlib.Omega.{arith}
-use lib.ListN.{drop}
 use Rattle.replay.specs.Working.{shape_noted, tables_part, pairs_part, vectors_part}
 use Rattle.replay.proofs.Working.{said-table, said-pair, said-vector, tables-whole, pairs-whole, vectors-whole, cut-tables, cut-pairs, cut-vectors}
 use Rattle.replay.proofs.Notes.{note-shape, note-name, read_short, read-within, read_name}

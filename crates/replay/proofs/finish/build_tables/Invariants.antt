@@ -1,15 +1,10 @@
 -- `replay::finish::build_tables` meets its contract.
-use mathlib.Core.Path.{◌≡◌, refl, ◌∙◌}
-use mathlib.Core.List.{List}
-use Prim.Native.Nat.{ℕ, ◌-◌, ◌≤◌}
-use native.Mathlib.Omega.{arith}
+use mathlib.Core.Path.{◌≡◌}
+use Prim.Native.Nat.{◌-◌, ◌≤◌}
 use lib.ListN.{take}
 use Rattle.ids.specs.Limits.{most_tables}
-use Rattle.lists.proofs.Places.{known}
-use Rattle.columns.specs.Rows.{rows}
 use Rattle.snapshot.specs.Tables.{Whole, table_rows}
 use Rattle.replay.specs.Working.{tables_in, TablesGood}
-use Rattle.replay.proofs.Handing.{table_fits, table-next, tables-whole}
 use Rattle.replay.proofs.finish.build_tables.Given as goal
 
 abbrev pub invariant-loop-i : goal.invariant-loop-i

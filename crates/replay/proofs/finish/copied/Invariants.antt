@@ -1,11 +1,9 @@
 -- `replay::finish::copied` meets its contract.
-use mathlib.Core.Path.{refl}
 use Prim.Native.Nat.{◌-◌, ◌≤◌}
 use lib.ListN.{length}
 use Rattle.ids.specs.Limits.{most_held}
-use Rattle.lists.proofs.Places.{known}
 use Rattle.columns.specs.Rows.{column}
-use Rattle.replay.proofs.Filling.{Filled, fill_start, fill_more, fill_done}
+use Rattle.replay.proofs.Filling.{Filled}
 use Rattle.replay.proofs.finish.copied.Given as goal
 
 abbrev pub invariant-loop-i : goal.invariant-loop-i

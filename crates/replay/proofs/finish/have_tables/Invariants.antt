@@ -1,13 +1,10 @@
 -- `replay::finish::have_tables` meets its contract.
-use mathlib.Core.Path.{sym, ◌∙◌}
 use mathlib.Core.List.{[], ◌∷◌}
 use Prim.Native.Nat.{◌-◌, ◌≤◌}
-use borrow.Author.Tests.{not-true, not-false}
 use Rattle.ids.specs.Limits.{most_held}
 use Rattle.lists.specs.Keyed.{has}
-use Rattle.lists.proofs.Places.{known}
 use Rattle.columns.specs.Rows.{rows, across, plain}
-use Rattle.columns.proofs.Rows.{Testing, test-start, test-stop, test-more, test-done}
+use Rattle.columns.proofs.Rows.{Testing}
 use Rattle.replay.proofs.finish.have_tables.Given as goal
 
 abbrev pub invariant-loop-i : goal.invariant-loop-i

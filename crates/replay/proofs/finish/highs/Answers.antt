@@ -1,12 +1,8 @@
 -- `replay::finish::highs` meets its contract.
 use mathlib.Core.Path.{refl}
-use Prim.Native.Nat.{◌-◌, ◌/◌, ◌≤◌}
 use native.Mathlib.Omega.{arith}
-use lib.ListN.{length}
-use Rattle.ids.specs.Limits.{most_held}
 use Rattle.lists.proofs.Places.{known}
-use Rattle.columns.specs.Rows.{column}
-use Rattle.replay.proofs.Filling.{Filled, fill_start, fill_more, fill_done}
+use Rattle.replay.proofs.Filling.{fill_start, fill_more, fill_done}
 use Rattle.replay.proofs.finish.highs.Goals as goal
 
 pub loop-i-init : goal.loop-i-init

@@ -1,15 +1,12 @@
 -- `replay::finish::live` meets its contract.
-use mathlib.Core.Path.{refl, sym, ◌∙◌}
 use mathlib.Core.Bool.{false}
 use mathlib.Core.List.{[], ◌∷◌}
 use Prim.Native.Nat.{◌-◌, ◌≤◌}
 use Rattle.ids.specs.Limits.{most_held}
 use Rattle.lists.specs.Keyed.{has}
-use Rattle.lists.proofs.Places.{known}
 use Rattle.columns.specs.Rows.{column}
 use Rattle.snapshot.specs.Entries.{by_ids, entries}
-use Rattle.snapshot.proofs.Entries.{held-ids}
-use Rattle.replay.proofs.Filling.{Filled, fill_start, fill_more, fill_done, has-ids}
+use Rattle.replay.proofs.Filling.{Filled}
 use Rattle.replay.proofs.finish.live.Given as goal
 
 abbrev pub invariant-loop-i : goal.invariant-loop-i

@@ -1,11 +1,8 @@
 -- `replay::frame::apply_frame` meets its contract.
-use mathlib.Core.Path.{◌≡◌, refl, sym, ◌∙◌}
-use native.Mathlib.Omega.{arith}
-use borrow.Author.Tests.{not-true, not-false}
+use mathlib.Core.Path.{◌≡◌}
 use lib.ListN.{length, take}
 use Rattle.replay.specs.Working.{leading, said_from, framed_lightly, state_in, cut, work_room}
-use Rattle.replay.proofs.Frames.{Going, going-stop, going_on, going-none, going_end}
-use Rattle.lists.proofs.Places.{known}
+use Rattle.replay.proofs.Frames.{Going}
 use Rattle.replay.proofs.frame.apply_frame.Given as goal
 
 abbrev pub invariant-loop-left : goal.invariant-loop-left

@@ -1,12 +1,9 @@
 -- `replay::lines::run` meets its contract.
-use mathlib.Core.Path.{◌≡◌, refl, sym, ◌∙◌}
-use Prim.Native.Nat.{◌-◌}
+use mathlib.Core.Path.{refl, sym, ◌∙◌}
 use native.Mathlib.Omega.{arith}
 use borrow.Author.Tests.{not-true, not-false}
-use lib.ListN.{length}
 use Rattle.manifest.proofs.Split.{line-placed}
-use Rattle.replay.specs.Working.{cut, work_room}
-use Rattle.replay.proofs.Frames.{said-line, said-as, turn-as, Reading, cut-start, reading-start, reading-end, reading-stop, reading-on}
+use Rattle.replay.proofs.Frames.{said-line, said-as, turn-as, cut-start, reading-start, reading-end, reading-stop, reading-on}
 use Rattle.lists.proofs.Places.{known}
 use Rattle.replay.proofs.lines.run.Goals as goal
 

@@ -1,10 +1,7 @@
 -- `replay::names::same_bytes` meets its contract.
-use mathlib.Core.Path.{◌≡◌, sym, ◌∙◌}
-use Prim.Native.Nat.{ℕ, ◌-◌, ◌≤◌, ◌<◌}
+use mathlib.Core.Path.{sym, ◌∙◌}
 use native.Mathlib.Omega.{arith}
 use borrow.Author.Count.{below_more}
-use lib.ListN.{length, get_or}
-use Rattle.ids.specs.Names.{longest_name, name_of}
 use Rattle.ids.proofs.Names.{name-room}
 use Rattle.replay.proofs.Notes.{other_length, other_byte, all-bytes}
 use Rattle.lists.proofs.Places.{known}

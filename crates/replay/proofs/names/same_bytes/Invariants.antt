@@ -1,13 +1,8 @@
 -- `replay::names::same_bytes` meets its contract.
-use mathlib.Core.Path.{◌≡◌, sym, ◌∙◌}
+use mathlib.Core.Path.{◌≡◌}
 use Prim.Native.Nat.{ℕ, ◌-◌, ◌≤◌, ◌<◌}
-use native.Mathlib.Omega.{arith}
-use borrow.Author.Count.{below_more}
 use lib.ListN.{length, get_or}
 use Rattle.ids.specs.Names.{longest_name, name_of}
-use Rattle.ids.proofs.Names.{name-room}
-use Rattle.replay.proofs.Notes.{other_length, other_byte, all-bytes}
-use Rattle.lists.proofs.Places.{known}
 use Rattle.replay.proofs.names.same_bytes.Given as goal
 
 abbrev pub invariant-loop-i : goal.invariant-loop-i

@@ -1,13 +1,7 @@
 -- `replay::names::taken` meets its contract.
-use mathlib.Core.Path.{◌≡◌, refl, sym, ◌∙◌}
-use Prim.Native.Nat.{◌-◌, ◌≤◌}
+use mathlib.Core.Path.{refl, sym, ◌∙◌}
 use native.Mathlib.Omega.{arith}
-use lib.ListN.{length, take, drop}
-use Rattle.lists.specs.Order.{same}
-use Rattle.lists.specs.Keyed.{any_of}
 use Rattle.lists.proofs.Places.{known, drop-view, drop-end}
-use Rattle.ids.specs.Names.{name_of}
-use Rattle.replay.specs.Working.{name_noted}
 use Rattle.replay.proofs.names.taken.Goals as goal
 
 pub loop-i-init : goal.loop-i-init

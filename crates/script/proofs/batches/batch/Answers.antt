@@ -1,6 +1,4 @@
 -- `script::batches::batch` meets its contract.
-use Prim.Native.Nat.{◌≤◌, ◌-◌}
-use lib.ListN.{length}
 use borrow.Author.Rules.{rules}
 use Rattle.script.proofs.batches.batch.Goals as goal
 

@@ -1,7 +1,6 @@
 -- `script::batches::batch` meets its contract.
 use Prim.Native.Nat.{◌≤◌, ◌-◌}
 use lib.ListN.{length}
-use borrow.Author.Rules.{rules}
 use Rattle.script.proofs.batches.batch.Given as goal
 
 abbrev pub invariant-loop-at : goal.invariant-loop-at

@@ -1,6 +1,4 @@
 -- `script::handles::handles` meets its contract.
-use Prim.Native.Nat.{◌≤◌, ◌-◌}
-use lib.ListN.{length}
 use borrow.Author.Rules.{rules}
 use Rattle.script.proofs.handles.handles.Goals as goal
 

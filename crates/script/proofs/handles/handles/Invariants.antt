@@ -1,7 +1,6 @@
 -- `script::handles::handles` meets its contract.
 use Prim.Native.Nat.{◌≤◌, ◌-◌}
 use lib.ListN.{length}
-use borrow.Author.Rules.{rules}
 use Rattle.script.proofs.handles.handles.Given as goal
 
 abbrev pub invariant-loop-at : goal.invariant-loop-at

@@ -1,11 +1,7 @@
 -- `snapshot::held::shown_places` meets its contract.
 use mathlib.Core.Path.{sym, ◌∙◌}
-use Prim.Native.Nat.{◌-◌, ◌≤◌}
-use Rattle.ids.specs.Limits.{most_held}
 use Rattle.lists.proofs.Places.{known}
-use Rattle.columns.specs.Rows.{column}
-use Rattle.snapshot.specs.Entries.{shown_at}
-use Rattle.snapshot.proofs.Picked.{Picking, pick-start, pick-take, pick-pass, pick-done}
+use Rattle.snapshot.proofs.Picked.{pick-start, pick-take, pick-pass, pick-done}
 use Rattle.snapshot.proofs.held.shown_places.Goals as goal
 
 pub loop-i-init : goal.loop-i-init

@@ -1,15 +1,13 @@
 -- `snapshot::held::write` meets its contract.
 use mathlib.Core.Path.{ap, sym, ◌∙◌}
 use mathlib.Core.List.{List}
-use Prim.Native.Nat.{ℕ, ◌-◌, ◌≤◌}
+use Prim.Native.Nat.{ℕ}
 use native.Mathlib.Omega.{arith}
-use Rattle.ids.specs.Limits.{most_held}
 use Rattle.lists.specs.Written.{over}
 use Rattle.lists.proofs.Places.{known}
 use Rattle.columns.specs.Rows.{column}
 use Rattle.columns.proofs.Rows.{rows-map}
-use Rattle.snapshot.specs.Picked.{Inside}
-use Rattle.snapshot.proofs.Picked.{Filling, fill_start, fill_more, fill_done}
+use Rattle.snapshot.proofs.Picked.{fill_start, fill_more, fill_done}
 use Rattle.snapshot.proofs.held.write.Goals as goal
 
 pub loop-i-init : goal.loop-i-init

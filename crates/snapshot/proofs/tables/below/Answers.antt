@@ -1,9 +1,6 @@
 -- `snapshot::tables::below` meets its contract.
-use Prim.Native.Nat.{◌-◌, ◌≤◌}
 use borrow.Author.Tests.{lt-ltb, le-ltb}
-use lib.Dec.{ltb}
-use Rattle.ids.specs.Limits.{most_tables}
-use Rattle.columns.proofs.Rows.{Testing, test-start, test-stop, test-more, test-done}
+use Rattle.columns.proofs.Rows.{test-start, test-stop, test-more, test-done}
 use Rattle.lists.proofs.Places.{known}
 use Rattle.snapshot.proofs.tables.below.Goals as goal
 

@@ -1,10 +1,8 @@
 -- `snapshot::tables::below` meets its contract.
 use Prim.Native.Nat.{◌-◌, ◌≤◌}
-use borrow.Author.Tests.{lt-ltb, le-ltb}
 use lib.Dec.{ltb}
 use Rattle.ids.specs.Limits.{most_tables}
-use Rattle.columns.proofs.Rows.{Testing, test-start, test-stop, test-more, test-done}
-use Rattle.lists.proofs.Places.{known}
+use Rattle.columns.proofs.Rows.{Testing}
 use Rattle.snapshot.proofs.tables.below.Given as goal
 
 abbrev pub invariant-loop-i : goal.invariant-loop-i

@@ -1,12 +1,10 @@
 -- `snapshot::tables::holds` meets its contract.
 use mathlib.Core.List.{[], ◌∷◌}
 use Prim.Native.Nat.{◌-◌, ◌≤◌}
-use borrow.Author.Tests.{eq-eqb, ne_eqb}
 use Rattle.ids.specs.Limits.{most_tables}
 use Rattle.lists.specs.Order.{same}
 use Rattle.columns.specs.Rows.{across}
-use Rattle.snapshot.proofs.TableRows.{Seeking, seek-start, seek_found, seek-more, seek-done}
-use Rattle.lists.proofs.Places.{known}
+use Rattle.snapshot.proofs.TableRows.{Seeking}
 use Rattle.snapshot.proofs.tables.holds.Given as goal
 
 abbrev pub invariant-loop-i : goal.invariant-loop-i

@@ -1,10 +1,6 @@
 -- `snapshot::tables::ordered` meets its contract.
-use mathlib.Core.List.{[], ◌∷◌}
-use Prim.Native.Nat.{◌-◌, ◌≤◌}
-use Rattle.ids.specs.Limits.{most_tables}
 use Rattle.snapshot.proofs.TableRows.{one-before, one-not-before}
-use Rattle.columns.specs.Rows.{across}
-use Rattle.columns.proofs.Rows.{Rising, rise-start, rise-stop, rise-more, rise-done}
+use Rattle.columns.proofs.Rows.{rise-start, rise-stop, rise-more, rise-done}
 use Rattle.lists.proofs.Places.{known}
 use Rattle.snapshot.proofs.tables.ordered.Goals as goal
 

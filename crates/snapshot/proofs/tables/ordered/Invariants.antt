@@ -2,10 +2,8 @@
 use mathlib.Core.List.{[], ◌∷◌}
 use Prim.Native.Nat.{◌-◌, ◌≤◌}
 use Rattle.ids.specs.Limits.{most_tables}
-use Rattle.snapshot.proofs.TableRows.{one-before, one-not-before}
 use Rattle.columns.specs.Rows.{across}
-use Rattle.columns.proofs.Rows.{Rising, rise-start, rise-stop, rise-more, rise-done}
-use Rattle.lists.proofs.Places.{known}
+use Rattle.columns.proofs.Rows.{Rising}
 use Rattle.snapshot.proofs.tables.ordered.Given as goal
 
 abbrev pub invariant-loop-i : goal.invariant-loop-i

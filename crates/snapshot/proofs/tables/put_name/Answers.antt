@@ -1,12 +1,6 @@
 -- `snapshot::tables::put_name` meets its contract.
-use Prim.Native.Nat.{◌*◌, ◌-◌, ◌≤◌, ◌<◌}
-use mathlib.Core.Path.{◌≡◌}
 use native.Mathlib.Omega.{arith}
-use lib.ListN.{length}
-use Rattle.ids.specs.Limits.{most_tables}
-use Rattle.ids.specs.Names.{longest_name}
-use Rattle.snapshot.specs.Tables.{name_bytes}
-use Rattle.snapshot.proofs.TableRows.{Copying, copy_start, copy_more, copy_done}
+use Rattle.snapshot.proofs.TableRows.{copy_start, copy_more, copy_done}
 use Rattle.lists.proofs.Places.{known}
 use Rattle.snapshot.proofs.tables.put_name.Goals as goal
 

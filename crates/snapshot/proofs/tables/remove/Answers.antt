@@ -1,13 +1,7 @@
 -- `snapshot::tables::remove` meets its contract.
-use mathlib.Core.Bool.{not}
-use mathlib.Core.List.{[], ◌∷◌}
-use Prim.Native.Nat.{◌-◌, ◌≤◌}
 use native.Mathlib.Omega.{arith}
 use borrow.Author.Tests.{eq-eqb, ne_eqb}
-use Rattle.ids.specs.Limits.{most_tables}
-use Rattle.lists.specs.Keyed.{is_at}
-use Rattle.snapshot.specs.Tables.{by_table, table_at, Whole}
-use Rattle.snapshot.proofs.TableRows.{Packing, pack-start, pack-pass, pack-take, pack-done}
+use Rattle.snapshot.proofs.TableRows.{pack-start, pack-pass, pack-take, pack-done}
 use Rattle.lists.proofs.Places.{known}
 use Rattle.snapshot.proofs.tables.remove.Goals as goal
 

@@ -1,12 +1,6 @@
 -- `snapshot::tables::same_bytes` meets its contract.
-use Prim.Native.Nat.{◌*◌, ◌-◌, ◌≤◌, ◌<◌}
-use mathlib.Core.Path.{◌≡◌}
 use native.Mathlib.Omega.{arith}
-use lib.ListN.{length}
-use Rattle.ids.specs.Limits.{most_tables}
-use Rattle.ids.specs.Names.{longest_name}
-use Rattle.snapshot.specs.Tables.{name_bytes}
-use Rattle.snapshot.proofs.TableRows.{Comparing, compare-start, compare-differ, compare-more, compare-done}
+use Rattle.snapshot.proofs.TableRows.{compare-start, compare-differ, compare-more, compare-done}
 use Rattle.lists.proofs.Places.{known}
 use Rattle.snapshot.proofs.tables.same_bytes.Goals as goal
 

@@ -1,14 +1,8 @@
 -- `snapshot::tables::taken` meets its contract.
-use Prim.Native.Nat.{◌-◌, ◌≤◌}
-use mathlib.Core.Path.{◌≡◌, sym, ◌∙◌}
+use mathlib.Core.Path.{sym, ◌∙◌}
 use native.Mathlib.Omega.{arith}
-use lib.ListN.{length}
-use Rattle.ids.specs.Limits.{most_tables}
-use Rattle.ids.specs.Names.{longest_name, name_of}
 use Rattle.ids.proofs.Names.{name-room}
-use Rattle.lists.specs.Order.{same}
-use Rattle.snapshot.specs.Tables.{name_at, name_bytes}
-use Rattle.snapshot.proofs.TableRows.{Seeking, seek-start, seek_found, seek-more, seek-done, name-bytes}
+use Rattle.snapshot.proofs.TableRows.{seek-start, seek_found, seek-more, seek-done, name-bytes}
 use Rattle.lists.proofs.Places.{known}
 use Rattle.snapshot.proofs.tables.taken.Goals as goal
 

@@ -1,15 +1,11 @@
 -- `table::lines::of_table` meets its contract.
-use mathlib.Core.Path.{◌≡◌, refl}
-use mathlib.Core.Bool.{Bool, ◌&&◌}
+use mathlib.Core.Path.{◌≡◌}
+use mathlib.Core.Bool.{◌&&◌}
 use Prim.Native.Nat.{ℕ, ◌-◌, ◌≤◌, ◌<◌}
-use native.Mathlib.Omega.{arith}
-use native.Mathlib.Nat.{not-suc-le-zero}
 use lib.Dec.{eqb}
-use lib.ListN.{length, length-set}
+use lib.ListN.{length}
 use Rattle.ids.specs.Limits.{most_held}
-use Rattle.lists.proofs.Places.{known}
 use Rattle.columns.specs.Rows.{column, marks}
-use Rattle.columns.proofs.Rows.{rows_same, mark-more}
 use Rattle.snapshot.specs.Entries.{shown_at}
 use Rattle.table.proofs.lines.of_table.Given as goal
 

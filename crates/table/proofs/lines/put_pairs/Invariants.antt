@@ -1,10 +1,8 @@
 -- `table::lines::put_pairs` meets its contract.
 use mathlib.Core.List.{[], ◌∷◌}
 use Prim.Native.Nat.{◌-◌}
-use Rattle.lists.proofs.Places.{known}
-use Rattle.rewrite.proofs.Lines.{write-start, write-length, write-room, write-yes, write-no}
 use Rattle.table.specs.Made.{delete_rowset_of}
-use Rattle.table.proofs.Marked.{Marking, marking-done}
+use Rattle.table.proofs.Marked.{Marking}
 use Rattle.table.proofs.lines.put_pairs.Given as goal
 
 abbrev pub invariant-loop-i : goal.invariant-loop-i

@@ -1,10 +1,9 @@
 -- `table::lines::put_vectors` meets its contract.
 use mathlib.Core.List.{[], ◌∷◌}
-use Prim.Native.Nat.{◌-◌}
 use Rattle.lists.proofs.Places.{known}
 use Rattle.rewrite.proofs.Lines.{write-start, write-length, write-room, write-yes, write-no}
 use Rattle.table.specs.Made.{delete_vector_of}
-use Rattle.table.proofs.Marked.{Marking, marking-done}
+use Rattle.table.proofs.Marked.{marking-done}
 use Rattle.table.proofs.lines.put_vectors.Goals as goal
 
 pub loop-i-init : goal.loop-i-init

@@ -1,14 +1,9 @@
 -- `transaction::chains::gather` meets its contract.
-use mathlib.Core.Path.{◌≡◌, sym, ap, ◌∙◌}
+use mathlib.Core.Path.{◌≡◌}
 use Prim.Native.Nat.{◌+◌, ◌-◌, ◌≤◌}
-use native.Mathlib.Omega.{arith}
-use borrow.Author.Rules.{rules}
-use lib.ListN.{length, get_or, length-set}
+use lib.ListN.{length}
 use Rattle.lists.specs.Written.{written}
-use Rattle.lists.proofs.Written.{written_none}
-use Rattle.delete_vector.proofs.Bytes.{written_step}
 use Rattle.transaction.specs.Chains.{chain_of}
-use Rattle.transaction.proofs.Links.{chain-end, chain_next}
 use Rattle.transaction.proofs.chains.gather.Given as goal
 
 abbrev pub invariant-loop-i : goal.invariant-loop-i

@@ -3,9 +3,8 @@ use mathlib.Core.Path.{◌≡◌, refl}
 use Prim.Native.Nat.{◌-◌}
 use native.Mathlib.Omega.{arith}
 use borrow.Author.Rules.{rules}
-use lib.ListN.{length}
 use Rattle.delete_vector.proofs.InMemory.{memory-ascending}
-use Rattle.transaction.proofs.Links.{Linking, link_start, link-more, link-done, place_in}
+use Rattle.transaction.proofs.Links.{link_start, link-more, link-done, place_in}
 use Rattle.transaction.proofs.chains.link.Goals as goal
 
 pub loop-i-init : goal.loop-i-init

@@ -1,13 +1,8 @@
 -- `transaction::chains::place` meets its contract.
 use Prim.Native.Nat.{◌-◌, ◌≤◌}
-use native.Mathlib.Omega.{arith}
-use borrow.Author.Rules.{rules}
 use lib.ListN.{length}
 use Rattle.lists.specs.Keyed.{rank}
-use Rattle.lists.proofs.Keyed.{ascend-to}
-use Rattle.lists.proofs.Places.{rank-le}
 use Rattle.delete_vector.specs.Memory.{row_key}
-use Rattle.transaction.proofs.Links.{place-above, place-upto}
 use Rattle.transaction.proofs.chains.place.Given as goal
 
 abbrev pub invariant-loop-low : goal.invariant-loop-low

@@ -1,14 +1,9 @@
 -- `version_state::behind::rowsets_stand` meets its contract.
 use mathlib.Core.Path.{refl, sym, ◌∙◌}
-use mathlib.Core.Bool.{true}
 use mathlib.Core.List.{[], ◌∷◌}
-use Prim.Native.Nat.{◌+◌, ◌-◌, ◌≤◌}
 use borrow.Author.Tests.{eq-eqb, ne_eqb, not-true, not-false}
-use Rattle.ids.specs.Limits.{most_tables, most_held}
-use Rattle.columns.specs.Rows.{across, plain}
-use Rattle.snapshot.specs.Entries.{by_ids, shown_by, entry_at}
 use Rattle.snapshot.proofs.TableRows.{one-before, one-not-before}
-use Rattle.version_state.proofs.Walks.{Walking, walk_start, walk-hidden, walk_none, walk-pass, walk-miss, walk-meet, walk-done, stand-tables, sorted-ids}
+use Rattle.version_state.proofs.Walks.{walk_start, walk-hidden, walk_none, walk-pass, walk-miss, walk-meet, walk-done, stand-tables, sorted-ids}
 use Rattle.lists.proofs.Places.{known}
 use Rattle.version_state.proofs.behind.rowsets_stand.Goals as goal
 

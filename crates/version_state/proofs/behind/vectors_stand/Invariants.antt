@@ -1,14 +1,9 @@
 -- `version_state::behind::vectors_stand` meets its contract.
-use mathlib.Core.Path.{sym, ◌∙◌}
 use mathlib.Core.List.{[], ◌∷◌}
 use Prim.Native.Nat.{◌+◌, ◌-◌, ◌≤◌}
-use borrow.Author.Tests.{lt-ltb, not-true, not-false}
 use Rattle.ids.specs.Limits.{most_held}
-use Rattle.lists.proofs.Tests.{past}
 use Rattle.snapshot.specs.Entries.{by_ids, shown_by, entry_at}
-use Rattle.snapshot.proofs.Entries.{ascending-ids}
-use Rattle.version_state.proofs.Walks.{Walking, walk_start, walk-hidden, walk_none, walk-pass, walk-miss, walk-gone, walk-meet, walk-done, onward, sorted-ids}
-use Rattle.lists.proofs.Places.{known}
+use Rattle.version_state.proofs.Walks.{Walking}
 use Rattle.version_state.proofs.behind.vectors_stand.Given as goal
 
 abbrev pub invariant-loop-i : goal.invariant-loop-i

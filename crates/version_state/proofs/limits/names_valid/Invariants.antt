@@ -1,16 +1,13 @@
 -- `version_state::limits::names_valid` meets its contract.
-use mathlib.Core.Path.{◌≡◌, sym, ◌∙◌}
+use mathlib.Core.Path.{◌≡◌}
 use mathlib.Core.Bool.{not}
 use Prim.Native.Nat.{◌-◌, ◌≤◌}
 use lib.ListN.{length}
-use borrow.Author.Tests.{not-true, not-false}
 use Rattle.ids.specs.Limits.{most_tables}
 use Rattle.text.specs.Class.{Classes}
 use Rattle.text.specs.Name.{is_name}
 use Rattle.snapshot.specs.Tables.{name_at, name_bytes}
-use Rattle.snapshot.proofs.TableRows.{Seeking, seek-start}
-use Rattle.version_state.proofs.Walks.{each-stop, each_more, each-done}
-use Rattle.lists.proofs.Places.{known}
+use Rattle.snapshot.proofs.TableRows.{Seeking}
 use Rattle.version_state.proofs.limits.names_valid.Given as goal
 
 abbrev pub invariant-loop-i : goal.invariant-loop-i

@@ -1,6 +1,5 @@
 -- `ids::name::Name::length` meets its contract.
 use mathlib.Core.Path.{sym, ap}
-use Prim.Native.Nat.{◌-◌}
 use lib.ListN.{length}
 use Rattle.lists.proofs.Places.{known}
 use Rattle.ids.proofs.Names.{name-over, name-length}

@@ -1,11 +1,9 @@
 -- `ids::name::Name::of` meets its contract.
 use mathlib.Core.Path.{◌≡◌, ◌∙◌}
-use Prim.Native.Nat.{◌-◌, ◌≤◌}
 use native.Mathlib.Omega.{arith}
-use lib.ListN.{length, take}
+use lib.ListN.{length}
 use lib.Seq.{take-length}
 use Rattle.lists.proofs.Places.{known}
-use Rattle.ids.specs.Names.{longest_name}
 use Rattle.ids.proofs.Names.{name-short, copy_more}
 use Rattle.ids.proofs.name.Name.of.Goals as goal
 

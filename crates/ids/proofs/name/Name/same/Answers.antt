@@ -1,11 +1,7 @@
 -- `ids::name::Name::same` meets its contract.
-use mathlib.Core.Path.{◌≡◌, refl}
-use Prim.Native.Nat.{◌-◌, ◌≤◌}
+use mathlib.Core.Path.{refl}
 use native.Mathlib.Omega.{arith}
-use lib.ListN.{length, drop}
-use Rattle.lists.specs.Order.{same}
 use Rattle.lists.proofs.Places.{known}
-use Rattle.ids.specs.Names.{longest_name, name_of}
 use Rattle.ids.proofs.Names.{name-room, same_more, same-differ, same-short, same-both, same-long}
 use Rattle.ids.proofs.name.Name.same.Goals as goal
 
