@@ -84,12 +84,12 @@ def definitions():
             dashed.update(DEFINED.findall(read(path)))
         if not dashed:
             continue
-        word = re.compile(r"(?<![\w'-])(\.?)(" + "|".join(sorted(map(re.escape, dashed), key=len, reverse=True)) + r")(?![\w'-])( = (?!=)| : ℕ$)?", re.M)
+        word = re.compile(r"(?<![\w'-])(" + "|".join(sorted(map(re.escape, dashed), key=len, reverse=True)) + r")(?![\w'-])( = (?!=)| : ℕ$)?", re.M)
 
         def turned(m):
-            field = m.group(1) or (m.group(3) and m.group(2) == "rowset-id")
-            to = m.group(2).replace("-", "_") if field else RENAMED.get(m.group(2), m.group(2).replace("-", "_"))
-            return m.group(1) + to + (m.group(3) or "")
+            field = m.string[: m.start()].endswith(".") or (m.group(2) and m.group(1) == "rowset-id")
+            to = m.group(1).replace("-", "_") if field else RENAMED.get(m.group(1), m.group(1).replace("-", "_"))
+            return to + (m.group(2) or "")
 
         users = [path for path in files("crates", (".antt", ".rt", ".edit")) if f"Rattle.{crate}." in read(path) or path.startswith(root + os.sep) or (crate == "transaction" and path.startswith(os.path.join("crates", "version_manager")))]
         for path in users:

@@ -2,7 +2,7 @@
 use mathlib.Core.Path.{◌≡◌, refl, sym, ap, subst, ◌∙◌}
 use mathlib.Core.Bool.{Bool, true, ◌&&◌}
 use mathlib.Core.List.{List, [], ◌∷◌, map}
-use Prim.Native.Nat.{ℕ, ◌+◌, ◌-◌, ◌≤◌}
+use Prim.Native.Nat.{ℕ, ◌+◌, ◌≤◌}
 use native.Mathlib.Omega.{arith}
 use lib.Dec.{eqb, ltb, leb}
 use lib.ListN.{take}
@@ -30,8 +30,7 @@ use Rattle.commit.specs.Commit.{commit_of}
 use Rattle.commit.proofs.Sounds.{accepts}
 use Rattle.version_manager.specs.Managers.{held_by}
 use Rattle.plain_record.specs.Sets.{by_id, itself}
-use Rattle.plain_record.specs.Calls.{commit, pin}
-use Rattle.plain_record.specs.Plain.{Record, accepts as accepted}
+use Rattle.plain_record.specs.Plain.{Record}
 use Rattle.plain_record.specs.Run.{World, is_accepted}
 use Rattle.plain_record.proofs.Invariant.{plain_table, plain_sets, Inv, passes}
 use Rattle.plain_record.proofs.Refused.{refused-number}

@@ -2,19 +2,17 @@
 use mathlib.Core.Path.{◌≡◌, sym, ap, subst, ◌∙◌}
 use mathlib.Core.Bool.{true}
 use mathlib.Core.Option.{Option, none, some}
-use Prim.Native.Nat.{ℕ, ◌-◌}
+use Prim.Native.Nat.{ℕ}
 use native.Mathlib.Omega.{arith}
 use lib.Dec.{eqb}
 use borrow.Author.Tests.{eqb-true}
-use Rattle.lists.specs.Order.{same}
-use Rattle.lists.proofs.Tests.{by_cases, both}
-use Rattle.snapshot.specs.Entries.{shown}
-use Rattle.pins.specs.Book.{place_on, pinned}
+use Rattle.lists.proofs.Tests.{by_cases}
+use Rattle.pins.specs.Book.{place_on}
 use Rattle.pins.specs.Guards.{Guards, guards_of, may_show}
 use Rattle.pins.specs.Counts.{pins_at}
 use Rattle.version_manager.specs.Managers.{held_by}
 use Rattle.plain_record.specs.Sets.{Sets}
-use Rattle.plain_record.specs.Plain.{epoch_of, sets_at, guards_in, Record, counts}
+use Rattle.plain_record.specs.Plain.{epoch_of, sets_at, guards_in, Record}
 use Rattle.plain_record.specs.Run.{World, port}
 use Rattle.plain_record.specs.Shows.{ShowsTables}
 use Rattle.plain_record.proofs.Invariant.{Inv, guards-alike}

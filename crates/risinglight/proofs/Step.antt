@@ -2,15 +2,13 @@
 use mathlib.Core.Path.{◌≡◌, refl, sym, ap, subst, ◌∙◌}
 use mathlib.Core.Bool.{Bool, true, false, cond, not, ◌&&◌}
 use mathlib.Core.List.{List, [], ◌∷◌, map}
-use mathlib.Core.Option.{some}
 use Prim.Native.Nat.{ℕ, zero, suc, ◌+◌, ◌-◌, ◌≤◌}
 use native.Mathlib.Omega.{arith}
 use lib.Dec.{eqb, ltb}
 use lib.ListN.{length, take}
 use borrow.Author.Tests.{eqb-false, not-false}
-use Rattle.lists.specs.Order.{same}
 use Rattle.lists.specs.Keyed.{has, is_at, arranged}
-use Rattle.lists.proofs.Tests.{clash, both}
+use Rattle.lists.proofs.Tests.{clash}
 use Rattle.lists.proofs.Keyed.{All, any_of-map, ascend-to}
 use Rattle.ids.specs.declared.refusal.Verdict.{Verdict}
 use Rattle.ids.specs.declared.refusal.Verdict.TheVariants.{Accepted, Refused}
@@ -23,7 +21,7 @@ use Rattle.manifest.specs.Operations.{Operation}
 use Rattle.snapshot.specs.Entries.{Entry, by_ids, shown}
 use Rattle.version_state.specs.State.{State}
 use Rattle.version_state.proofs.Facts.{sound-of}
-use Rattle.pins.specs.Book.{PinEntry, pins_of, place_on, has_place, pinned}
+use Rattle.pins.specs.Book.{PinEntry, pins_of, place_on, has_place}
 use Rattle.pins.specs.Counts.{pins_at}
 use Rattle.pins.proofs.Counting.{counted, pinned-after}
 use Rattle.transaction_manager.specs.Locks.{relocked}
@@ -65,14 +63,13 @@ use Rattle.plain_record.proofs.Invariant.{plain_sets, Inv, passes}
 use Rattle.plain_record.proofs.Stands.{stands_of}
 use Rattle.plain_record.proofs.Stands as stands
 use Rattle.plain_record.proofs.Commit.{now-at, few-new}
-use Rattle.plain_record.proofs.CommitShows.{shows-now}
 use Rattle.plain_record.proofs.Pin.{with-pin}
 use Rattle.plain_record.proofs.Unpin.{without-pin}
 use Rattle.plain_record.proofs.Vacuum.{vacuum-pairs}
 use Rattle.plain_record.proofs.Reopen.{at_one, pairs-stand, vectors-stand}
 use Rattle.plain_record.proofs.Standing.{Standing, all_shown}
 use Rattle.risinglight.specs.Maps.{}
-use Rattle.risinglight.specs.Run.{Engine, started, landed, Commits, DoesBy, Draws}
+use Rattle.risinglight.specs.Run.{Engine, landed, Commits, DoesBy, Draws}
 use Rattle.risinglight.specs.VersionManager.{find_vacuum, Inner}
 use Rattle.risinglight.specs.Storage.{NextId, next_id, storage}
 use Rattle.risinglight.proofs.Starts.{Whole}

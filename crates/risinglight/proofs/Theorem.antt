@@ -1,18 +1,17 @@
 -- The second theorem: every accepted call of a run is one that the Rust does too. Assumes nothing.
 use mathlib.Core.Path.{◌≡◌, refl, sym, ap, subst, ◌∙◌}
-use mathlib.Core.Bool.{Bool, true, false, not, ◌&&◌}
+use mathlib.Core.Bool.{Bool, true, false, ◌&&◌}
 use mathlib.Core.List.{List, [], ◌∷◌}
-use Prim.Native.Nat.{ℕ, ◌+◌, ◌-◌}
+use Prim.Native.Nat.{ℕ, ◌+◌}
 use native.Mathlib.Omega.{arith}
 use borrow.Author.Tests.{not-true}
 use Rattle.lists.specs.Keyed.{any_of}
 use Rattle.lists.proofs.Tests.{clash, neither}
-use Rattle.ids.specs.Answers.{told}
 use Rattle.version_state.specs.State.{State, start}
 use Rattle.version_manager.specs.Managers.{held_by}
 use Rattle.plain_record.specs.Sets.{none as plain-none}
-use Rattle.plain_record.specs.Calls.{Call, kind_of}
-use Rattle.plain_record.specs.Plain.{Record, recorded, counts, at_start, accepts as accepted, turn}
+use Rattle.plain_record.specs.Calls.{kind_of}
+use Rattle.plain_record.specs.Plain.{Record, recorded, at_start, accepts as accepted, turn}
 use Rattle.plain_record.specs.Claim.{is_report}
 use Rattle.plain_record.specs.Run.{World, Event, is_accepted, value, port, Chain}
 use Rattle.plain_record.specs.Run as run

@@ -1,5 +1,5 @@
 -- Where the Rust and the port differ, each by name, with the smallest case of it. docs/DIFFERENCES.md has the entries. Assumes nothing.
-use Rattle.std.specs.Prelude.{◌≡◌, Bool, true, false, not, ◌||◌, List, [], ◌∷◌, ◌++◌, map, ℕ, zero, suc, ◌+◌, ◌<◌, eqb, ltb, length}
+use Rattle.std.specs.Prelude.{◌≡◌, Bool, true, false, not, ◌||◌, List, [], ◌∷◌, ◌++◌, map, ℕ, zero, suc, ◌<◌, eqb, ltb, length}
 use Rattle.lists.specs.Keyed.{keep, all_of, any_of, has, sorted}
 use Rattle.ids.specs.Limits.{most_tables, most_held, most_operations, longest_manifest}
 use Rattle.ids.specs.Results.{Result, refused, given, and_then}

@@ -26,7 +26,7 @@ grouping_order m = not (ascending by_key m)
 
 -- a vector of the Rust's as one of the port's
 abbrev pub vector_in : DeleteVector → Vector
-vector_in v = record { rowset = v.sized_rowset_id; file = records_of v.records; memory = v.deletes }
+vector_in v = record { rowset = v.rowset_id; file = records_of v.records; memory = v.deletes }
 
 abbrev pub by_rowset : Vector → List ℕ
 by_rowset v = v.rowset ∷ []
@@ -50,7 +50,7 @@ pub record OrderTells : Type 0 where
   pub walks : Walks handles otherwise
   pub apart : grouping_order otherwise ≡ true
   pub ids : map (λ (v : DeleteVector). v.dv_id) (dvs 0 otherwise) ≡ 0 ∷ 1 ∷ 2 ∷ []
-  pub rust : map (λ (v : DeleteVector). v.sized_rowset_id) (dvs 0 otherwise) ≡ 2 ∷ 1 ∷ 3 ∷ []
+  pub rust : map (λ (v : DeleteVector). v.rowset_id) (dvs 0 otherwise) ≡ 2 ∷ 1 ∷ 3 ∷ []
   pub port : rowsets_of handles ≡ 1 ∷ 2 ∷ 3 ∷ []
 
 pub record GroupingLaws : Type 0 where
