@@ -21,11 +21,9 @@ fn plus(i: usize, output: &mut Output) {
 fn memory(rows: &[u32], at: usize, count: u64, output: &mut Output) -> usize {
     let from = script::least(at, rows.len());
     let n = script::least(script::long(count), rows.len() - from);
-    let mut i: usize = 0;
-    while i < n {
+    for i in 0..n {
         plus(i, output);
         say::number(say::at32(rows, from + i), output);
-        i += 1;
     }
     from + n
 }
@@ -49,17 +47,12 @@ fn vectors(
 ) {
     let mut at: usize = 0;
     let mut k: usize = 0;
-    let mut i: usize = 0;
-    while i < count {
-        named(
-            std::num::wrapping_add_u64(first, i as u64),
-            say::at32(rowsets, i),
-            output,
-        );
+    for i in 0..count {
+        let id = first.wrapping_add(i as u64);
+        named(id, say::at32(rowsets, i), output);
         at = file(files, at, say::at32(lengths, i), output);
         say::put(b':', output);
         k = memory(rows, k, say::at32(counts, i), output);
-        i += 1;
     }
     say::put(b'\n', output);
 }

@@ -175,10 +175,8 @@ fn pair(tables: &[u32], rowsets: &[u32], i: usize, output: &mut Output) {
 }
 
 pub fn pairs(tables: &[u32], rowsets: &[u32], count: usize, output: &mut Output) {
-    let mut i = 0;
-    while i < count {
+    for i in 0..count {
         pair(tables, rowsets, i, output);
-        i += 1;
     }
     put(b'\n', output);
 }
@@ -190,11 +188,9 @@ pub fn vectors(
     count: usize,
     output: &mut Output,
 ) {
-    let mut i = 0;
-    while i < count {
+    for i in 0..count {
         pair(tables, rowsets, i, output);
         colon(at64(vectors, i), output);
-        i += 1;
     }
     put(b'\n', output);
 }
@@ -223,21 +219,17 @@ pub fn tables(
     count: usize,
     output: &mut Output,
 ) {
-    let mut i = 0;
-    while i < count {
+    for i in 0..count {
         pair(ids, shapes, i, output);
         put(b':', output);
         name(names, i, at32(lengths, i), output);
-        i += 1;
     }
     put(b'\n', output);
 }
 
 pub fn rows(rows: &[u32], count: usize, output: &mut Output) {
-    let mut i = 0;
-    while i < count {
+    for i in 0..count {
         comma(at32(rows, i), output);
-        i += 1;
     }
     put(b'\n', output);
 }
@@ -254,10 +246,8 @@ fn dash(s: &[u8], output: &mut Output) {
 
 pub fn digits(s: &[u8], output: &mut Output) {
     dash(s, output);
-    let mut i = 0;
-    while i < s.len() {
-        output::hex_byte(byte(s[i]), output);
-        i += 1;
+    for b in s {
+        output::hex_byte(byte(*b), output);
     }
 }
 
@@ -269,10 +259,8 @@ pub fn hex(s: &[u8], output: &mut Output) {
 // A bit that is not cleared was 1.
 pub fn bits(s: &[u8], output: &mut Output) {
     dash(s, output);
-    let mut i = 0;
-    while i < s.len() {
-        number(byte(s[i]), output);
-        i += 1;
+    for b in s {
+        number(byte(*b), output);
     }
     put(b'\n', output);
 }

@@ -7,6 +7,8 @@ use answers::{output, say, shows};
 use script::words;
 use script::words::{Booked, Managed, Plain, Told, Unwritten, Word};
 use status::{Input, Status};
+use std::io::Read;
+use std::process::ExitCode;
 use world::{ENOUGH, File, Host, Line, World};
 
 mod appends;
@@ -126,7 +128,7 @@ fn lines(
 }
 
 // One read behind the bytes that are there. It may wait, so that all answers are written before, for whoever waits for them.
-fn read(input: &mut Line, have: usize, output: &mut Output) -> Input {
+fn read(from: &mut impl Read, input: &mut Line, have: usize, output: &mut Output) -> Input {
     output::flush(output);
     if output::failed(output) {
         return Input {
@@ -134,7 +136,7 @@ fn read(input: &mut Line, have: usize, output: &mut Output) -> Input {
             failed: true,
         };
     }
-    status::read(input, have)
+    status::read(from, input, have)
 }
 
 // A line that fills the buffer is too long, and is answered once: what comes of it then is passed over as a remark.
@@ -205,6 +207,7 @@ fn turn(
 // Whether the input was read to its end. A proved loop has to end, and nothing says that the input does: the turns are more than any
 // input has bytes.
 fn run(
+    from: &mut impl Read,
     input: &mut Line,
     file: &mut File,
     old: &mut File,
@@ -213,39 +216,43 @@ fn run(
 ) -> bool {
     let mut world = World::fresh();
     let mut have: usize = 0;
-    let mut turns: u64 = 18446744073709551615;
-    while turns > 0 {
-        turns -= 1;
-        let got = read(input, have, output);
+    for _ in 0..u64::MAX {
+        let got = read(from, input, have, output);
         let done = turn(world, have, got, input, file, old, scratch, output);
         if done.ended {
             return !got.failed;
         }
-        let next = done.world;
-        world = next;
+        world = done.world;
         have = done.have;
     }
     false
 }
 
 // Where a write failed nothing was read any more.
-fn ending(whole: bool, output: &Output) -> Status {
+fn ending(rt: &impl Eprint, whole: bool, output: &Output) -> Status {
     if output::failed(output) {
-        return status::unwritable();
+        return status::unwritable(rt);
     }
     if !whole {
-        return status::unreadable();
+        return status::unreadable(rt);
     }
     Status::Done
 }
 
-fn main() {
+fn main(rt: HostRuntime) -> ExitCode {
     let mut input = script::line_buffer();
     let mut scratch = script::line_buffer();
     let mut file = script::file_buffer();
     let mut old = script::file_buffer();
-    let mut output = output::empty();
-    let whole = run(&mut input, &mut file, &mut old, &mut scratch, &mut output);
+    let mut output = output::empty(rt.stdout());
+    let whole = run(
+        &mut rt.stdin(),
+        &mut input,
+        &mut file,
+        &mut old,
+        &mut scratch,
+        &mut output,
+    );
     output::flush(&mut output);
-    status::tell(ending(whole, &output));
+    status::tell(ending(&rt, whole, &output))
 }

@@ -12,7 +12,7 @@ pub type Line = [u8; 1048577];
 pub type File = [u8; 1114112];
 
 // What is known of the file, whose bytes lie in a buffer that the program lends.
-#[derive(Drop)]
+#[derive(Clone, Copy)]
 pub struct Host {
     pub len: usize,
     // Where the last append begins and ends, both the file's end where there was none.
@@ -25,7 +25,7 @@ pub struct Host {
     pub room: usize,
 }
 
-#[derive(Drop)]
+#[derive(Clone, Copy)]
 pub struct World {
     pub manager: VersionManager,
     pub book: PinBook,

@@ -7,29 +7,28 @@ ghost use Rattle.text.specs.Class.{Classes};
 use ids::limits::LONGEST_NAME;
 use ids::name::Name;
 use ids::{RowsetNo, TableNo, VectorNo};
-use libc::{STDIN_FILENO, STDOUT_FILENO};
 use manifest::operation::{Change, EpochOp, ManifestOperation, ParsedLine};
 use manifest::reader::LineAt;
+use std::io;
+use std::process::ExitCode;
 
-fn show_change(change: Change) {
+fn show_change(rt: &impl Print, change: Change) -> io::Result<()> {
     let n = manifest::printer::text_length(change);
     let mut out = [0u8; 56];
     let k = manifest::printer::print(&mut out, 0, change);
     if k <= 56 {
-        io::write_all(STDOUT_FILENO, &out[..k]);
+        rt.write_all(&out[..k])?;
     }
-    io::write_all(STDOUT_FILENO, b" ");
-    io::print_decimal(STDOUT_FILENO, n as u64);
     let classes = text::classes();
     if change.well_formed(&classes) {
-        io::write_all(STDOUT_FILENO, b" well formed\n");
+        println!(rt; " {n} well formed")
     } else {
-        io::write_all(STDOUT_FILENO, b" not well formed\n");
+        println!(rt; " {n} not well formed")
     }
 }
 
 // Internal: it is lent the table of classes.
-fn show(classes: &[u8; 256], s: &[u8])
+fn show(rt: &impl Print, classes: &[u8; 256], s: &[u8]) -> io::Result<()>
     requires { Classes classes.now }
 {
     let p = manifest::parser::parse(classes, s);
@@ -37,33 +36,25 @@ fn show(classes: &[u8; 256], s: &[u8])
     let name = p.name;
     match line {
         ParsedLine::Line(m) => match m {
-            ManifestOperation::Begin => {
-                io::write_all(STDOUT_FILENO, b"begin\n");
-            }
-            ManifestOperation::End => {
-                io::write_all(STDOUT_FILENO, b"end\n");
-            }
-            ManifestOperation::Torn => {
-                io::write_all(STDOUT_FILENO, b"torn\n");
-            }
-            ManifestOperation::Epoch(op) => show_change(Change { op, name }),
+            ManifestOperation::Begin => println!(rt; "begin"),
+            ManifestOperation::End => println!(rt; "end"),
+            ManifestOperation::Torn => println!(rt; "torn"),
+            ManifestOperation::Epoch(op) => show_change(rt, Change { op, name }),
         },
-        ParsedLine::Bad => {
-            io::write_all(STDOUT_FILENO, b"bad\n");
-        }
+        ParsedLine::Bad => println!(rt; "bad"),
     }
 }
 
-fn show_all(s: &[u8]) {
+fn show_all(rt: &impl Print, s: &[u8]) -> io::Result<()> {
     let classes = text::classes();
     let mut at: usize = 0;
     loop {
         match manifest::reader::line_at(&classes, s, at) {
             LineAt::Line { start, end, next } => {
-                show(&classes, &s[start..end]);
+                show(rt, &classes, &s[start..end])?;
                 at = next;
             }
-            LineAt::None => return,
+            LineAt::None => return Ok(()),
         }
     }
 }
@@ -86,26 +77,48 @@ fn plain(op: EpochOp) -> Change {
     }
 }
 
-fn show_changes() {
-    show_change(create(4294967294, LONGEST_NAME));
-    show_change(create(4294967294, LONGEST_NAME + 1));
-    show_change(create(4294967294, 0));
-    show_change(create(4294967295, 1));
-    show_change(plain(EpochOp::DropTable(TableNo(4294967295))));
-    show_change(plain(EpochOp::AddRowSet(TableNo(0), RowsetNo(4294967295))));
-    show_change(plain(EpochOp::DeleteRowSet(TableNo(4294967295), RowsetNo(0))));
-    show_change(plain(EpochOp::AddDV(TableNo(1), RowsetNo(2), VectorNo(18446744073709551615))));
-    show_change(plain(EpochOp::DeleteDV(TableNo(1), RowsetNo(4294967295), VectorNo(3))));
-    show_change(plain(EpochOp::NextIds(
-        TableNo(4294967295),
-        RowsetNo(4294967295),
-        VectorNo(18446744073709551615),
-    )));
+fn show_changes(rt: &impl Print) -> io::Result<()> {
+    show_change(rt, create(4294967294, LONGEST_NAME))?;
+    show_change(rt, create(4294967294, LONGEST_NAME + 1))?;
+    show_change(rt, create(4294967294, 0))?;
+    show_change(rt, create(4294967295, 1))?;
+    show_change(rt, plain(EpochOp::DropTable(TableNo(4294967295))))?;
+    show_change(
+        rt,
+        plain(EpochOp::AddRowSet(TableNo(0), RowsetNo(4294967295))),
+    )?;
+    show_change(
+        rt,
+        plain(EpochOp::DeleteRowSet(TableNo(4294967295), RowsetNo(0))),
+    )?;
+    show_change(
+        rt,
+        plain(EpochOp::AddDV(TableNo(1), RowsetNo(2), VectorNo(18446744073709551615))),
+    )?;
+    show_change(
+        rt,
+        plain(EpochOp::DeleteDV(TableNo(1), RowsetNo(4294967295), VectorNo(3))),
+    )?;
+    show_change(
+        rt,
+        plain(EpochOp::NextIds(
+            TableNo(4294967295),
+            RowsetNo(4294967295),
+            VectorNo(18446744073709551615),
+        )),
+    )
 }
 
-fn main() {
-    let mut buffer = io::buffer();
-    let n = io::read_full(STDIN_FILENO, &mut buffer);
-    show_all(&buffer[..n]);
-    show_changes();
+fn run(rt: &impl Print, s: &[u8]) -> io::Result<()> {
+    show_all(rt, s)?;
+    show_changes(rt)
+}
+
+fn main(rt: HostRuntime) -> ExitCode {
+    let mut buffer = [0u8; 4096];
+    let input = status::read_all(&mut rt.stdin(), &mut buffer);
+    if input.failed {
+        return status::tell(status::unreadable(&rt));
+    }
+    status::tell(status::printed(&rt, run(&rt, &buffer[..input.length])))
 }

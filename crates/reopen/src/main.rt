@@ -3,57 +3,46 @@
 
 use ids::limits::LONGEST_REWRITTEN;
 use ids::refusal::Refusal;
-use libc::STDOUT_FILENO;
 use status::Status;
+use std::io;
+use std::io::Input;
+use std::process::ExitCode;
 use storage::ReopenAnswer;
 
-fn say(refusal: Refusal) -> bool {
-    if !io::write_all(STDOUT_FILENO, b"refused,") {
-        return false;
-    }
-    if !io::print_decimal(STDOUT_FILENO, refusal.number() as u64) {
-        return false;
-    }
-    if !io::write_all(STDOUT_FILENO, b",") {
-        return false;
-    }
-    if !io::print_decimal(STDOUT_FILENO, refusal.place() as u64) {
-        return false;
-    }
-    io::write_all(STDOUT_FILENO, b"\n")
+fn say(rt: &impl Print, refusal: Refusal) -> io::Result<()> {
+    let number = refusal.number();
+    let place = refusal.place();
+    println!(rt; "refused,{number},{place}")
 }
 
 // What was written decides: all of it, or not.
-fn written(whole: bool, status: Status) -> Status {
-    if whole {
-        return status;
+fn written(rt: &impl Eprint, all: io::Result<()>, status: Status) -> Status {
+    match all {
+        Ok(()) => status,
+        Err(_) => status::unwritable(rt),
     }
-    status::unwritable()
 }
 
-fn reopen(src: &[u8], out: &mut [u8]) -> Status {
+fn reopen(rt: &(impl Print + Eprint), src: &[u8], out: &mut [u8]) -> Status {
     let opened = storage::bootstrap(src, out);
-    let answer = opened.answer;
-    match answer {
-        ReopenAnswer::Rewritten(n) => {
-            written(io::write_all(STDOUT_FILENO, &out[..n]), Status::Done)
-        }
-        ReopenAnswer::Refused(refusal) => written(say(refusal), Status::Refused),
+    match opened.answer {
+        ReopenAnswer::Rewritten(n) => written(rt, rt.write_all(&out[..n]), Status::Done),
+        ReopenAnswer::Refused(refusal) => written(rt, say(rt, refusal), Status::Refused),
     }
 }
 
-fn run() -> Status {
+fn run(rt: &(impl Input + Print + Eprint)) -> Status {
     // One byte more than a manifest may have: of a longer one enough is read to be refused.
     let mut src = [0u8; 65537];
-    let input = status::read_all(&mut src);
+    let input = status::read_all(&mut rt.reader(), &mut src);
     if input.failed {
-        return status::unreadable();
+        return status::unreadable(rt);
     }
     let n = input.length;
     let mut out = [0u8; LONGEST_REWRITTEN];
-    reopen(&src[..n], &mut out)
+    reopen(rt, &src[..n], &mut out)
 }
 
-fn main() {
-    status::tell(run());
+fn main(rt: HostRuntime) -> ExitCode {
+    status::tell(run(&rt))
 }

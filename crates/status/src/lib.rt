@@ -1,12 +1,14 @@
-// How a program ended, for `./run`, and input and output that may fail. A program of this language has no exit status: one digit on
-// descriptor 3, where that is open, stands for it.
+// How a program ended, as its exit status, and input and output that may fail.
 #![tactic(auto)]
 
-ghost use Rattle.std.specs.Prelude.{◌≤◌, length};
+ghost use Rattle.std.specs.Prelude.{◌≡◌, ◌≤◌, OnErr, OnOk, length};
+ghost use Rattle.std.specs.Process.{exit_status};
+ghost use Rattle.status.specs.Code.{code};
+ghost use Rattle.status.specs.declared.Status.TheVariants.{Done, Failed};
 
-use libc::{STDERR_FILENO, STDIN_FILENO};
-
-const STATUS: i32 = 3;
+use std::io;
+use std::io::Read;
+use std::process::ExitCode;
 
 #[derive(Clone, Copy)]
 pub enum Status {
@@ -16,27 +18,46 @@ pub enum Status {
     Failed,
 }
 
-fn digit(status: Status) -> u8 {
+fn digit(status: Status) -> u8
+    ensures { result ≡ code status }
+{
     match status {
-        Status::Done => b'0',
-        Status::Refused => b'1',
-        Status::Failed => b'2',
+        Status::Done => 0,
+        Status::Refused => 1,
+        Status::Failed => 2,
     }
 }
 
-pub fn tell(status: Status) {
-    let text = [digit(status)];
-    io::write_all(STATUS, &text);
+// What `main` returns.
+pub fn tell(status: Status) -> ExitCode
+    ensures { exit_status result ≡ code status }
+{
+    ExitCode::from(digit(status))
 }
 
-pub fn unreadable() -> Status {
-    io::write_all(STDERR_FILENO, b"standard input could not be read\n");
+pub fn unreadable(rt: &impl Eprint) -> Status
+    ensures { result ≡ Failed }
+{
+    let _ = rt.eprintln("standard input could not be read");
     Status::Failed
 }
 
-pub fn unwritable() -> Status {
-    io::write_all(STDERR_FILENO, b"standard output could not be written\n");
+pub fn unwritable(rt: &impl Eprint) -> Status
+    ensures { result ≡ Failed }
+{
+    let _ = rt.eprintln("standard output could not be written");
     Status::Failed
+}
+
+// How a program that refuses nothing ended, by whether all of its answers were written.
+pub fn printed(rt: &impl Eprint, all: io::Result<()>) -> Status
+    ensures ok { OnOk all (result ≡ Done) }
+    ensures err { OnErr all (result ≡ Failed) }
+{
+    match all {
+        Ok(()) => Status::Done,
+        Err(_) => unwritable(rt),
+    }
 }
 
 // How many bytes were read, and whether a read failed.
@@ -47,7 +68,7 @@ pub struct Input {
 }
 
 // One read into a part of the buffer: how much of the buffer is filled then.
-pub fn read(buf: &mut [u8], filled: usize) -> Input
+pub fn read(from: &mut impl Read, buf: &mut [u8], filled: usize) -> Input
     ensures { result.length ≤ length buf.new }
 {
     if buf.len() < filled {
@@ -56,21 +77,25 @@ pub fn read(buf: &mut [u8], filled: usize) -> Input
             failed: true,
         };
     }
-    let got = libc::read(STDIN_FILENO, &mut buf[filled..]);
-    let n = io::count(got, &buf[filled..]);
-    Input {
-        length: filled + n,
-        failed: got < 0,
+    match from.read(&mut buf[filled..]) {
+        Ok(n) => Input {
+            length: filled + n,
+            failed: false,
+        },
+        Err(_) => Input {
+            length: filled,
+            failed: true,
+        },
     }
 }
 
 // The input up to its end, or as much of it as the buffer holds.
-pub fn read_all(buf: &mut [u8]) -> Input
+pub fn read_all(from: &mut impl Read, buf: &mut [u8]) -> Input
     ensures { result.length ≤ length buf.new }
 {
     let mut filled: usize = 0;
     while filled < buf.len() {
-        let input = read(buf, filled);
+        let input = read(from, buf, filled);
         if input.failed {
             return input;
         }

@@ -3,19 +3,19 @@ ghost use Rattle.std.specs.Prelude.{◌≤◌, length};
 
 use ids::limits::LONGEST_REWRITTEN;
 use ids::refusal::Refusal;
-use libc::STDOUT_FILENO;
+use std::io;
 use storage::ReopenAnswer;
 
-pub fn say(s: &[u8]) {
-    io::write_all(STDOUT_FILENO, s);
+pub fn say(rt: &impl Print, s: &[u8]) -> io::Result<()> {
+    rt.write_all(s)
 }
 
-fn number(n: usize) {
-    io::print_decimal(STDOUT_FILENO, n as u64);
+fn number(rt: &impl Print, n: usize) -> io::Result<()> {
+    print!(rt; "{n}")
 }
 
 // Number 0 and the length where accepted, else the refusal's number and place.
-#[derive(Drop)]
+#[derive(Clone, Copy)]
 struct Told {
     number: u32,
     value: usize,
@@ -30,8 +30,7 @@ fn refused(refusal: Refusal) -> Told {
 
 fn reopened(src: &[u8], out: &mut [u8]) -> Told {
     let opened = storage::bootstrap(src, out);
-    let answer = opened.answer;
-    match answer {
+    match opened.answer {
         ReopenAnswer::Rewritten(n) => Told {
             number: 0,
             value: n,
@@ -41,69 +40,57 @@ fn reopened(src: &[u8], out: &mut [u8]) -> Told {
 }
 
 // A blank for a newline.
-fn byte(b: u8) {
+fn byte(rt: &impl Print, b: u8) -> io::Result<()> {
     if b == b'\n' {
-        say(b" ");
+        say(rt, b" ")
     } else {
-        let one = [b; 1];
-        say(&one);
+        say(rt, &[b])
     }
 }
 
 // The first n bytes, their last newline left out; and `altered` if another byte is not as it was lent.
-fn output(out: &[u8], n: usize) {
-    let mut i: usize = 0;
-    while i < out.len() {
+fn output(rt: &impl Print, out: &[u8], n: usize) -> io::Result<()> {
+    for i in 0..out.len() {
         if i + 1 < n {
-            byte(out[i]);
+            byte(rt, out[i])?;
         }
         if n <= i {
             if out[i] != b'.' {
-                say(b" altered");
-                return;
+                return say(rt, b" altered");
             }
         }
-        i += 1;
     }
+    Ok(())
 }
 
-fn answer(t: Told, out: &[u8]) {
+fn answer(rt: &impl Print, t: Told, out: &[u8]) -> io::Result<()> {
     if t.number == 0 {
-        output(out, t.value);
+        output(rt, out, t.value)?;
     } else {
-        say(b"refused,");
-        number(t.number as usize);
-        say(b",");
-        number(t.value);
-        output(out, 0);
+        say(rt, b"refused,")?;
+        number(rt, t.number as usize)?;
+        say(rt, b",")?;
+        number(rt, t.value)?;
+        output(rt, out, 0)?;
     }
-    say(b"\n");
+    say(rt, b"\n")
 }
 
-fn plain_into(src: &[u8], out: &mut [u8]) {
+fn plain_into(rt: &impl Print, src: &[u8], out: &mut [u8]) -> io::Result<()> {
     let t = reopened(src, out);
-    answer(t, out);
+    answer(rt, t, out)
 }
 
-pub fn plain(src: &[u8], room: usize) {
+pub fn plain(rt: &impl Print, src: &[u8], room: usize) -> io::Result<()> {
     let mut out = [b'.'; LONGEST_REWRITTEN];
     if room <= LONGEST_REWRITTEN {
-        plain_into(src, &mut out[..room]);
+        plain_into(rt, src, &mut out[..room])?;
     }
+    Ok(())
 }
 
 fn same(a: &[u8], b: &[u8]) -> bool {
-    if a.len() != b.len() {
-        return false;
-    }
-    let mut i: usize = 0;
-    while i < a.len() {
-        if a[i] != b[i] {
-            return false;
-        }
-        i += 1;
-    }
-    true
+    a == b
 }
 
 // Whether a reopen of src answers and writes the same.
@@ -125,38 +112,34 @@ fn cuts(src: &[u8], before: usize, t: Told, first: &[u8]) -> usize
     requires { before ≤ length src.now }
     ensures { before ≤ result }
 {
-    let mut i = before;
-    while i < src.len() {
+    for i in before..src.len() {
         if !as_before(&src[..i], t, first) {
             return i;
         }
-        i += 1;
     }
-    i
+    src.len()
 }
 
-fn torn_into(src: &[u8], before: usize, first: &mut [u8])
+fn torn_into(rt: &impl Print, src: &[u8], before: usize, first: &mut [u8]) -> io::Result<()>
     requires { before ≤ length src.now }
 {
     let t = reopened(&src[..before], first);
     let end = cuts(src, before, t, first);
+    let cut = end - before;
     if end < src.len() {
-        say(b"cut ");
-        number(end - before);
-        say(b" differs\n");
-        return;
+        println!(rt; "cut {cut} differs")
+    } else {
+        print!(rt; "{cut} cuts as before\n  before: ")?;
+        answer(rt, t, first)
     }
-    number(end - before);
-    say(b" cuts as before\n  before: ");
-    answer(t, first);
 }
 
 // `before` is how many bytes stood before the append.
-pub fn torn(src: &[u8], before: usize) {
+pub fn torn(rt: &impl Print, src: &[u8], before: usize) -> io::Result<()> {
     let mut first = [b'.'; LONGEST_REWRITTEN];
     if before <= src.len() {
-        torn_into(src, before, &mut first);
+        torn_into(rt, src, before, &mut first)?;
     }
-    say(b"  after: ");
-    plain(src, LONGEST_REWRITTEN);
+    say(rt, b"  after: ")?;
+    plain(rt, src, LONGEST_REWRITTEN)
 }

@@ -8,14 +8,15 @@
 ghost use Rattle.std.specs.Prelude.{◌≤◌};
 
 use ids::limits::LONGEST_REWRITTEN;
-use libc::STDIN_FILENO;
 use manifest::reader::LineAt;
+use std::io;
+use std::process::ExitCode;
 use text::Number;
 
 mod answers;
 
 // The case that is being read.
-#[derive(Drop)]
+#[derive(Clone, Copy)]
 struct Case {
     // 0 before the first one, else its sign.
     sign: u8,
@@ -59,12 +60,10 @@ fn part(n: usize, most: usize) -> usize
 
 // The number after `@`, where there is one.
 fn room(s: &[u8]) -> usize {
-    let mut i: usize = 0;
-    while i < s.len() {
+    for i in 0..s.len() {
         if s[i] == b'@' {
             return number(s, i + 1);
         }
-        i += 1;
     }
     LONGEST_REWRITTEN
 }
@@ -88,23 +87,19 @@ fn put(src: &mut [u8], at: usize, byte: u8) -> usize {
 
 fn put_line(src: &mut [u8], at: usize, s: &[u8]) -> usize {
     let mut at = at;
-    let mut i: usize = 0;
-    while i < s.len() {
-        if s[i] == b'~' {
+    for b in s {
+        if *b == b'~' {
             return at;
         }
-        at = put(src, at, s[i]);
-        i += 1;
+        at = put(src, at, *b);
     }
     put(src, at, b'\n')
 }
 
 fn put_lines(src: &mut [u8], at: usize, s: &[u8], times: usize) -> usize {
     let mut at = at;
-    let mut i: usize = 0;
-    while i < times {
+    for _ in 0..times {
         at = put_line(src, at, s);
-        i += 1;
     }
     at
 }
@@ -123,66 +118,65 @@ fn repeated(src: &mut [u8], at: usize, s: &[u8]) -> usize {
     }
 }
 
-fn finish(case: Case, src: &[u8]) {
+fn finish(rt: &impl Print, case: Case, src: &[u8]) -> io::Result<()> {
     let n = part(case.count, src.len());
-    if case.sign == b'#' {
-        answers::plain(&src[..n], case.room);
-    }
-    if case.sign == b'%' {
-        answers::torn(&src[..n], case.before);
+    match case.sign {
+        b'#' => answers::plain(rt, &src[..n], case.room),
+        b'%' => answers::torn(rt, &src[..n], case.before),
+        _ => Ok(()),
     }
 }
 
-fn begin(sign: u8, s: &[u8]) -> Case {
-    answers::say(s);
-    answers::say(b": ");
-    Case {
+fn begin(rt: &impl Print, sign: u8, s: &[u8]) -> io::Result<Case> {
+    answers::say(rt, s)?;
+    answers::say(rt, b": ")?;
+    Ok(Case {
         sign,
         count: 0,
         before: 0,
         room: room(s),
-    }
+    })
 }
 
-fn line(case: Case, s: &[u8], src: &mut [u8]) -> Case {
+fn line(rt: &impl Print, case: Case, s: &[u8], src: &mut [u8]) -> io::Result<Case> {
     if s.len() == 0 {
-        return case.with_count(put(src, case.count, b'\n'));
+        return Ok(case.with_count(put(src, case.count, b'\n')));
     }
     let sign = s[0];
     match sign {
-        b'*' => case.with_count(repeated(src, case.count, s)),
+        b'*' => Ok(case.with_count(repeated(src, case.count, s))),
         b'#' | b'%' => {
             if s.len() == 1 {
-                return case.at_append();
+                return Ok(case.at_append());
             }
-            finish(case, src);
-            begin(sign, &s[1..])
+            finish(rt, case, src)?;
+            begin(rt, sign, &s[1..])
         }
-        _ => case.with_count(put_line(src, case.count, s)),
+        _ => Ok(case.with_count(put_line(src, case.count, s))),
     }
 }
 
-fn run(s: &[u8], src: &mut [u8]) {
+fn run(rt: &impl Print, s: &[u8], src: &mut [u8]) -> io::Result<()> {
     let classes = text::classes();
     let mut case = Case::none();
     let mut at: usize = 0;
     loop {
         match manifest::reader::line_at(&classes, s, at) {
             LineAt::Line { start, end, next } => {
-                case = line(case, &s[start..end], src);
+                case = line(rt, case, &s[start..end], src)?;
                 at = next;
             }
-            LineAt::None => {
-                finish(case, src);
-                return;
-            }
+            LineAt::None => return finish(rt, case, src),
         }
     }
 }
 
-fn main() {
+fn main(rt: HostRuntime) -> ExitCode {
     let mut buffer = [0u8; 131072];
-    let n = io::read_full(STDIN_FILENO, &mut buffer);
+    let input = status::read_all(&mut rt.stdin(), &mut buffer);
+    if input.failed {
+        return status::tell(status::unreadable(&rt));
+    }
     let mut src = [0u8; 65540];
-    run(&buffer[..n], &mut src);
+    status::tell(status::printed(&rt, run(&rt, &buffer[..input.length], &mut src)))
 }

@@ -5,11 +5,12 @@
 ghost use Rattle.std.specs.Prelude.{◌≤◌};
 ghost use Rattle.text.specs.Class.{Classes};
 
-use libc::{STDIN_FILENO, STDOUT_FILENO};
+use std::io;
+use std::process::ExitCode;
 use text::Number;
 
 // Internal, as is the next: it is lent the table of classes.
-fn show_number(classes: &[u8; 256], s: &[u8], limit: u64)
+fn show_number(rt: &impl Print, classes: &[u8; 256], s: &[u8], limit: u64) -> io::Result<()>
     requires { Classes classes.now }
 {
     match text::read_number(classes, s, 0, limit) {
@@ -18,54 +19,57 @@ fn show_number(classes: &[u8; 256], s: &[u8], limit: u64)
                 let mut out = [0u8; 20];
                 let k = text::put_number(&mut out, 0, n);
                 if k <= 20 {
-                    io::write_all(STDOUT_FILENO, &out[..k]);
+                    rt.write_all(&out[..k])?;
                 }
-                io::write_all(STDOUT_FILENO, b":");
-                io::print_decimal(STDOUT_FILENO, text::number_length(n) as u64);
+                let length = text::number_length(n);
+                print!(rt; ":{length}")
             } else {
-                io::write_all(STDOUT_FILENO, b"-");
+                print!(rt; "-")
             }
         }
-        Number::Nothing => {
-            io::write_all(STDOUT_FILENO, b"-");
-        }
+        Number::Nothing => print!(rt; "-"),
     }
 }
 
-fn show(classes: &[u8; 256], s: &[u8])
+fn show(rt: &impl Print, classes: &[u8; 256], s: &[u8]) -> io::Result<()>
     requires { Classes classes.now }
 {
     if 0 < s.len() {
-        io::print_decimal(STDOUT_FILENO, text::class_of(classes, s[0]) as u64);
+        let class = text::class_of(classes, s[0]);
+        print!(rt; "{class}")?;
     } else {
-        io::write_all(STDOUT_FILENO, b"-");
+        print!(rt; "-")?;
     }
-    io::write_all(STDOUT_FILENO, b" ");
-    show_number(classes, s, 18446744073709551615);
-    io::write_all(STDOUT_FILENO, b" ");
-    show_number(classes, s, 4294967294);
+    print!(rt; " ")?;
+    show_number(rt, classes, s, 18446744073709551615)?;
+    print!(rt; " ")?;
+    show_number(rt, classes, s, 4294967294)?;
     if text::is_name(classes, s) {
-        io::write_all(STDOUT_FILENO, b" name\n");
+        println!(rt; " name")
     } else {
-        io::write_all(STDOUT_FILENO, b" -\n");
+        println!(rt; " -")
     }
 }
 
-fn show_all(s: &[u8]) {
+fn show_all(rt: &impl Print, s: &[u8]) -> io::Result<()> {
     let classes = text::classes();
     let mut from: usize = 0;
     let mut i: usize = 0;
     while i < s.len() {
         if text::is_newline(&classes, s[i]) {
-            show(&classes, &s[from..i]);
+            show(rt, &classes, &s[from..i])?;
             from = i + 1;
         }
         i += 1;
     }
+    Ok(())
 }
 
-fn main() {
-    let mut buffer = io::buffer();
-    let n = io::read_full(STDIN_FILENO, &mut buffer);
-    show_all(&buffer[..n]);
+fn main(rt: HostRuntime) -> ExitCode {
+    let mut buffer = [0u8; 4096];
+    let input = status::read_all(&mut rt.stdin(), &mut buffer);
+    if input.failed {
+        return status::tell(status::unreadable(&rt));
+    }
+    status::tell(status::printed(&rt, show_all(&rt, &buffer[..input.length])))
 }

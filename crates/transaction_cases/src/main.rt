@@ -7,40 +7,40 @@ ghost use Rattle.std.specs.Prelude.{◌≤◌};
 use ids::limits::{LARGEST_32, LARGEST_64};
 use ids::refusal::Refusal;
 use ids::{RowNo, RowsetNo, SecondaryRowHandler, VectorNo};
-use libc::STDOUT_FILENO;
+use std::io;
+use std::process::ExitCode;
 use transaction::{Handles, MOST_HANDLES};
 use version_manager::{GroupAnswer, VersionManager};
 
 // The most bytes that files of all handles have.
 const MOST_BYTES: usize = 28672;
 
-fn say(s: &[u8]) {
-    io::write_all(STDOUT_FILENO, s);
+fn say(rt: &impl Print, s: &str) -> io::Result<()> {
+    print!(rt; "{s}")
 }
 
-fn number(word: &[u8], n: u64) {
-    say(word);
-    io::print_decimal(STDOUT_FILENO, n);
+fn number(rt: &impl Print, word: &str, n: u64) -> io::Result<()> {
+    print!(rt; "{word}{n}")
 }
 
-fn refused(why: Refusal) {
-    number(b" refused ", why.number() as u64);
-    number(b" place ", why.place() as u64);
+fn refused(rt: &impl Print, why: Refusal) -> io::Result<()> {
+    number(rt, " refused ", why.number() as u64)?;
+    number(rt, " place ", why.place() as u64)
 }
 
-fn answer(answer: GroupAnswer) {
+fn answer(rt: &impl Print, answer: GroupAnswer) -> io::Result<()> {
     match answer {
         GroupAnswer::Vectors(n, first) => {
-            number(b" vectors ", n as u64);
-            number(b" first ", first.0);
+            number(rt, " vectors ", n as u64)?;
+            number(rt, " first ", first.0)
         }
-        GroupAnswer::Refused(why) => refused(why),
+        GroupAnswer::Refused(why) => refused(rt, why),
     }
 }
 
-fn next_of(manager: VersionManager) {
-    number(b"; next ", manager.inner.next.vector.0);
-    say(b"\n");
+fn next_of(rt: &impl Print, manager: &VersionManager) -> io::Result<()> {
+    number(rt, "; next ", manager.inner.next.vector.0)?;
+    say(rt, "\n")
 }
 
 fn wide(x: u32) -> u64 {
@@ -56,33 +56,28 @@ fn mixed(sum: u64, x: u64) -> u64 {
     (sum % 1000003 * 31 + x % 1000003 + 1) % 1000003
 }
 
-fn numbers(word: &[u8], s: &[u32]) {
-    say(word);
+fn numbers(rt: &impl Print, word: &str, s: &[u32]) -> io::Result<()> {
+    say(rt, word)?;
     let mut sum: u64 = 0;
-    let mut i = 0;
-    while i < s.len() {
+    for x in s {
         if s.len() <= 8 {
-            number(b" ", wide(s[i]));
+            number(rt, " ", wide(*x))?;
         }
-        sum = mixed(sum, wide(s[i]));
-        i += 1;
+        sum = mixed(sum, wide(*x));
     }
-    number(b" =", sum);
+    number(rt, " =", sum)
 }
 
-fn bytes(word: &[u8], s: &[u8]) {
-    say(word);
+fn bytes(rt: &impl Print, word: &str, s: &[u8]) -> io::Result<()> {
+    say(rt, word)?;
     let mut sum: u64 = 0;
-    let mut i = 0;
-    while i < s.len() {
+    for x in s {
         if s.len() <= 24 {
-            say(b" ");
-            io::print_hex(STDOUT_FILENO, byte(s[i]), 2);
+            print!(rt; " {x:02x}")?;
         }
-        sum = mixed(sum, byte(s[i]));
-        i += 1;
+        sum = mixed(sum, byte(*x));
     }
-    number(b" =", sum);
+    number(rt, " =", sum)
 }
 
 // How many places are lent of each slice.
@@ -105,6 +100,7 @@ fn at_most(n: usize, most: usize) -> usize
 }
 
 fn called(
+    rt: &impl Print,
     manager: VersionManager,
     handles: Handles,
     rs: &mut [u32],
@@ -112,22 +108,26 @@ fn called(
     cs: &mut [u32],
     fs: &mut [u8],
     ms: &mut [u32],
-) {
+) -> io::Result<()> {
     let done = manager.group(handles, rs, ls, cs, fs, ms);
-    let told = done.answer;
-    answer(told);
-    let after = done.manager;
-    next_of(after);
-    numbers(b"  rowsets", rs);
-    numbers(b" lengths", ls);
-    numbers(b" counts", cs);
-    bytes(b" files", fs);
-    numbers(b" rows", ms);
-    say(b"\n");
+    answer(rt, done.answer)?;
+    next_of(rt, &done.manager)?;
+    numbers(rt, "  rowsets", rs)?;
+    numbers(rt, " lengths", ls)?;
+    numbers(rt, " counts", cs)?;
+    bytes(rt, " files", fs)?;
+    numbers(rt, " rows", ms)?;
+    say(rt, "\n")
 }
 
-fn group(word: &[u8], manager: VersionManager, handles: Handles, room: Room) {
-    say(word);
+fn group(
+    rt: &impl Print,
+    word: &str,
+    manager: VersionManager,
+    handles: Handles,
+    room: Room,
+) -> io::Result<()> {
+    say(rt, word)?;
     let mut rs = [77u32; MOST_HANDLES];
     let mut ls = [78u32; MOST_HANDLES];
     let mut cs = [79u32; MOST_HANDLES];
@@ -139,6 +139,7 @@ fn group(word: &[u8], manager: VersionManager, handles: Handles, room: Room) {
     let d = at_most(room.bytes, MOST_BYTES);
     let e = at_most(room.rows, MOST_HANDLES);
     called(
+        rt,
         manager,
         handles,
         &mut rs[..a],
@@ -146,19 +147,14 @@ fn group(word: &[u8], manager: VersionManager, handles: Handles, room: Room) {
         &mut cs[..c],
         &mut fs[..d],
         &mut ms[..e],
-    );
+    )
 }
 
 // A fresh manager whose next vector id is given.
 fn drawn(next: u64) -> VersionManager {
     let opened = VersionManager::fresh();
     let mut manager = opened.manager;
-    let mut inner = manager.inner;
-    let mut ids = inner.next;
-    let id = VectorNo(next);
-    ids.vector = id;
-    inner.next = ids;
-    manager.inner = inner;
+    manager.inner.next.vector = VectorNo(next);
     manager
 }
 
@@ -166,9 +162,7 @@ fn drawn(next: u64) -> VersionManager {
 fn beyond() -> VersionManager {
     let opened = VersionManager::fresh();
     let mut manager = opened.manager;
-    let mut inner = manager.inner;
-    inner.manifest = 65537;
-    manager.inner = inner;
+    manager.inner.manifest = 65537;
     manager
 }
 
@@ -180,11 +174,8 @@ fn handle(rowset: u32, row: u32) -> SecondaryRowHandler {
 fn listed(pairs: &[u32], count: usize) -> Handles {
     let mut items = [handle(0, 0); MOST_HANDLES];
     let n = at_most(pairs.len() / 2, MOST_HANDLES);
-    let mut i: usize = 0;
-    while i < n {
-        let h = handle(pairs[2 * i], pairs[2 * i + 1]);
-        items[i] = h;
-        i += 1;
+    for i in 0..n {
+        items[i] = handle(pairs[2 * i], pairs[2 * i + 1]);
     }
     Handles { items, count }
 }
@@ -198,11 +189,8 @@ fn spread(rowsets: u32, rows: u32, count: usize) -> Handles {
     if rows == 0 {
         return Handles { items, count };
     }
-    let mut i: u32 = 0;
-    while i < 4096 {
-        let h = handle(i * 7919 % rowsets, i * 31 % rows);
-        items[i as usize] = h;
-        i += 1;
+    for i in 0..4096u32 {
+        items[i as usize] = handle(i * 7919 % rowsets, i * 31 % rows);
     }
     Handles { items, count }
 }
@@ -227,27 +215,43 @@ fn mixed_handles() -> Handles {
     listed(&pairs, 6)
 }
 
-fn small() {
-    let none = [0u32; 2];
-    let empty = listed(&none[..0], 0);
-    group(b"none:", drawn(3), empty, lent(1, 1, 1));
-    group(b"none, no room:", drawn(3), empty, lent(0, 0, 0));
-    group(
-        b"none, ids used up:",
-        drawn(LARGEST_64),
-        empty,
-        lent(1, 1, 1),
-    );
-    let one = [9u32, 4294967295];
-    let single = listed(&one, 1);
-    group(b"one:", drawn(0), single, lent(2, 8, 2));
-    group(b"mixed:", drawn(40), mixed_handles(), lent(3, 20, 5));
-    group(b"mixed, exact:", drawn(40), mixed_handles(), lent(2, 17, 4));
-    let pairs = [5u32, 3, 2, 128, 5, 0, 5, 3, 2, 1, 5, 3];
-    group(b"first four:", drawn(40), listed(&pairs, 4), lent(3, 20, 5));
+fn none() -> Handles {
+    let pairs = [0u32; 2];
+    listed(&pairs[..0], 0)
 }
 
-fn short() {
+fn small(rt: &impl Print) -> io::Result<()> {
+    group(rt, "none:", drawn(3), none(), lent(1, 1, 1))?;
+    group(rt, "none, no room:", drawn(3), none(), lent(0, 0, 0))?;
+    group(
+        rt,
+        "none, ids used up:",
+        drawn(LARGEST_64),
+        none(),
+        lent(1, 1, 1),
+    )?;
+    let one = [9u32, 4294967295];
+    let single = listed(&one, 1);
+    group(rt, "one:", drawn(0), single, lent(2, 8, 2))?;
+    group(rt, "mixed:", drawn(40), mixed_handles(), lent(3, 20, 5))?;
+    group(
+        rt,
+        "mixed, exact:",
+        drawn(40),
+        mixed_handles(),
+        lent(2, 17, 4),
+    )?;
+    let pairs = [5u32, 3, 2, 128, 5, 0, 5, 3, 2, 1, 5, 3];
+    group(
+        rt,
+        "first four:",
+        drawn(40),
+        listed(&pairs, 4),
+        lent(3, 20, 5),
+    )
+}
+
+fn short(rt: &impl Print) -> io::Result<()> {
     let a = Room {
         vectors: 1,
         lengths: 2,
@@ -255,7 +259,7 @@ fn short() {
         bytes: 17,
         rows: 4,
     };
-    group(b"rowsets short:", drawn(40), mixed_handles(), a);
+    group(rt, "rowsets short:", drawn(40), mixed_handles(), a)?;
     let b = Room {
         vectors: 2,
         lengths: 1,
@@ -263,7 +267,7 @@ fn short() {
         bytes: 17,
         rows: 4,
     };
-    group(b"lengths short:", drawn(40), mixed_handles(), b);
+    group(rt, "lengths short:", drawn(40), mixed_handles(), b)?;
     let c = Room {
         vectors: 2,
         lengths: 2,
@@ -271,103 +275,142 @@ fn short() {
         bytes: 17,
         rows: 4,
     };
-    group(b"counts short:", drawn(40), mixed_handles(), c);
-    group(b"files short:", drawn(40), mixed_handles(), lent(2, 16, 4));
-    group(b"rows short:", drawn(40), mixed_handles(), lent(2, 17, 3));
+    group(rt, "counts short:", drawn(40), mixed_handles(), c)?;
+    group(
+        rt,
+        "files short:",
+        drawn(40),
+        mixed_handles(),
+        lent(2, 16, 4),
+    )?;
+    group(
+        rt,
+        "rows short:",
+        drawn(40),
+        mixed_handles(),
+        lent(2, 17, 3),
+    )
 }
 
 // 26: two ids of which the second would be the largest value; one id, and none.
-fn used_up() {
+fn used_up(rt: &impl Print) -> io::Result<()> {
     let one = [9u32, 1];
     group(
-        b"last two:",
+        rt,
+        "last two:",
         drawn(LARGEST_64 - 2),
         mixed_handles(),
         lent(2, 17, 4),
-    );
+    )?;
     group(
-        b"one of two left:",
+        rt,
+        "one of two left:",
         drawn(LARGEST_64 - 1),
         mixed_handles(),
         lent(2, 17, 4),
-    );
+    )?;
     group(
-        b"last one:",
+        rt,
+        "last one:",
         drawn(LARGEST_64 - 1),
         listed(&one, 1),
         lent(1, 3, 1),
-    );
+    )?;
     group(
-        b"none left:",
+        rt,
+        "none left:",
         drawn(LARGEST_64),
         listed(&one, 1),
         lent(1, 3, 1),
-    );
+    )
 }
 
 // 2: the largest value is no rowset; it may stand past the count, and may be a row.
-fn malformed() {
+fn malformed(rt: &impl Print) -> io::Result<()> {
     let last = [LARGEST_32 - 1, LARGEST_32, 3, 1];
-    group(b"last rowset:", drawn(0), listed(&last, 2), lent(2, 12, 2));
-    let bad = [3u32, 1, LARGEST_32, 1];
-    group(b"no rowset:", drawn(0), listed(&bad, 2), lent(2, 12, 2));
     group(
-        b"past the count:",
+        rt,
+        "last rowset:",
+        drawn(0),
+        listed(&last, 2),
+        lent(2, 12, 2),
+    )?;
+    let bad = [3u32, 1, LARGEST_32, 1];
+    group(rt, "no rowset:", drawn(0), listed(&bad, 2), lent(2, 12, 2))?;
+    group(
+        rt,
+        "past the count:",
         drawn(0),
         listed(&bad, 1),
         lent(2, 12, 2),
-    );
+    )
 }
 
 fn with_bad(handles: Handles) -> Handles {
     let mut h = handles;
-    let bad = handle(LARGEST_32, 0);
-    h.items[4095] = bad;
+    h.items[4095] = handle(LARGEST_32, 0);
     h
 }
 
+fn many() -> Handles {
+    spread(5, 50, 4097)
+}
+
 // Which refusal comes first.
-fn order() {
-    let many = spread(5, 50, 4097);
-    group(b"too many:", drawn(0), many, lent(5, 8, 8));
-    group(b"2 before 8:", drawn(0), with_bad(many), lent(0, 0, 0));
-    group(b"8 before 26:", drawn(LARGEST_64), many, lent(0, 0, 0));
+fn order(rt: &impl Print) -> io::Result<()> {
+    group(rt, "too many:", drawn(0), many(), lent(5, 8, 8))?;
+    group(rt, "2 before 8:", drawn(0), with_bad(many()), lent(0, 0, 0))?;
+    group(rt, "8 before 26:", drawn(LARGEST_64), many(), lent(0, 0, 0))?;
     group(
-        b"26 before 9:",
+        rt,
+        "26 before 9:",
         drawn(LARGEST_64),
         mixed_handles(),
         lent(0, 0, 0),
-    );
-    group(b"29 before 2:", beyond(), with_bad(many), lent(0, 0, 0));
+    )?;
+    group(
+        rt,
+        "29 before 2:",
+        beyond(),
+        with_bad(many()),
+        lent(0, 0, 0),
+    )
 }
 
-fn large() {
-    group(b"257 rowsets:", drawn(7), spread(257, 60, 4096), whole());
+fn large(rt: &impl Print) -> io::Result<()> {
+    group(rt, "257 rowsets:", drawn(7), spread(257, 60, 4096), whole())?;
     group(
-        b"one rowset, rows 100 times:",
+        rt,
+        "one rowset, rows 100 times:",
         drawn(7),
         spread(1, 41, 4096),
         whole(),
-    );
+    )?;
     group(
-        b"4,096 rowsets:",
+        rt,
+        "4,096 rowsets:",
         drawn(7),
         spread(4096, 4294967295, 4096),
         whole(),
-    );
+    )?;
     group(
-        b"4,095 handles:",
+        rt,
+        "4,095 handles:",
         drawn(7),
         spread(4096, 4294967295, 4095),
         whole(),
-    );
+    )
 }
 
-fn main() {
-    small();
-    short();
-    used_up();
-    malformed();
-    order();
-    large();
+fn run(rt: &impl Print) -> io::Result<()> {
+    small(rt)?;
+    short(rt)?;
+    used_up(rt)?;
+    malformed(rt)?;
+    order(rt)?;
+    large(rt)
+}
+
+fn main(rt: HostRuntime) -> ExitCode {
+    status::tell(status::printed(&rt, run(&rt)))
 }

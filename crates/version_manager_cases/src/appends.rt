@@ -2,6 +2,7 @@
 use crate::{made, say};
 use compaction::NewRowset;
 use ids::{RowsetNo, TableNo};
+use std::io;
 use version_manager::{
     CheckpointAnswer, Checkpointed, CommitAnswer, Committed, CreateAnswer, Created,
 };
@@ -9,42 +10,48 @@ use version_manager::{
 // The most that is lent.
 const ROOM: usize = 192;
 
-fn committed(done: Committed) {
+fn committed(rt: &impl Print, done: Committed) -> io::Result<()> {
     let answer = done.answer;
     match answer {
         CommitAnswer::Appended(epoch, n) => {
-            say::number32(b" epoch ", epoch);
-            say::number(b" bytes ", n as u64);
+            say::number32(rt, " epoch ", epoch)?;
+            say::number(rt, " bytes ", n as u64)?;
         }
-        CommitAnswer::Refused(why) => say::refusal(why),
+        CommitAnswer::Refused(why) => say::refusal(rt, why)?,
     }
-    say::state(done.manager);
+    say::state(rt, &done.manager)
 }
 
-fn created(done: Created) {
+fn created(rt: &impl Print, done: Created) -> io::Result<()> {
     let answer = done.answer;
     match answer {
         CreateAnswer::Table(table, epoch, n) => {
-            say::number32(b" table ", table.0);
-            say::number32(b" epoch ", epoch);
-            say::number(b" bytes ", n as u64);
+            say::number32(rt, " table ", table.0)?;
+            say::number32(rt, " epoch ", epoch)?;
+            say::number(rt, " bytes ", n as u64)?;
         }
-        CreateAnswer::Refused(why) => say::refusal(why),
+        CreateAnswer::Refused(why) => say::refusal(rt, why)?,
     }
-    say::state(done.manager);
+    say::state(rt, &done.manager)
 }
 
-fn checkpointed(done: Checkpointed) {
+fn checkpointed(rt: &impl Print, done: Checkpointed) -> io::Result<()> {
     let answer = done.answer;
     match answer {
-        CheckpointAnswer::Rewritten(n) => say::number(b" bytes ", n as u64),
-        CheckpointAnswer::Refused(why) => say::refusal(why),
+        CheckpointAnswer::Rewritten(n) => say::number(rt, " bytes ", n as u64)?,
+        CheckpointAnswer::Refused(why) => say::refusal(rt, why)?,
     }
-    say::state(done.manager);
+    say::state(rt, &done.manager)
 }
 
 // `y` compacts a table by a rowset, and any other letter puts a new one in for it.
-fn compacted(numbers: &[u64], letter: u8, f: [u64; 6], out: &mut [u8]) {
+fn compacted(
+    rt: &impl Print,
+    numbers: &[u64],
+    letter: u8,
+    f: [u64; 6],
+    out: &mut [u8],
+) -> io::Result<()> {
     let manager = made::manager(numbers);
     let table = TableNo(script::narrow(f[1]));
     let taken = [script::narrow(f[2]); 1];
@@ -53,31 +60,43 @@ fn compacted(numbers: &[u64], letter: u8, f: [u64; 6], out: &mut [u8]) {
     } else {
         NewRowset::One(RowsetNo(script::narrow(f[3])))
     };
-    committed(manager.compact(table, new, &taken, out));
+    committed(rt, manager.compact(table, new, &taken, out))
 }
 
 // `c` commits so many operations of the batch, `i` a line, `k` creates a table, `x` drops one, `h` is a checkpoint. A name is a byte and how
 // often it stands.
-fn answered(numbers: &[u64], letter: u8, f: [u64; 6], out: &mut [u8]) {
+fn answered(
+    rt: &impl Print,
+    numbers: &[u64],
+    letter: u8,
+    f: [u64; 6],
+    out: &mut [u8],
+) -> io::Result<()> {
     let manager = made::manager(numbers);
     let name = made::name(made::byte(f[1]), f[2]);
     match letter {
-        b'c' => committed(manager.commit(made::batch(f[3], name), out)),
-        b'i' => committed(manager.commit_lines(b"A,0,4\n", out)),
-        b'k' => created(manager.create(7, name, out)),
-        b'x' => committed(manager.drop(TableNo(script::narrow(f[1])), out)),
-        b'h' => checkpointed(manager.checkpoint(out)),
-        _ => compacted(numbers, letter, f, out),
+        b'c' => committed(rt, manager.commit(made::batch(f[3], name), out)),
+        b'i' => committed(rt, manager.commit_lines(b"A,0,4\n", out)),
+        b'k' => created(rt, manager.create(7, name, out)),
+        b'x' => committed(rt, manager.drop(TableNo(script::narrow(f[1])), out)),
+        b'h' => checkpointed(rt, manager.checkpoint(out)),
+        _ => compacted(rt, numbers, letter, f, out),
     }
 }
 
-fn into(numbers: &[u64], letter: u8, f: [u64; 6], out: &mut [u8]) {
-    answered(numbers, letter, f, out);
-    say::bytes(out);
+fn into(
+    rt: &impl Print,
+    numbers: &[u64],
+    letter: u8,
+    f: [u64; 6],
+    out: &mut [u8],
+) -> io::Result<()> {
+    answered(rt, numbers, letter, f, out)?;
+    say::bytes(rt, out)
 }
 
-pub fn call(numbers: &[u64], letter: u8, f: [u64; 6]) {
+pub fn call(rt: &impl Print, numbers: &[u64], letter: u8, f: [u64; 6]) -> io::Result<()> {
     let mut out = [b'.'; ROOM];
     let room = script::least(script::long(f[0]), ROOM);
-    into(numbers, letter, f, &mut out[..room]);
+    into(rt, numbers, letter, f, &mut out[..room])
 }

@@ -123,10 +123,8 @@ fn rowsets(numbers: &[u64]) -> Rowsets {
         deleted: [0; MOST_HELD],
         count: at(numbers, 6) as usize,
     };
-    let mut i: usize = 0;
-    while i < MOST_HELD {
+    for i in 0..MOST_HELD {
         s = with_rowset(s, numbers, i);
-        i += 1;
     }
     s
 }
@@ -202,10 +200,8 @@ fn pin(numbers: &[u64], i: usize) -> Pin {
 
 pub fn book(numbers: &[u64]) -> PinBook {
     let mut items = [pin(numbers, 0); 64];
-    let mut i: usize = 0;
-    while i < 64 {
+    for i in 0..64 {
         items[i] = pin(numbers, i);
-        i += 1;
     }
     PinBook {
         items,

@@ -4,8 +4,9 @@
 // starts from, and a title, which begins with `#`, is printed.
 #![tactic(auto)]
 
-use libc::STDIN_FILENO;
 use made::ALL;
+use std::io;
+use std::process::ExitCode;
 
 mod appends;
 mod calls;
@@ -28,39 +29,39 @@ fn set(numbers: [u64; ALL], s: &[u8], letter: u8, digit: u8) -> [u64; ALL] {
     n
 }
 
-fn call(numbers: &[u64], s: &[u8], letter: u8) {
+fn call(rt: &impl Print, numbers: &[u64], s: &[u8], letter: u8) -> io::Result<()> {
     let mut f = [0u64; 6];
     let end = script::first_end(s);
     script::sizes(&s[end..], &mut f);
-    say::say(s);
-    calls::call(numbers, letter, f);
+    say::say(rt, s)?;
+    calls::call(rt, numbers, letter, f)
 }
 
-fn line(numbers: Numbers, s: &[u8]) -> Numbers {
+fn line(rt: &impl Print, numbers: Numbers, s: &[u8]) -> io::Result<Numbers> {
     let now = numbers.now;
     let first = numbers.first;
     if s.len() < 2 {
-        return Numbers { now, first: now };
+        return Ok(Numbers { now, first: now });
     }
     let letter = s[0];
     match letter {
         b'#' => {
-            say::say(s);
-            say::say(b"\n");
-            Numbers { now: first, first }
+            say::say(rt, s)?;
+            say::say(rt, b"\n")?;
+            Ok(Numbers { now: first, first })
         }
         b'!' => {
-            call(&now, s, s[1]);
-            numbers
+            call(rt, &now, s, s[1])?;
+            Ok(numbers)
         }
-        _ => Numbers {
+        _ => Ok(Numbers {
             now: set(now, s, letter, s[1]),
             first,
-        },
+        }),
     }
 }
 
-fn run(s: &[u8]) {
+fn run(rt: &impl Print, s: &[u8]) -> io::Result<()> {
     let mut numbers = Numbers {
         now: [0; ALL],
         first: [0; ALL],
@@ -68,13 +69,17 @@ fn run(s: &[u8]) {
     let mut at: usize = 0;
     while at < s.len() {
         let end = script::line_end(s, at, s.len());
-        numbers = line(numbers, &s[at..end]);
+        numbers = line(rt, numbers, &s[at..end])?;
         at = end + 1;
     }
+    Ok(())
 }
 
-fn main() {
-    let mut buffer = io::large_buffer();
-    let n = io::read_full(STDIN_FILENO, &mut buffer);
-    run(&buffer[..n]);
+fn main(rt: HostRuntime) -> ExitCode {
+    let mut buffer = [0u8; 65536];
+    let input = status::read_all(&mut rt.stdin(), &mut buffer);
+    if input.failed {
+        return status::tell(status::unreadable(&rt));
+    }
+    status::tell(status::printed(&rt, run(&rt, &buffer[..input.length])))
 }

@@ -3,37 +3,50 @@ use crate::{made, say};
 use compactor::SelectAnswer;
 use ids::TableNo;
 use show::ShowAnswer;
+use std::io;
 use version_manager::VacuumAnswer;
 
-fn vacuum(numbers: &[u64], tables: &mut [u32], rowsets: &mut [u32]) {
+fn vacuum(
+    rt: &impl Print,
+    numbers: &[u64],
+    tables: &mut [u32],
+    rowsets: &mut [u32],
+) -> io::Result<()> {
     let manager = made::manager(numbers);
     let done = manager.vacuum(made::book(numbers), tables, rowsets);
     let answer = done.answer;
     match answer {
-        VacuumAnswer::Listed(n) => say::number(b" listed ", n as u64),
-        VacuumAnswer::Refused(why) => say::refusal(why),
+        VacuumAnswer::Listed(n) => say::number(rt, " listed ", n as u64)?,
+        VacuumAnswer::Refused(why) => say::refusal(rt, why)?,
     }
-    say::state(done.manager);
+    say::state(rt, &done.manager)
 }
 
-fn select(numbers: &[u64], table: u32, sizes: &[u64], out: &mut [u32]) {
+fn select(
+    rt: &impl Print,
+    numbers: &[u64],
+    table: u32,
+    sizes: &[u64],
+    out: &mut [u32],
+) -> io::Result<()> {
     let manager = made::manager(numbers);
     let answer = manager.select(TableNo(table), 2, sizes, out);
     match answer {
-        SelectAnswer::Chosen(n) => say::number(b" chosen ", n as u64),
-        SelectAnswer::Refused(why) => say::refusal(why),
+        SelectAnswer::Chosen(n) => say::number(rt, " chosen ", n as u64),
+        SelectAnswer::Refused(why) => say::refusal(rt, why),
     }
 }
 
-fn shown(answer: ShowAnswer) {
+fn shown(rt: &impl Print, answer: ShowAnswer) -> io::Result<()> {
     match answer {
-        ShowAnswer::Shown(n) => say::number(b" shown ", n as u64),
-        ShowAnswer::Refused(why) => say::refusal(why),
+        ShowAnswer::Shown(n) => say::number(rt, " shown ", n as u64),
+        ShowAnswer::Refused(why) => say::refusal(rt, why),
     }
 }
 
 // `u` vacuum, `p`, `v` and `t` the pairs, vectors and tables of an epoch, `s` a selection of a table, with target 2 and sizes of 1.
 fn answered(
+    rt: &impl Print,
     numbers: &[u64],
     letter: u8,
     first: u32,
@@ -42,19 +55,20 @@ fn answered(
     c: &mut [u32],
     vectors: &mut [u64],
     names: &mut [u8],
-) {
+) -> io::Result<()> {
     let manager = made::manager(numbers);
     let book = made::book(numbers);
     match letter {
-        b'u' => vacuum(numbers, a, b),
-        b'p' => shown(manager.show_pairs(book, first, a, b)),
-        b'v' => shown(manager.show_vectors(book, first, a, b, vectors)),
-        b't' => shown(manager.show_tables(book, first, a, b, c, names)),
-        _ => select(numbers, first, vectors, a),
+        b'u' => vacuum(rt, numbers, a, b),
+        b'p' => shown(rt, manager.show_pairs(book, first, a, b)),
+        b'v' => shown(rt, manager.show_vectors(book, first, a, b, vectors)),
+        b't' => shown(rt, manager.show_tables(book, first, a, b, c, names)),
+        _ => select(rt, numbers, first, vectors, a),
     }
 }
 
 fn into(
+    rt: &impl Print,
     numbers: &[u64],
     letter: u8,
     first: u32,
@@ -63,17 +77,17 @@ fn into(
     c: &mut [u32],
     vectors: &mut [u64],
     names: &mut [u8],
-) {
-    answered(numbers, letter, first, a, b, c, vectors, names);
-    say::numbers32(a);
-    say::numbers32(b);
-    say::numbers32(c);
-    say::numbers64(vectors);
-    say::bytes(names);
+) -> io::Result<()> {
+    answered(rt, numbers, letter, first, a, b, c, vectors, names)?;
+    say::numbers32(rt, a)?;
+    say::numbers32(rt, b)?;
+    say::numbers32(rt, c)?;
+    say::numbers64(rt, vectors)?;
+    say::bytes(rt, names)
 }
 
 // Epoch or table, and the lengths of what is lent: three of 32 bits, then 64 bits, then bytes.
-pub fn call(numbers: &[u64], letter: u8, f: [u64; 6]) {
+pub fn call(rt: &impl Print, numbers: &[u64], letter: u8, f: [u64; 6]) -> io::Result<()> {
     let mut a = [66u32; 8];
     let mut b = [77u32; 8];
     let mut c = [88u32; 8];
@@ -85,6 +99,7 @@ pub fn call(numbers: &[u64], letter: u8, f: [u64; 6]) {
     let l = script::least(script::long(f[4]), 8);
     let n = script::least(script::long(f[5]), 80);
     into(
+        rt,
         numbers,
         letter,
         script::narrow(f[0]),
@@ -93,5 +108,5 @@ pub fn call(numbers: &[u64], letter: u8, f: [u64; 6]) {
         &mut c[..k],
         &mut vectors[..l],
         &mut names[..n],
-    );
+    )
 }
