@@ -3,7 +3,7 @@ ghost use Rattle.std.specs.Prelude.{◌≡◌, true};
 ghost use Rattle.ids.specs.Refusals.{number_of, place_of};
 ghost use Rattle.ids.specs.Verdicts.{is_accepted};
 
-// The refusals of documents 01 and 02 by their numbers, each with its place where it has one.
+// The refusals of the specification by their numbers, each with its place where it has one.
 #[derive(Clone, Copy)]
 pub enum Refusal {
     // 1: manifest too long.

@@ -1,4 +1,4 @@
--- The log book: the cases that the specification marks with *, by the part of it that they are about. Assumes nothing.
+-- The log book: the worked cases of the specification, by the part of it that they are about. Assumes nothing.
 use Rattle.log_book.specs.Rows.{RowCases}
 use Rattle.log_book.specs.Vacuums.{VacuumCases}
 use Rattle.log_book.specs.Manifests.{ManifestCases}

@@ -1,4 +1,4 @@
-// The cases that the specification marks with *, as one proved table of facts of the definitions.
+// The worked cases of the specification, as one proved table of facts of the definitions.
 #![tactic(auto)]
 
 ghost use Rattle.log_book.specs.LogBook.{LogBook};

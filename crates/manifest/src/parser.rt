@@ -249,6 +249,7 @@ fn next_ids_line(classes: &[u8; 256], s: &[u8]) -> Parsed
 }
 
 // Internal. The line that s is, without its newline.
+#[tactic(auto, unfolding(crate::specs::Lines::line_of, crate::specs::Lines::line_by))]
 pub fn parse(classes: &[u8; 256], s: &[u8]) -> Parsed
     requires { Classes classes.now }
     ensures { line_said result ≡ line_of s.now }

@@ -1,5 +1,5 @@
-// The line reader: it holds the lent manifest and a place in it. Each function over it is thin, since a struct that holds a
-// slice is walked by hand; the work is done by `manifest::reader::line_at`. Callers go by `next_line`.
+// The line reader: it holds the lent manifest and a place in it. Each function over it is thin; the work is done by
+// `manifest::reader::line_at`. Callers go by `next_line`.
 #![tactic(auto)]
 
 ghost use Rattle.std.specs.Prelude.{◌≡◌};
@@ -36,7 +36,7 @@ pub fn line<'t, 'a>(classes: &'t [u8; 256], lines: ManifestLines<'a>) -> LineAt
     manifest::reader::line_at(classes, lines.src, lines.at)
 }
 
-// The line that starts at a place of a manifest. Its parameters are plain: whoever calls it needs no walk.
+// The line that starts at a place of a manifest.
 pub fn next_line(classes: &[u8; 256], src: &[u8], at: usize) -> LineAt
     requires { Classes classes.now }
     ensures { result ≡ line_at src.now at }

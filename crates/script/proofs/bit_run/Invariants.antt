@@ -1,11 +1,9 @@
--- `script::bit_run` meets its contract.
-use Prim.Native.Nat.{◌≤◌, ◌-◌}
-use mathlib.Core.Path.{◌≡◌}
-use lib.ListN.{length}
+-- Of `script::bit_run`. Assumes nothing.
+use Rattle.std.proofs.Common.{◌≤◌, length, ◌-◌}
 use Rattle.script.proofs.bit_run.Given as goal
 
 abbrev pub invariant-loop-i : goal.invariant-loop-i
-invariant-loop-i l = (l.i ≤ length l.s) × (length l.out ≡ length l.initial.out)
+invariant-loop-i l = l.i ≤ length l.s
 
 abbrev pub decreases-loop-i : goal.decreases-loop-i
 decreases-loop-i l = length l.s - l.i

@@ -1,11 +1,9 @@
--- `script::copy` meets its contract.
-use Prim.Native.Nat.{◌≤◌, ◌-◌}
-use mathlib.Core.Path.{◌≡◌}
-use lib.ListN.{length}
+-- Of `script::copy`. Assumes nothing.
+use Rattle.std.proofs.Common.{◌≤◌, ◌-◌}
 use Rattle.script.proofs.copy.Given as goal
 
 abbrev pub invariant-loop-i : goal.invariant-loop-i
-invariant-loop-i l = (l.i ≤ l.n) × (length l.out ≡ length l.initial.out)
+invariant-loop-i l = l.i ≤ l.n
 
 abbrev pub decreases-loop-i : goal.decreases-loop-i
 decreases-loop-i l = l.n - l.i

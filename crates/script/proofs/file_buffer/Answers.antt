@@ -1,7 +1,6 @@
--- `script::file_buffer` meets its contract: by the law, since the list is too long to compute. Assumes nothing.
-use Prim.Native.Nat.{ℕ}
-use mathlib.Core.Path.{sym}
-use lib.ListN.{length, replicate, length-replicate}
+-- Of `script::file_buffer`: by the law, since the list is too long to compute. Assumes nothing.
+use Rattle.std.proofs.Common.{ℕ, sym, length}
+use Rattle.std.proofs.Math.ListN.{replicate, length-replicate}
 use Rattle.script.proofs.file_buffer.Goals as goal
 
 pub returns : goal.returns

@@ -1,6 +1,5 @@
--- `script::last_line` meets its contract.
-use Prim.Native.Nat.{◌≤◌}
-use lib.ListN.{length}
+-- Of `script::last_line`. Assumes nothing.
+use Rattle.std.proofs.Common.{◌≤◌, length}
 use Rattle.script.proofs.last_line.Given as goal
 
 abbrev pub invariant-loop-i : goal.invariant-loop-i

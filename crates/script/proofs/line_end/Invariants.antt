@@ -1,5 +1,5 @@
--- `script::line_end` meets its contract.
-use Prim.Native.Nat.{◌≤◌, ◌-◌}
+-- Of `script::line_end`. Assumes nothing.
+use Rattle.std.proofs.Common.{◌≤◌, ◌-◌}
 use Rattle.script.proofs.line_end.Given as goal
 
 abbrev pub invariant-loop-i : goal.invariant-loop-i

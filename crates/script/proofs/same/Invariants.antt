@@ -1,6 +1,5 @@
--- `script::same` meets its contract.
-use Prim.Native.Nat.{◌≤◌, ◌-◌}
-use lib.ListN.{length}
+-- Of `script::same`. Assumes nothing.
+use Rattle.std.proofs.Common.{◌≤◌, length, ◌-◌}
 use Rattle.script.proofs.same.Given as goal
 
 abbrev pub invariant-loop-i : goal.invariant-loop-i

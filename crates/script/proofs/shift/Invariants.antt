@@ -1,11 +1,9 @@
--- `script::shift` meets its contract.
-use Prim.Native.Nat.{◌≤◌, ◌-◌, ◌+◌}
-use mathlib.Core.Path.{◌≡◌}
-use lib.ListN.{length}
+-- Of `script::shift`. Assumes nothing.
+use Rattle.std.proofs.Common.{◌+◌, ◌≤◌, length, ◌-◌}
 use Rattle.script.proofs.shift.Given as goal
 
 abbrev pub invariant-loop-i : goal.invariant-loop-i
-invariant-loop-i l = (l.i ≤ l.n) × (l.from + l.n ≤ length l.s) × (length l.s ≡ length l.initial.s)
+invariant-loop-i l = (l.i ≤ l.n) × (l.from + l.n ≤ length l.s)
 
 abbrev pub decreases-loop-i : goal.decreases-loop-i
 decreases-loop-i l = l.n - l.i

@@ -1,6 +1,5 @@
--- `script::word_end` meets its contract.
-use Prim.Native.Nat.{◌≤◌, ◌-◌}
-use lib.ListN.{length}
+-- Of `script::word_end`. Assumes nothing.
+use Rattle.std.proofs.Common.{◌≤◌, length, ◌-◌}
 use Rattle.script.proofs.word_end.Given as goal
 
 abbrev pub invariant-loop-i : goal.invariant-loop-i

@@ -1,6 +1,5 @@
--- `script::batches::batch` meets its contract.
-use Prim.Native.Nat.{◌≤◌, ◌-◌}
-use lib.ListN.{length}
+-- Of `script::batches::batch`. Assumes nothing.
+use Rattle.std.proofs.Common.{◌≤◌, length, ◌-◌}
 use Rattle.script.proofs.batches.batch.Given as goal
 
 abbrev pub invariant-loop-at : goal.invariant-loop-at

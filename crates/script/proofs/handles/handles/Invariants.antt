@@ -1,6 +1,5 @@
--- `script::handles::handles` meets its contract.
-use Prim.Native.Nat.{◌≤◌, ◌-◌}
-use lib.ListN.{length}
+-- Of `script::handles::handles`. Assumes nothing.
+use Rattle.std.proofs.Common.{◌≤◌, length, ◌-◌}
 use Rattle.script.proofs.handles.handles.Given as goal
 
 abbrev pub invariant-loop-at : goal.invariant-loop-at
