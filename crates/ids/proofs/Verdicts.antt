@@ -6,32 +6,30 @@ use Prim.Native.Nat.{ℕ}
 use native.Mathlib.Omega.{arith}
 use Rattle.lists.proofs.Keyed.{All}
 use Rattle.ids.specs.declared.refusal.Refusal.{Refusal}
-use Rattle.ids.specs.declared.refusal.Verdict.TheVariants.{Accepted, Refused}
-use Rattle.ids.specs.Verdicts.{Rule, ◌⇒◌, judged, or_else}
+use Rattle.std.specs.Prelude.{Result, Ok, Err}
+use Rattle.std.specs.Result.{result_and}
+use Rattle.ids.specs.Verdicts.{Rule, ◌⇒◌, Verdict, judged}
 
 -- the rule's condition does not hold
 abbrev pub Passed : Rule → Type 0
 Passed (b ⇒ r) = b ≡ false
 
-pub judged-append : (l m : List Rule) → judged (l ++ m) ≡ or_else (judged l) (judged m)
+pub judged-append : (l m : List Rule) → judged (l ++ m) ≡ result_and (judged l) (judged m)
 judged-append [] m = refl
 judged-append ((true ⇒ r) ∷ l) m = refl
 judged-append ((false ⇒ r) ∷ l) m = judged-append l m
 
 -- accepted exactly where no condition holds
-pub judged-none : (l : List Rule) → All Passed l → judged l ≡ Accepted
+pub judged-none : (l : List Rule) → All Passed l → judged l ≡ Ok tt
 judged-none [] h = refl
 judged-none ((b ⇒ r) ∷ l) h = rw h.0 (judged-none l h.1)
 
-never : {r : Refusal} → Refused r ≡ Accepted → ⊥
-never e = let z : ◌≡◌ {A = ℕ} 0 1 = cc in omega arith
-
-pub none-judged : (l : List Rule) → judged l ≡ Accepted → All Passed l
+pub none-judged : (l : List Rule) → judged l ≡ Ok tt → All Passed l
 none-judged [] h = tt
-none-judged ((true ⇒ r) ∷ l) h = absurd (never h)
+none-judged ((true ⇒ r) ∷ l) h = absurd (cc)
 none-judged ((false ⇒ r) ∷ l) h = (refl, none-judged l h)
 
 -- refused by the first rule whose condition holds: none before it does
-pub refused-at : (before : List Rule) (b : Bool) (r : Refusal) (after : List Rule) → All Passed before → b ≡ true → judged (before ++ ((b ⇒ r) ∷ after)) ≡ Refused r
+pub refused-at : (before : List Rule) (b : Bool) (r : Refusal) (after : List Rule) → All Passed before → b ≡ true → judged (before ++ ((b ⇒ r) ∷ after)) ≡ Err r
 refused-at [] b r after p h = rw h
 refused-at ((c ⇒ q) ∷ before) b r after p h = rw p.0 (refused-at before b r after p.1 h)

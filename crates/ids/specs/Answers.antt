@@ -1,8 +1,7 @@
 -- What an answer tells: the specification's number (0 where the call is accepted), place and values. Assumes nothing.
-use Rattle.std.specs.Prelude.{ℕ, List, []}
-use Rattle.ids.specs.declared.refusal.Verdict.{Verdict}
-use Rattle.ids.specs.declared.refusal.Verdict.TheVariants.{Accepted, Refused}
+use Rattle.std.specs.Prelude.{ℕ, List, [], Ok, Err}
 use Rattle.ids.specs.Refusals.{number_of, place_of}
+use Rattle.ids.specs.Verdicts.{Verdict}
 
 pub record Told : Type 0 where
   pub number : ℕ
@@ -11,10 +10,10 @@ pub record Told : Type 0 where
 
 -- what a verdict tells: its refusal, or the values of an accepted call
 abbrev pub told : Verdict → List ℕ → Told
-told Accepted vs = record { number = 0; place = 0; values = vs }
-told (Refused r) vs = record { number = number_of r; place = place_of r; values = [] }
+told (Ok _) vs = record { number = 0; place = 0; values = vs }
+told (Err r) vs = record { number = number_of r; place = place_of r; values = [] }
 
 -- what a lent buffer holds afterwards: a refusal leaves it as it was
 abbrev pub after : {A : Type 0} → Verdict → A → A → A
-after Accepted new old = new
-after (Refused r) new old = old
+after (Ok _) new old = new
+after (Err r) new old = old

@@ -1,10 +1,9 @@
-// Refusals, and the verdict of a call.
-ghost use Rattle.std.specs.Prelude.{◌≡◌, true};
+// Why a call is refused.
+ghost use Rattle.std.specs.Prelude.{◌≡◌};
 ghost use Rattle.ids.specs.Refusals.{number_of, place_of};
-ghost use Rattle.ids.specs.Verdicts.{is_accepted};
 
 // The refusals of the specification by their numbers, each with its place where it has one.
-#[derive(Clone, Copy)]
+#[derive(Clone, Copy, Debug, PartialEq, Eq)]
 pub enum Refusal {
     // 1: manifest too long.
     ManifestTooLong,
@@ -112,54 +111,20 @@ impl Refusal {
         ensures { result ≡ place_of self }
     {
         match self {
-            Refusal::ManifestTooLong => 0,
-            Refusal::Malformed(p) => p,
-            Refusal::TableConflict(p) => p,
-            Refusal::OverLimit(p) => p,
-            Refusal::RowsetWithoutTable => 0,
-            Refusal::TooManyOperations(p) => p,
-            Refusal::BadRecord(p) => p,
-            Refusal::WrongCount => 0,
-            Refusal::OutputTooShort => 0,
-            Refusal::PinAtEpochZero => 0,
-            Refusal::TableNotLive(p) => p,
-            Refusal::PairNotShown(p) => p,
-            Refusal::VectorNotShown(p) => p,
-            Refusal::IdNotDrawn(p) => p,
-            Refusal::NameTaken(p) => p,
-            Refusal::StillHeld(p) => p,
-            Refusal::LeftBehind => 0,
-            Refusal::PinsFull => 0,
-            Refusal::PinnedEpochsFull => 0,
-            Refusal::EpochsFull => 0,
-            Refusal::TablesFull(p) => p,
-            Refusal::HeldFull(p) => p,
-            Refusal::ManifestFull => 0,
-            Refusal::EpochNotPinned => 0,
-            Refusal::LockHeld => 0,
-            Refusal::IdsUsedUp => 0,
-            Refusal::LockNotHeld => 0,
-            Refusal::BadPinBook => 0,
-            Refusal::BadManager => 0,
-            Refusal::NotReportable => 0,
-        }
-    }
-}
-
-// What judging a call's arguments finds.
-#[derive(Clone, Copy)]
-pub enum Verdict {
-    Accepted,
-    Refused(Refusal),
-}
-
-impl Verdict {
-    pub fn accepted(self) -> bool
-        ensures { result ≡ is_accepted self }
-    {
-        match self {
-            Verdict::Accepted => true,
-            Verdict::Refused(_) => false,
+            Refusal::Malformed(p)
+            | Refusal::TableConflict(p)
+            | Refusal::OverLimit(p)
+            | Refusal::TooManyOperations(p)
+            | Refusal::BadRecord(p)
+            | Refusal::TableNotLive(p)
+            | Refusal::PairNotShown(p)
+            | Refusal::VectorNotShown(p)
+            | Refusal::IdNotDrawn(p)
+            | Refusal::NameTaken(p)
+            | Refusal::StillHeld(p)
+            | Refusal::TablesFull(p)
+            | Refusal::HeldFull(p) => p,
+            _ => 0,
         }
     }
 }
