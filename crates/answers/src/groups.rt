@@ -1,7 +1,8 @@
 // What is printed of a grouping.
 use crate::output::Output;
 use crate::say;
-use version_manager::GroupAnswer;
+use ids::refusal::Refusal;
+use version_manager::NewVectors;
 
 // A vector's file, which begins at a place of all the files; where the next one begins.
 fn file(files: &[u8], at: usize, length: u64, output: &mut Output) -> usize {
@@ -58,7 +59,7 @@ fn vectors(
 }
 
 pub fn grouped(
-    answer: GroupAnswer,
+    answer: Result<NewVectors, Refusal>,
     rowsets: &[u32],
     lengths: &[u32],
     counts: &[u32],
@@ -67,10 +68,10 @@ pub fn grouped(
     output: &mut Output,
 ) {
     match answer {
-        GroupAnswer::Vectors(n, first) => {
-            say::first(b"grouped", n as u64, output);
-            vectors(n, first.0, rowsets, lengths, counts, files, rows, output);
+        Ok(NewVectors { count, first }) => {
+            say::first(b"grouped", count as u64, output);
+            vectors(count, first.0, rowsets, lengths, counts, files, rows, output);
         }
-        GroupAnswer::Refused(why) => say::refusal(why, output),
+        Err(why) => say::refusal(why, output),
     }
 }

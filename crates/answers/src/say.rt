@@ -2,9 +2,10 @@
 use crate::output;
 use crate::output::Output;
 pub use crate::output::{number, put, say};
-use ids::refusal::{Refusal, Verdict};
-use pinning::{PinAnswer, UnpinAnswer};
-use version_manager::{CommitAnswer, CreateAnswer, ReportAnswer, RowsetAnswer, VectorAnswer};
+use ids::refusal::Refusal;
+use ids::{RowsetNo, VectorNo};
+use pinning::Unpinned;
+use version_manager::{Appended, NewTable, TakenBack};
 
 pub fn comma(n: u64, output: &mut Output) {
     put(b',', output);
@@ -57,24 +58,24 @@ pub fn alone(s: &[u8], output: &mut Output) -> bool {
     false
 }
 
-pub fn rowset(answer: RowsetAnswer, output: &mut Output) {
+pub fn rowset(answer: Result<RowsetNo, Refusal>, output: &mut Output) {
     match answer {
-        RowsetAnswer::Id(id) => one(b"drawn", id.0 as u64, output),
-        RowsetAnswer::Refused(why) => refusal(why, output),
+        Ok(id) => one(b"drawn", id.0 as u64, output),
+        Err(why) => refusal(why, output),
     }
 }
 
-pub fn vector(answer: VectorAnswer, output: &mut Output) {
+pub fn vector(answer: Result<VectorNo, Refusal>, output: &mut Output) {
     match answer {
-        VectorAnswer::Id(id) => one(b"drawn", id.0, output),
-        VectorAnswer::Refused(why) => refusal(why, output),
+        Ok(id) => one(b"drawn", id.0, output),
+        Err(why) => refusal(why, output),
     }
 }
 
-pub fn pinned(answer: PinAnswer, output: &mut Output) {
+pub fn pinned(answer: Result<u32, Refusal>, output: &mut Output) {
     match answer {
-        PinAnswer::Pinned(epoch) => one(b"pinned", epoch as u64, output),
-        PinAnswer::Refused(why) => refusal(why, output),
+        Ok(epoch) => one(b"pinned", epoch as u64, output),
+        Err(why) => refusal(why, output),
     }
 }
 
@@ -85,13 +86,13 @@ fn flag(due: bool) -> u64 {
     0
 }
 
-pub fn unpinned(answer: UnpinAnswer, output: &mut Output) {
+pub fn unpinned(answer: Result<Unpinned, Refusal>, output: &mut Output) {
     match answer {
-        UnpinAnswer::Unpinned(due, ready) => {
+        Ok(Unpinned { due, ready }) => {
             first(b"unpinned", flag(due), output);
             last(ready as u64, output);
         }
-        UnpinAnswer::Refused(why) => refusal(why, output),
+        Err(why) => refusal(why, output),
     }
 }
 
@@ -109,45 +110,49 @@ fn no_append(why: Refusal, output: &mut Output) -> usize {
 }
 
 // How many bytes are appended, as in the next.
-pub fn committed(word: &[u8], answer: CommitAnswer, output: &mut Output) -> usize {
+pub fn committed(word: &[u8], answer: Result<Appended, Refusal>, output: &mut Output) -> usize {
     match answer {
-        CommitAnswer::Appended(epoch, n) => {
+        Ok(Appended { epoch, length }) => {
             say(word, output);
-            append(epoch, n, output)
+            append(epoch, length, output)
         }
-        CommitAnswer::Refused(why) => no_append(why, output),
+        Err(why) => no_append(why, output),
     }
 }
 
-pub fn created(answer: CreateAnswer, output: &mut Output) -> usize {
+pub fn created(answer: Result<NewTable, Refusal>, output: &mut Output) -> usize {
     match answer {
-        CreateAnswer::Table(table, epoch, n) => {
+        Ok(NewTable {
+            table,
+            epoch,
+            length,
+        }) => {
             first(b"created", table.0 as u64, output);
-            append(epoch, n, output)
+            append(epoch, length, output)
         }
-        CreateAnswer::Refused(why) => no_append(why, output),
+        Err(why) => no_append(why, output),
     }
 }
 
 // Whether the report is accepted.
-pub fn reported(answer: ReportAnswer, output: &mut Output) -> bool {
+pub fn reported(answer: Result<TakenBack, Refusal>, output: &mut Output) -> bool {
     match answer {
-        ReportAnswer::TakenBack(epoch, n) => {
+        Ok(TakenBack { epoch, manifest }) => {
             first(b"reported", epoch as u64, output);
-            last(n as u64, output);
+            last(manifest as u64, output);
             true
         }
-        ReportAnswer::Refused(why) => {
+        Err(why) => {
             refusal(why, output);
             false
         }
     }
 }
 
-pub fn accepted(word: &[u8], answer: Verdict, output: &mut Output) {
+pub fn accepted(word: &[u8], answer: Result<(), Refusal>, output: &mut Output) {
     match answer {
-        Verdict::Accepted => say(word, output),
-        Verdict::Refused(why) => refusal(why, output),
+        Ok(()) => say(word, output),
+        Err(why) => refusal(why, output),
     }
 }
 

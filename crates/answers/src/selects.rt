@@ -1,22 +1,22 @@
 // Selection: which of a table's rowsets a compaction is to take.
 use crate::output::Output;
 use crate::say;
-use compactor::SelectAnswer;
 use ids::TableNo;
 use ids::limits::MOST_HELD;
+use ids::refusal::Refusal;
 use script::{Count, Found};
 use version_manager::VersionManager;
 
 // One more size than a table may have rowsets, so that too many are seen.
 const MOST_SIZES: usize = MOST_HELD + 1;
 
-fn selected(answer: SelectAnswer, out: &[u32], output: &mut Output) {
+fn selected(answer: Result<usize, Refusal>, out: &[u32], output: &mut Output) {
     match answer {
-        SelectAnswer::Chosen(n) => {
+        Ok(n) => {
             say::first(b"selected", n as u64, output);
             say::rows(out, n, output);
         }
-        SelectAnswer::Refused(why) => say::refusal(why, output),
+        Err(why) => say::refusal(why, output),
     }
 }
 

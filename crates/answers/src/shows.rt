@@ -2,20 +2,25 @@
 use crate::output::Output;
 use crate::{say, selects};
 use ids::limits::{LONGEST_NAME, MOST_HELD, MOST_TABLES, NAME_BYTES};
+use ids::refusal::Refusal;
 use pins::PinBook;
 use script::Found;
 use script::words::Told;
-use show::ShowAnswer;
 use version_manager::VersionManager;
 use version_state::NextIds;
 
-fn pairs_said(answer: ShowAnswer, tables: &[u32], rowsets: &[u32], output: &mut Output) {
+fn pairs_said(
+    answer: Result<usize, Refusal>,
+    tables: &[u32],
+    rowsets: &[u32],
+    output: &mut Output,
+) {
     match answer {
-        ShowAnswer::Shown(n) => {
+        Ok(n) => {
             say::first(b"pairs", n as u64, output);
             say::pairs(tables, rowsets, n, output);
         }
-        ShowAnswer::Refused(why) => say::refusal(why, output),
+        Err(why) => say::refusal(why, output),
     }
 }
 
@@ -46,18 +51,18 @@ fn pairs(manager: VersionManager, book: PinBook, epoch: u32, room: usize, output
 }
 
 fn vectors_said(
-    answer: ShowAnswer,
+    answer: Result<usize, Refusal>,
     tables: &[u32],
     rowsets: &[u32],
     vectors: &[u64],
     output: &mut Output,
 ) {
     match answer {
-        ShowAnswer::Shown(n) => {
+        Ok(n) => {
             say::first(b"vectors", n as u64, output);
             say::vectors(tables, rowsets, vectors, n, output);
         }
-        ShowAnswer::Refused(why) => say::refusal(why, output),
+        Err(why) => say::refusal(why, output),
     }
 }
 
@@ -91,7 +96,7 @@ fn vectors(manager: VersionManager, book: PinBook, epoch: u32, room: usize, outp
 }
 
 fn tables_said(
-    answer: ShowAnswer,
+    answer: Result<usize, Refusal>,
     ids: &[u32],
     shapes: &[u32],
     lengths: &[u32],
@@ -99,11 +104,11 @@ fn tables_said(
     output: &mut Output,
 ) {
     match answer {
-        ShowAnswer::Shown(n) => {
+        Ok(n) => {
             say::first(b"tables", n as u64, output);
             say::tables(ids, shapes, lengths, names, n, output);
         }
-        ShowAnswer::Refused(why) => say::refusal(why, output),
+        Err(why) => say::refusal(why, output),
     }
 }
 

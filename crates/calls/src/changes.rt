@@ -5,10 +5,11 @@ use answers::output::Output;
 use answers::say;
 use ids::TableNo;
 use ids::limits::MOST_HELD;
+use ids::refusal::Refusal;
 use pins::PinBook;
 use script::Found;
 use script::words::Managed;
-use version_manager::{Locked, VacuumAnswer, VersionManager};
+use version_manager::{Locked, VersionManager};
 
 pub fn fresh(world: World, s: &[u8], output: &mut Output) -> World {
     if !say::alone(s, output) {
@@ -60,13 +61,18 @@ fn draw(manager: VersionManager, s: &[u8], output: &mut Output) -> VersionManage
     }
 }
 
-fn vacuumed(answer: VacuumAnswer, tables: &[u32], rowsets: &[u32], output: &mut Output) {
+fn vacuumed(
+    answer: Result<usize, Refusal>,
+    tables: &[u32],
+    rowsets: &[u32],
+    output: &mut Output,
+) {
     match answer {
-        VacuumAnswer::Listed(n) => {
+        Ok(n) => {
             say::first(b"vacuumed", n as u64, output);
             say::pairs(tables, rowsets, n, output);
         }
-        VacuumAnswer::Refused(why) => say::refusal(why, output),
+        Err(why) => say::refusal(why, output),
     }
 }
 

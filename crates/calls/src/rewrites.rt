@@ -3,30 +3,31 @@ use crate::world::{File, Host, World};
 use answers::output::Output;
 use answers::say;
 use ids::limits::LONGEST_REWRITTEN;
-use storage::{ReopenAnswer, Reopened};
-use version_manager::{CheckpointAnswer, Checkpointed, VersionManager};
+use ids::refusal::Refusal;
+use storage::Reopened;
+use version_manager::{Checkpointed, VersionManager};
 
 // How many bytes the rewritten manifest has, which are never 0; as in the next.
-fn reopened(answer: ReopenAnswer, output: &mut Output) -> usize {
+fn reopened(answer: Result<usize, Refusal>, output: &mut Output) -> usize {
     match answer {
-        ReopenAnswer::Rewritten(n) => {
+        Ok(n) => {
             say::one(b"reopened", n as u64, output);
             n
         }
-        ReopenAnswer::Refused(why) => {
+        Err(why) => {
             say::refusal(why, output);
             0
         }
     }
 }
 
-fn checkpointed(answer: CheckpointAnswer, output: &mut Output) -> usize {
+fn checkpointed(answer: Result<usize, Refusal>, output: &mut Output) -> usize {
     match answer {
-        CheckpointAnswer::Rewritten(n) => {
+        Ok(n) => {
             say::one(b"checkpointed", n as u64, output);
             n
         }
-        CheckpointAnswer::Refused(why) => {
+        Err(why) => {
             say::refusal(why, output);
             0
         }

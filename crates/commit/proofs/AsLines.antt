@@ -8,14 +8,17 @@ use native.Mathlib.Omega.{arith}
 use lib.ListN.{length, get_or, take, drop, length-map}
 use lib.Seq.{append_snoc}
 use borrow.Author.Tests.{not-false}
+use Rattle.std.specs.Prelude.{Result, Ok, Err}
+use Rattle.std.specs.Result.{result_and}
 use Rattle.lists.specs.Keyed.{all_of}
 use Rattle.lists.proofs.Tests.{by_cases}
 use Rattle.lists.proofs.Keyed.{All}
 use Rattle.lists.proofs.Views.{map-drop, seen}
 use Rattle.ids.specs.Limits.{most_operations, longest_line}
+use Rattle.ids.specs.declared.refusal.Refusal.{Refusal}
 use Rattle.ids.specs.declared.refusal.Refusal.TheVariants.{Malformed}
 use Rattle.ids.specs.Verdicts.{judged}
-use Rattle.ids.specs.Results.{Result, refused, given, and_then, onward}
+use Rattle.ids.specs.Results.{and_then}
 use Rattle.ids.proofs.Verdicts.{none-judged}
 use Rattle.manifest.specs.declared.operation.Change.{Change}
 use Rattle.manifest.specs.Operations.{Operation, next_ids, operation, well_formed, well_line, operation_of}
@@ -92,11 +95,11 @@ pub lines-read : (os : List Operation) → operations_in (texts_of (map as_line 
 lines-read os = read-lines (map as_line os) (all-well os)
 
 -- A commit of the lines is that of the operations.
-malformed : (i e : ℕ) (o : Operation) (s : State) → well_formed o ≡ false → step_of i e o s ≡ refused (Malformed i)
+malformed : (i e : ℕ) (o : Operation) (s : State) → well_formed o ≡ false → step_of i e o s ≡ Err (Malformed i)
 unfolding step_of
 malformed i e o s w = rw w refl
 
-refused_none : (i e : ℕ) (s : State) → step_of i e (next_ids 0 0 0) s ≡ refused (Malformed i)
+refused_none : (i e : ℕ) (s : State) → step_of i e (next_ids 0 0 0) s ≡ Err (Malformed i)
 unfolding step_of
 refused_none i e s = refl
 
@@ -109,30 +112,30 @@ step_same i e o s =
 steps-same : (i e : ℕ) (os : List Operation) (s : State) → steps_of i e (map as_line os) s ≡ steps_of i e os s
 steps-same i e [] s = refl
 steps-same i e (o ∷ os) s =
-    ap (λ (x : Result State). and_then x (λ t. steps_of (i + 1) e (map as_line os) t)) (step_same i e o s) ∙ go (step_of i e o s) (λ t. steps-same (i + 1) e os t)
+    ap (λ (x : Result State Refusal). and_then x (λ t. steps_of (i + 1) e (map as_line os) t)) (step_same i e o s) ∙ go (step_of i e o s) (λ t. steps-same (i + 1) e os t)
   where
-    go : (x : Result State) → ((t : State) → steps_of (i + 1) e (map as_line os) t ≡ steps_of (i + 1) e os t)
+    go : (x : Result State Refusal) → ((t : State) → steps_of (i + 1) e (map as_line os) t ≡ steps_of (i + 1) e os t)
         → and_then x (λ t. steps_of (i + 1) e (map as_line os) t) ≡ and_then x (λ t. steps_of (i + 1) e os t)
-    go (given t) h = h t
-    go (refused k) h = refl
+    go (Ok t) h = h t
+    go (Err k) h = refl
 
 -- operations that are accepted stand as they are
 all_same : (os : List Operation) → All (λ o. well_formed o ≡ true) os → map as_line os ≡ os
 all_same [] a = refl
 all_same (o ∷ os) a = ap₂ ◌∷◌ (sym (as-line-same o a.0)) (all_same os a.1)
 
-accepted-same : (i e : ℕ) (os : List Operation) (s t : State) → steps_of i e os s ≡ given t → map as_line os ≡ os
+accepted-same : (i e : ℕ) (os : List Operation) (s t : State) → steps_of i e os s ≡ Ok t → map as_line os ≡ os
 accepted-same i e os s t h = all_same os (accepted-all (λ o. well_formed o ≡ true) (λ i e o s j. not-false _ (none-judged (op_rules i e o s) j).0) i e os s t h)
 
 module _ (s : State) (n : ℕ) (os : List Operation) (room : ℕ) where
   pub commit-same : commit_of s n (map as_line os) room ≡ commit_of s n os room
   commit-same =
-      ap (λ (x : Result State). onward (judged (first_rules s n)) (and_then x (finish_of (s.epoch + 1) (map as_line os) room))) (steps-same 0 (s.epoch + 1) os s)
-      ∙ ap (onward (judged (first_rules s n))) (go (steps_of 0 (s.epoch + 1) os s) refl)
+      ap (λ (x : Result State Refusal). result_and (judged (first_rules s n)) (and_then x (finish_of (s.epoch + 1) (map as_line os) room))) (steps-same 0 (s.epoch + 1) os s)
+      ∙ ap (result_and (judged (first_rules s n))) (go (steps_of 0 (s.epoch + 1) os s) refl)
     where
-      go : (x : Result State) → steps_of 0 (s.epoch + 1) os s ≡ x → and_then x (finish_of (s.epoch + 1) (map as_line os) room) ≡ and_then x (finish_of (s.epoch + 1) os room)
-      go (given t) h = ap (λ (l : List Operation). finish_of (s.epoch + 1) l room t) (accepted-same 0 (s.epoch + 1) os s t h)
-      go (refused k) h = refl
+      go : (x : Result State Refusal) → steps_of 0 (s.epoch + 1) os s ≡ x → and_then x (finish_of (s.epoch + 1) (map as_line os) room) ≡ and_then x (finish_of (s.epoch + 1) os room)
+      go (Ok t) h = ap (λ (l : List Operation). finish_of (s.epoch + 1) l room t) (accepted-same 0 (s.epoch + 1) os s t h)
+      go (Err k) h = refl
 
-  pub commit-lines-same : (u : State) → commit_of s n os room ≡ given u → map as_line os ≡ os
+  pub commit-lines-same : (u : State) → commit_of s n os room ≡ Ok u → map as_line os ≡ os
   commit-lines-same u h = let a = accepts s n os room u h in accepted-same 0 (s.epoch + 1) os s a.done a.steps

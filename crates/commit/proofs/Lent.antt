@@ -7,12 +7,13 @@ use native.Mathlib.Omega.{arith}
 use lib.ListN.{length, take, drop, length-append, length-take, length-drop, drop_of_length-le}
 use lib.Seq.{drop-cons, append_snoc}
 use borrow.Author.Tests.{not-false}
+use Rattle.std.specs.Prelude.{Result, Ok, Err}
 use Rattle.lists.proofs.Tests.{clash}
 use Rattle.lists.proofs.Keyed.{All}
 use Rattle.ids.specs.Limits.{most_operations, longest_line, longest_manifest}
-use Rattle.ids.specs.declared.refusal.Verdict.TheVariants.{Accepted}
+use Rattle.ids.specs.declared.refusal.Refusal.{Refusal}
 use Rattle.ids.specs.Verdicts.{judged}
-use Rattle.ids.specs.Results.{Result, refused, given, and_then}
+use Rattle.ids.specs.Results.{and_then}
 use Rattle.ids.proofs.Verdicts.{none-judged}
 use Rattle.text.specs.Class.{newline}
 use Rattle.manifest.specs.declared.reader.LineAt.TheVariants as found
@@ -89,18 +90,18 @@ lent-rest s at w h =
 abbrev Whole : Operation → Type 0
 Whole o = o ≡ next_ids 0 0 0 → ⊥
 
-accepted-whole : (i e : ℕ) (o : Operation) (s : State) → judged (op_rules i e o s) ≡ Accepted → Whole o
+accepted-whole : (i e : ℕ) (o : Operation) (s : State) → judged (op_rules i e o s) ≡ Ok tt → Whole o
 accepted-whole i e o s a h = clash refl (none-judged (op_rules i e (next_ids 0 0 0) s) (rw h at a)).1.0
 
 -- what holds of each operation that is accepted holds of all
-pub accepted-all : (P : Operation → Type 0) → ((i e : ℕ) (o : Operation) (s : State) → judged (op_rules i e o s) ≡ Accepted → P o)
-    → (i e : ℕ) (os : List Operation) (s t : State) → steps_of i e os s ≡ given t → All P os
+pub accepted-all : (P : Operation → Type 0) → ((i e : ℕ) (o : Operation) (s : State) → judged (op_rules i e o s) ≡ Ok tt → P o)
+    → (i e : ℕ) (os : List Operation) (s t : State) → steps_of i e os s ≡ Ok t → All P os
 accepted-all P f i e [] s t h = tt
 accepted-all P f i e (o ∷ os) s t h = go (step_of i e o s) refl h (λ u. accepted-all P f (i + 1) e os u t)
   where
-    go : (x : Result State) → step_of i e o s ≡ x → and_then x (λ u. steps_of (i + 1) e os u) ≡ given t → ((u : State) → steps_of (i + 1) e os u ≡ given t → All P os) → All P (o ∷ os)
-    go (given u) a h ih = (f i e o s (step_given i e o s u a).0, ih u h)
-    go (refused r) a h ih = absurd (halt h)
+    go : (x : Result State Refusal) → step_of i e o s ≡ x → and_then x (λ u. steps_of (i + 1) e os u) ≡ Ok t → ((u : State) → steps_of (i + 1) e os u ≡ Ok t → All P os) → All P (o ∷ os)
+    go (Ok u) a h ih = (f i e o s (step_given i e o s u a).0, ih u h)
+    go (Err r) a h ih = absurd (halt h)
 
 -- So all that is lent is whole lines of operations.
 module _ (P : Operation → Type 0) where
@@ -131,7 +132,7 @@ texts (l ∷ ls) a = ap₂ ◌∷◌ (sym (text-parse l (operation_said (line_of
 abbrev pub lent_append : List ℕ → List ℕ
 lent_append s = 33 ∷ 10 ∷ 66 ∷ 10 ∷ (s ++ (69 ∷ 10 ∷ []))
 
-pub append-lent : (s : List ℕ) (e : ℕ) (u t : State) → steps_of 0 e (operations_in s) u ≡ given t → append_of (operations_in s) ≡ lent_append s
+pub append-lent : (s : List ℕ) (e : ℕ) (u t : State) → steps_of 0 e (operations_in s) u ≡ Ok t → append_of (operations_in s) ≡ lent_append s
 unfolding operations_in lines
 append-lent s e u t h =
     let said = map (λ l. operation_said (line_of l)) (lines s) in
@@ -149,7 +150,7 @@ pub texts-short : (os : List Operation) → All (λ o. well_formed o ≡ true) o
 texts-short [] a = omega arith
 texts-short (o ∷ os) a = omega (arith, texts-cons o os, text-room o a.0, texts-short os a.1)
 
-pub append-short : (e : ℕ) (os : List Operation) (u t : State) → length os ≤ most_operations → steps_of 0 e os u ≡ given t → length (append_of os) ≤ longest_manifest
+pub append-short : (e : ℕ) (os : List Operation) (u t : State) → length os ≤ most_operations → steps_of 0 e os u ≡ Ok t → length (append_of os) ≤ longest_manifest
 append-short e os u t few h =
     let a = accepted-all (λ o. well_formed o ≡ true) (λ i e o s j. not-false _ (none-judged (op_rules i e o s) j).0) 0 e os u t h in
     omega (arith, frame-long os, texts-short os a)

@@ -6,13 +6,12 @@ use Prim.Native.Nat.{ℕ, ◌+◌, ◌<◌, ◌≤◌}
 use native.Mathlib.Omega.{arith}
 use lib.Dec.{leb, eqb}
 use borrow.Author.Tests.{leb-false, lt-leb, ne_eqb}
+use Rattle.std.specs.Prelude.{Ok}
 use Rattle.lists.specs.Keyed.{keep, is_at, has, put, changed}
 use Rattle.lists.proofs.Tests.{by_cases, clash, neither}
 use Rattle.lists.proofs.Order.{same_true}
 use Rattle.lists.proofs.Keyed.{All, Ascending, ascend-to, after-absent, put-new, keep-placed-out}
-use Rattle.ids.specs.declared.refusal.Verdict.TheVariants.{Accepted}
 use Rattle.ids.specs.Verdicts.{judged}
-use Rattle.ids.specs.Results.{given}
 use Rattle.manifest.specs.Operations.{Operation}
 use Rattle.manifest.specs.Edits.{Edit, leaves, adds, deletes, edits_of}
 use Rattle.snapshot.specs.Entries.{Entry, added_at, deleted_at, by_ids, gone_at, shown_at, shown_by, shown}
@@ -96,7 +95,7 @@ module _ (d e : ℕ) (before : d < e) where
   shown-marked (adds k) l a h = shown-put d (added_at e k) l h.0 (not_yet d e k before)
   shown-marked (deletes k) l a h = shown-deleted d e k l before (all_shown e k l a h)
 
-same-applied : (e : ℕ) (s₀ : State) (i : ℕ) (o : Operation) (s : State) → Same e s₀ s → judged (op_rules i e o s) ≡ Accepted → Same e s₀ (applied e o s)
+same-applied : (e : ℕ) (s₀ : State) (i : ℕ) (o : Operation) (s : State) → Same e s₀ s → judged (op_rules i e o s) ≡ Ok tt → Same e s₀ (applied e o s)
 same-applied e s₀ i o s k a =
     let f = fits i e o s a in
     let d = edits_of o in
@@ -106,7 +105,7 @@ same-applied e s₀ i o s k a =
       vectors = λ c h. shown-marked c e h d.vectors s.vectors (ascend-to by_ids s.vectors k.ordered.vectors) f.vectors ∙ k.vectors c h;
     }
 
-module _ (m : VersionManagerInner) (n : ℕ) (os : List Operation) (room : ℕ) (s : State) (b : bad_inner m ≡ false) (h : commit_of (state_of m) n os room ≡ given s) (d : ℕ) (k : d ≤ m.epoch) where
+module _ (m : VersionManagerInner) (n : ℕ) (os : List Operation) (room : ℕ) (s : State) (b : bad_inner m ≡ false) (h : commit_of (state_of m) n os room ≡ Ok s) (d : ℕ) (k : d ≤ m.epoch) where
   kept : Same (m.epoch + 1) (state_of m) (accepts (state_of m) n os room s h).done
   kept =
       let a = accepts (state_of m) n os room s h in

@@ -7,15 +7,16 @@ use native.Mathlib.Omega.{arith}
 use lib.Dec.{ltb}
 use lib.ListN.{length, get_or}
 use borrow.Author.Tests.{ltb-false, leb-false, lt-ltb, not-false}
+use Rattle.std.specs.Prelude.{Result, Ok, Err}
+use Rattle.std.specs.Result.{result_and}
 use Rattle.lists.specs.Order.{same}
 use Rattle.lists.specs.Keyed.{keep, all_of, has}
 use Rattle.lists.proofs.Tests.{by_cases, clash, both}
 use Rattle.lists.proofs.Order.{same_true}
 use Rattle.lists.proofs.Keyed.{All, all_map, all_of-all, all-all_of, all_keep}
 use Rattle.text.specs.Name.{is_name}
-use Rattle.ids.specs.declared.refusal.Verdict.{Verdict}
-use Rattle.ids.specs.declared.refusal.Verdict.TheVariants.{Accepted, Refused}
-use Rattle.ids.specs.Verdicts.{judged}
+use Rattle.ids.specs.declared.refusal.Refusal.{Refusal}
+use Rattle.ids.specs.Verdicts.{judged, Verdict}
 use Rattle.ids.proofs.Verdicts.{none-judged}
 use Rattle.manifest.specs.Operations.{Operation, create_table, drop_table, add_rowset, delete_rowset, add_vector, delete_vector, next_ids}
 use Rattle.ids.specs.Ids.{Next}
@@ -24,7 +25,7 @@ use Rattle.snapshot.specs.Entries.{Entry, by_ids, below_next, within, shown_by}
 use Rattle.snapshot.specs.Tables.{by_table}
 use Rattle.version_state.specs.declared.VersionManagerInner.{VersionManagerInner}
 use Rattle.ids.specs.Limits.{most_operations, last_epoch, longest_manifest}
-use Rattle.ids.specs.Results.{Result, refused, given, and_then, onward}
+use Rattle.ids.specs.Results.{and_then}
 use Rattle.version_state.specs.State.{State, state_of, with_epoch, Hands}
 use Rattle.version_state.specs.Sound.{left_behind, bad_inner}
 use Rattle.version_state.proofs.Within.{Rises, Within, within_of, of-within, within-up}
@@ -66,7 +67,7 @@ record Belows (d : Edits) (x : Next) : Type 0 where
   pairs : Adds (λ k. below_next k (x.table ∷ x.rowset ∷ []) ≡ true) d.pairs
   vectors : Adds (λ k. below_next k (x.table ∷ x.rowset ∷ x.vector ∷ []) ≡ true) d.vectors
 
-belows : (e i : ℕ) (o : Operation) (s : State) → Kept e s → judged (op_rules i e o s) ≡ Accepted → Belows (edits_of o) (raised (edits_of o) (next_of s))
+belows : (e i : ℕ) (o : Operation) (s : State) → Kept e s → judged (op_rules i e o s) ≡ Ok tt → Belows (edits_of o) (raised (edits_of o) (next_of s))
 belows e i (create_table t h n) s k a = record { pairs = tt; vectors = tt }
 belows e i (drop_table t) s k a = record { pairs = tt; vectors = tt }
 belows e i (add_rowset t r) s k a =
@@ -88,7 +89,7 @@ within-marked e ns ms d l up b a =
     (λ x w. record { added = w.added; deleted = omega arith; ids = w.ids })
     (within-up e e ns ms (omega arith) up l a)
 
-kept-applied : (e i : ℕ) (o : Operation) (s : State) → Kept e s → judged (op_rules i e o s) ≡ Accepted → Kept e (applied e o s)
+kept-applied : (e i : ℕ) (o : Operation) (s : State) → Kept e s → judged (op_rules i e o s) ≡ Ok tt → Kept e (applied e o s)
 kept-applied e i o s k a =
     let d = edits_of o in
     let x = raised d (next_of s) in
@@ -120,28 +121,28 @@ pub record Accepts (s : State) (n : ℕ) (os : List Operation) (room : ℕ) (u :
   pub last : s.epoch < last_epoch
   -- what the operations left
   pub done : State
-  pub steps : steps_of 0 (s.epoch + 1) os s ≡ given done
+  pub steps : steps_of 0 (s.epoch + 1) os s ≡ Ok done
   pub whole : left_behind (s.epoch + 1) done ≡ false
   pub fits : done.manifest + length (append_of os) ≤ longest_manifest
   pub lent : length (append_of os) ≤ room
   pub state : with_epoch done (s.epoch + 1) (done.manifest + length (append_of os)) ≡ u
 
-pub onward-given : (v : Verdict) (x : Result State) (s : State) → onward v x ≡ given s → (v ≡ Accepted) × (x ≡ given s)
-onward-given Accepted x s h = (refl, h)
-onward-given (Refused k) x s h = absurd (halt h)
+pub onward-given : (v : Verdict) (x : Result State Refusal) (s : State) → result_and v x ≡ Ok s → (v ≡ Ok tt) × (x ≡ Ok s)
+onward-given (Ok _) x s h = (refl, h)
+onward-given (Err k) x s h = absurd (halt h)
 
-then-given : (x : Result State) (f : State → Result State) (s : State) → and_then x f ≡ given s → (t : State) × (x ≡ given t) × (f t ≡ given s)
-then-given (given t) f s h = (t, refl, h)
-then-given (refused k) f s h = absurd (halt h)
+then-given : (x : Result State Refusal) (f : State → Result State Refusal) (s : State) → and_then x f ≡ Ok s → (t : State) × (x ≡ Ok t) × (f t ≡ Ok s)
+then-given (Ok t) f s h = (t, refl, h)
+then-given (Err k) f s h = absurd (halt h)
 
-pub accepts : (s : State) (n : ℕ) (os : List Operation) (room : ℕ) (u : State) → commit_of s n os room ≡ given u → Accepts s n os room u
+pub accepts : (s : State) (n : ℕ) (os : List Operation) (room : ℕ) (u : State) → commit_of s n os room ≡ Ok u → Accepts s n os room u
 accepts s n os room u h =
     let e = s.epoch + 1 in
     let x = onward-given (judged (first_rules s n)) (and_then (steps_of 0 e os s) (finish_of e os room)) u h in
     let f = none-judged (first_rules s n) x.0 in
     let y = then-given (steps_of 0 e os s) (finish_of e os room) u x.1 in
     let t = y.0 in
-    let z = onward-given (judged (last_rules e t (length (append_of os)) room)) (given (with_epoch t e (t.manifest + length (append_of os)))) u y.2 in
+    let z = onward-given (judged (last_rules e t (length (append_of os)) room)) (Ok (with_epoch t e (t.manifest + length (append_of os)))) u y.2 in
     let g = none-judged (last_rules e t (length (append_of os)) room) z.0 in
     let q : with_epoch t e (t.manifest + length (append_of os)) ≡ u = cc z.1 in
     record {
@@ -155,7 +156,7 @@ accepts s n os room u h =
       state = q;
     }
 
-pub commit-sound : (m n : VersionManagerInner) (k : ℕ) (os : List Operation) (room : ℕ) (s : State) → bad_inner m ≡ false → commit_of (state_of m) k os room ≡ given s → Hands n s → bad_inner n ≡ false
+pub commit-sound : (m n : VersionManagerInner) (k : ℕ) (os : List Operation) (room : ℕ) (s : State) → bad_inner m ≡ false → commit_of (state_of m) k os room ≡ Ok s → Hands n s → bad_inner n ≡ false
 commit-sound m n k os room s b h z =
     let a = accepts (state_of m) k os room s h in
     let t = a.done in

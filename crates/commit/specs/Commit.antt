@@ -1,14 +1,15 @@
 -- Commit: its rules in order, what it leaves, and what it appends. Assumes nothing.
-use Rattle.std.specs.Prelude.{◌≡◌, List, [], ◌∷◌, ◌++◌, ℕ, ◌+◌, leb, ltb, length}
+use Rattle.std.specs.Prelude.{◌≡◌, List, [], ◌∷◌, ◌++◌, ℕ, ◌+◌, leb, ltb, length, Result, Ok, Err}
+use Rattle.std.specs.Result.{result_and}
 use Rattle.lists.specs.Written.{over}
+use Rattle.ids.specs.declared.refusal.Refusal.{Refusal}
 use Rattle.ids.specs.declared.refusal.Refusal.TheVariants.{TooManyOperations, EpochsFull, LeftBehind, ManifestFull, OutputTooShort}
-use Rattle.ids.specs.declared.refusal.Verdict.TheVariants.{Accepted, Refused}
 use Rattle.ids.specs.Verdicts.{Rule, ◌⇒◌, judged}
 use Rattle.text.specs.Class.{newline}
 use Rattle.manifest.specs.Operations.{Operation, torn}
 use Rattle.manifest.specs.Lines.{line_text}
 use Rattle.ids.specs.Limits.{last_epoch, longest_manifest, most_operations}
-use Rattle.ids.specs.Results.{Result, refused, given, and_then, onward}
+use Rattle.ids.specs.Results.{and_then}
 use Rattle.version_state.specs.State.{State, with_epoch, Hands}
 use Rattle.version_state.specs.Sound.{left_behind}
 use Rattle.operations.specs.Steps.{steps_of}
@@ -33,16 +34,16 @@ last_rules e s n room =
     ∷ []
 
 -- what is left is at the epoch e, its manifest longer by the append
-abbrev pub finish_of : ℕ → List Operation → ℕ → State → Result State
+abbrev pub finish_of : ℕ → List Operation → ℕ → State → Result State Refusal
 finish_of e os room s =
-    onward (judged (last_rules e s (length (append_of os)) room)) (given (with_epoch s e (s.manifest + length (append_of os))))
+    result_and (judged (last_rules e s (length (append_of os)) room)) (Ok (with_epoch s e (s.manifest + length (append_of os))))
 
 -- the operations os, which number n, apply in order at the next epoch
-abbrev pub commit_of : State → ℕ → List Operation → ℕ → Result State
-commit_of s n os room = onward (judged (first_rules s n)) (and_then (steps_of 0 (s.epoch + 1) os s) (finish_of (s.epoch + 1) os room))
+abbrev pub commit_of : State → ℕ → List Operation → ℕ → Result State Refusal
+commit_of s n os room = result_and (judged (first_rules s n)) (and_then (steps_of 0 (s.epoch + 1) os s) (finish_of (s.epoch + 1) os room))
 
 -- Internal: a commit of os over columns, into the lent buffer. What is left stands in the columns, and the bytes to append in the
 -- buffer; or a refusal, and nothing written.
-abbrev pub CommitIs : Result State → List Operation → List ℕ → Done → Columns → List ℕ → Type 0
-CommitIs (given s) os out r c out' = (r.verdict ≡ Accepted) × (r.length ≡ length (append_of os)) × Hands (inner_in r.held c) s × (out' ≡ over (append_of os) out)
-CommitIs (refused k) os out r c out' = (r.verdict ≡ Refused k) × (out' ≡ out)
+abbrev pub CommitIs : Result State Refusal → List Operation → List ℕ → Done → Columns → List ℕ → Type 0
+CommitIs (Ok s) os out r c out' = (r.verdict ≡ Ok tt) × (r.length ≡ length (append_of os)) × Hands (inner_in r.held c) s × (out' ≡ over (append_of os) out)
+CommitIs (Err k) os out r c out' = (r.verdict ≡ Err k) × (out' ≡ out)

@@ -1,7 +1,7 @@
 // Commit: operations at the next epoch, and the bytes to append to the manifest.
 #![tactic(auto)]
 
-ghost use Rattle.std.specs.Prelude.{◌≡◌, Bool, true, false, List, [], ◌∷◌, ℕ, ◌≤◌, length};
+ghost use Rattle.std.specs.Prelude.{◌≡◌, Bool, true, false, List, [], ◌∷◌, ℕ, ◌≤◌, length, Err};
 ghost use Rattle.lists.specs.Keyed.{ascending, sorted};
 ghost use Rattle.ids.specs.Limits.{most_tables, most_held, longest_manifest};
 ghost use Rattle.ids.specs.Verdicts.{judged};
@@ -15,7 +15,7 @@ ghost use Rattle.commit.specs.Laws.{CommitLaws};
 use ids::limits::{
     LAST_EPOCH, LONGEST_MANIFEST, MOST_HELD, MOST_OPERATIONS, MOST_TABLES, NAME_BYTES,
 };
-use ids::refusal::{Refusal, Verdict};
+use ids::refusal::Refusal;
 use version_state::Held;
 
 pub mod lines;
@@ -24,7 +24,7 @@ pub mod typed;
 // What a commit over lent columns answers. Beside a refusal, the length and the numbers are of no use.
 #[derive(Drop)]
 pub struct Done {
-    pub verdict: Verdict,
+    pub verdict: Result<(), Refusal>,
     // How many bytes there are to append.
     pub length: usize,
     pub held: Held,
@@ -37,10 +37,10 @@ pub fn holds()
 
 // Internal, as is what follows.
 fn refused(held: Held, refusal: Refusal) -> Done
-    ensures { result.verdict ≡ Verdict.Refused refusal }
+    ensures { result.verdict ≡ Err refusal }
 {
     Done {
-        verdict: Verdict::Refused(refusal),
+        verdict: Err(refusal),
         length: 0,
         held,
     }
@@ -61,7 +61,7 @@ fn ending<'a>(
     epoch: u32,
     size: usize,
     room: usize,
-) -> Verdict
+) -> Result<(), Refusal>
     requires { (held.tables ≤ most_tables) × (ascending plain (rows (across (ids.now ∷ [])) held.tables) ≡ true) × Rising (pair_tables.now ∷ pair_rowsets.now ∷ []) held.rowsets × (held.vectors ≤ most_held) × (sorted plain (rows (across (tables.now ∷ rowsets.now ∷ [])) held.vectors) ≡ true) × (held.manifest ≤ longest_manifest) }
     ensures { (shapes lengths names vectors : List ℕ) (locked : List Bool) → result ≡ judged (last_rules epoch (state_in held (columns ids.now shapes lengths names locked pair_tables.now pair_rowsets.now pair_added.now pair_deleted.now tables.now rowsets.now vectors added.now deleted.now)) size room) }
 {
@@ -80,15 +80,15 @@ fn ending<'a>(
         held.vectors,
         epoch,
     ) {
-        return Verdict::Refused(Refusal::LeftBehind);
+        return Err(Refusal::LeftBehind);
     }
     if LONGEST_MANIFEST - held.manifest < size {
-        return Verdict::Refused(Refusal::ManifestFull);
+        return Err(Refusal::ManifestFull);
     }
     if room < size {
-        return Verdict::Refused(Refusal::OutputTooShort);
+        return Err(Refusal::OutputTooShort);
     }
-    Verdict::Accepted
+    Ok(())
 }
 
 // Operations lent as lines, over the columns of a state: the append is `B`, the lent bytes, `E`.
@@ -144,7 +144,7 @@ pub fn commit_lines(
     );
     let verdict = step.verdict;
     let left = step.held;
-    if !verdict.accepted() {
+    if verdict.is_err() {
         return Done {
             verdict,
             length: 0,
@@ -167,7 +167,7 @@ pub fn commit_lines(
         size,
         out.len(),
     );
-    if !verdict.accepted() {
+    if verdict.is_err() {
         return Done {
             verdict,
             length: 0,

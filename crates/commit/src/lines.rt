@@ -153,7 +153,7 @@ pub fn steps(
             change,
         );
         let verdict = step.verdict;
-        if !verdict.accepted() {
+        if verdict.is_err() {
             return step;
         }
         held = step.held;

@@ -5,12 +5,12 @@ use mathlib.Core.List.{List, [], ◌∷◌}
 use Prim.Native.Nat.{ℕ, ◌+◌}
 use lib.Dec.{leb, ltb}
 use lib.ListN.{length}
+use Rattle.std.specs.Prelude.{Ok, Err}
 use Rattle.lists.specs.Order.{same}
 use Rattle.lists.specs.Keyed.{all_of, any_of, is_at, has}
 use Rattle.lists.proofs.Keyed.{any_of-map}
 use Rattle.ids.specs.Limits.{most_held, last_epoch, longest_manifest}
 use Rattle.ids.specs.declared.refusal.Refusal.TheVariants.{TableNotLive, PairNotShown, IdNotDrawn, StillHeld, EpochsFull, HeldFull, ManifestFull, LockNotHeld, OutputTooShort}
-use Rattle.ids.specs.declared.refusal.Verdict.TheVariants.{Accepted, Refused}
 use Rattle.ids.specs.Verdicts.{judged}
 use Rattle.columns.specs.Rows.{rows, column, marks, across, plain}
 use Rattle.columns.proofs.Rows.{rows-length, rows-map}
@@ -46,43 +46,43 @@ any-locked ids shapes lengths names locks n t =
 
 module _ (s : State) (t : ℕ) where
   module _ (n room : ℕ) where
-    pub rule-23 : ltb longest_manifest (s.manifest + n) ≡ true → Refused ManifestFull ≡ judged (compact_last s t n room)
+    pub rule-23 : ltb longest_manifest (s.manifest + n) ≡ true → Err ManifestFull ≡ judged (compact_last s t n room)
     rule-23 h = rw h
 
     module _ (a : ltb longest_manifest (s.manifest + n) ≡ false) where
-      pub rule-27 : not (is_locked t s) ≡ true → Refused LockNotHeld ≡ judged (compact_last s t n room)
+      pub rule-27 : not (is_locked t s) ≡ true → Err LockNotHeld ≡ judged (compact_last s t n room)
       rule-27 h = rw (a, h)
 
       module _ (b : not (is_locked t s) ≡ false) where
-        pub rule-9 : ltb room n ≡ true → Refused OutputTooShort ≡ judged (compact_last s t n room)
+        pub rule-9 : ltb room n ≡ true → Err OutputTooShort ≡ judged (compact_last s t n room)
         rule-9 h = rw (a, b, h)
 
-        pub last-passed : ltb room n ≡ false → Accepted ≡ judged (compact_last s t n room)
+        pub last-passed : ltb room n ≡ false → Ok tt ≡ judged (compact_last s t n room)
         last-passed h = rw (a, b, h)
 
   module _ (new taken : List ℕ) where
-    pub rule-11 : not (is_live t s) ≡ true → Refused (TableNotLive 0) ≡ judged (compact_state s t new taken)
+    pub rule-11 : not (is_live t s) ≡ true → Err (TableNotLive 0) ≡ judged (compact_state s t new taken)
     rule-11 h = rw h
 
     module _ (a : not (is_live t s) ≡ false) where
-      pub rule-12 : not (all_of (λ r. is_shown s.epoch (t ∷ r ∷ []) s.pairs) taken) ≡ true → Refused (PairNotShown 0) ≡ judged (compact_state s t new taken)
+      pub rule-12 : not (all_of (λ r. is_shown s.epoch (t ∷ r ∷ []) s.pairs) taken) ≡ true → Err (PairNotShown 0) ≡ judged (compact_state s t new taken)
       rule-12 h = rw (a, h)
 
       module _ (b : not (all_of (λ r. is_shown s.epoch (t ∷ r ∷ []) s.pairs) taken) ≡ false) where
-        pub rule-14 : any_of (λ r. leb s.next_rowset r) new ≡ true → Refused (IdNotDrawn 0) ≡ judged (compact_state s t new taken)
+        pub rule-14 : any_of (λ r. leb s.next_rowset r) new ≡ true → Err (IdNotDrawn 0) ≡ judged (compact_state s t new taken)
         rule-14 h = rw (a, b, h)
 
         module _ (d : any_of (λ r. leb s.next_rowset r) new ≡ false) where
-          pub rule-16 : any_of (λ r. has by_ids (t ∷ r ∷ []) s.pairs) new ≡ true → Refused (StillHeld 0) ≡ judged (compact_state s t new taken)
+          pub rule-16 : any_of (λ r. has by_ids (t ∷ r ∷ []) s.pairs) new ≡ true → Err (StillHeld 0) ≡ judged (compact_state s t new taken)
           rule-16 h = rw (a, b, d, h)
 
           module _ (e : any_of (λ r. has by_ids (t ∷ r ∷ []) s.pairs) new ≡ false) where
-            pub rule-20 : leb last_epoch s.epoch ≡ true → Refused EpochsFull ≡ judged (compact_state s t new taken)
+            pub rule-20 : leb last_epoch s.epoch ≡ true → Err EpochsFull ≡ judged (compact_state s t new taken)
             rule-20 h = rw (a, b, d, e, h)
 
             module _ (f : leb last_epoch s.epoch ≡ false) where
-              pub rule-22 : any_of (λ r. leb most_held (length s.pairs)) new ≡ true → Refused (HeldFull 0) ≡ judged (compact_state s t new taken)
+              pub rule-22 : any_of (λ r. leb most_held (length s.pairs)) new ≡ true → Err (HeldFull 0) ≡ judged (compact_state s t new taken)
               rule-22 h = rw (a, b, d, e, f, h)
 
-              pub state-passed : any_of (λ r. leb most_held (length s.pairs)) new ≡ false → Accepted ≡ judged (compact_state s t new taken)
+              pub state-passed : any_of (λ r. leb most_held (length s.pairs)) new ≡ false → Ok tt ≡ judged (compact_state s t new taken)
               state-passed h = rw (a, b, d, e, f, h)

@@ -6,6 +6,8 @@ use Prim.Native.Nat.{ℕ, ◌+◌, ◌*◌, ◌≤◌, ◌<◌}
 use native.Mathlib.Omega.{arith}
 use lib.ListN.{length, length-append, length-map}
 use borrow.Author.Tests.{le-ltb, lt-ltb}
+use Rattle.std.specs.Prelude.{Ok, Err, is_ok}
+use Rattle.std.specs.Result.{result_and}
 use Rattle.lists.specs.Keyed.{keep, all_of, ascending}
 use Rattle.lists.specs.Written.{Wrote}
 use Rattle.lists.proofs.Tests.{clash, both, join}
@@ -13,9 +15,7 @@ use Rattle.lists.proofs.Keyed.{All, all_map, all-mapped, all_append, all_of-all,
 use Rattle.ids.specs.Ids.{is_id32}
 use Rattle.ids.specs.Limits.{most_operations, longest_line}
 use Rattle.ids.specs.declared.refusal.Refusal.TheVariants.{Malformed, TooManyOperations}
-use Rattle.ids.specs.declared.refusal.Verdict.{Verdict}
-use Rattle.ids.specs.declared.refusal.Verdict.TheVariants.{Accepted, Refused}
-use Rattle.ids.specs.Verdicts.{judged, is_accepted, or_else}
+use Rattle.ids.specs.Verdicts.{judged, Verdict}
 use Rattle.ids.proofs.Verdicts.{judged-append}
 use Rattle.columns.specs.Rows.{rows, column, marks, across}
 use Rattle.columns.proofs.Rows.{rows-length}
@@ -51,13 +51,13 @@ few-new (new.One r) = omega arith
 pub few-places : (p : ℕ → Bool) (n : ℕ) → length (places_of p n) ≤ n
 few-places p n = omega (arith, length-keep p (rows (λ i. i) n), rows-length (λ (i : ℕ). i) n)
 
-or_off : (v w : Verdict) → is_accepted v ≡ false → or_else v w ≡ v
-or_off Accepted w h = clash refl h
-or_off (Refused r) w h = refl
+or_off : (v w : Verdict) → is_ok v ≡ false → result_and v w ≡ v
+or_off (Ok _) w h = clash refl h
+or_off (Err r) w h = refl
 
-or-on : (v w : Verdict) → is_accepted v ≡ true → or_else v w ≡ w
-or-on Accepted w h = refl
-or-on (Refused r) w h = clash h refl
+or-on : (v w : Verdict) → is_ok v ≡ true → result_and v w ≡ w
+or-on (Ok _) w h = refl
+or-on (Err r) w h = clash h refl
 
 module _ (m : VersionManagerInner) (t : ℕ) (new taken : List ℕ) where
   abbrev operations : List Operation
@@ -69,7 +69,7 @@ module _ (m : VersionManagerInner) (t : ℕ) (new taken : List ℕ) where
   abbrev columns : List (List ℕ)
   columns = m.vectors.tables ∷ m.vectors.rowsets ∷ m.vectors.vectors ∷ []
 
-  pub rule-2 : (room : ℕ) → valid_compaction (state_of m) t new taken ≡ false → verdict room ≡ Refused (Malformed 0)
+  pub rule-2 : (room : ℕ) → valid_compaction (state_of m) t new taken ≡ false → verdict room ≡ Err (Malformed 0)
   rule-2 room h = rw h
 
   pub many-taken : most_operations < length taken → most_operations < length operations
@@ -88,7 +88,7 @@ module _ (m : VersionManagerInner) (t : ℕ) (new taken : List ℕ) where
     pub taken-rise : ascending by_number taken ≡ true
     taken-rise = ids.3
 
-    pub rule-6 : (room : ℕ) → most_operations < length operations → verdict room ≡ Refused (TooManyOperations 0)
+    pub rule-6 : (room : ℕ) → most_operations < length operations → verdict room ≡ Err (TooManyOperations 0)
     rule-6 room h = rw (v, lt-ltb most_operations (length operations) h)
 
     -- the marked vectors are those over the taken rowsets
@@ -110,19 +110,19 @@ module _ (m : VersionManagerInner) (t : ℕ) (new taken : List ℕ) where
       lines_are lines lines' n w = subst (λ (ks : List (List ℕ)). Wrote lines 0 (texts_of (map (add_rowset t) new ++ (map delete_vector_of ks ++ map (delete_rowset t) taken))) lines' n) over-marked w
 
     module _ (few : length operations ≤ most_operations) where
-      input-passed : (room : ℕ) → verdict room ≡ or_else (judged (compact_state (state_of m) t new taken)) (judged (compact_last (state_of m) t (length (append_of operations)) room))
+      input-passed : (room : ℕ) → verdict room ≡ result_and (judged (compact_state (state_of m) t new taken)) (judged (compact_last (state_of m) t (length (append_of operations)) room))
       input-passed room = rw (v, le-ltb most_operations (length operations) few) (judged-append (compact_state (state_of m) t new taken) (compact_last (state_of m) t (length (append_of operations)) room))
 
       module _ (x : Verdict) (h : x ≡ judged (compact_state (state_of m) t new taken)) where
-        pub state-refused : (room : ℕ) → is_accepted x ≡ false → x ≡ verdict room
-        state-refused room a = sym (input-passed room ∙ ap (λ (y : Verdict). or_else y (judged (compact_last (state_of m) t (length (append_of operations)) room))) (sym h) ∙ or_off x _ a)
+        pub state-refused : (room : ℕ) → is_ok x ≡ false → x ≡ verdict room
+        state-refused room a = sym (input-passed room ∙ ap (λ (y : Verdict). result_and y (judged (compact_last (state_of m) t (length (append_of operations)) room))) (sym h) ∙ or_off x _ a)
 
-        pub last-judged : (room : ℕ) → is_accepted x ≡ true → (y : Verdict) (lines lines' : List ℕ) (n : ℕ) → Wrote lines 0 (texts_of operations) lines' n → y ≡ judged (compact_last (state_of m) t (n + 6) room) → y ≡ verdict room
+        pub last-judged : (room : ℕ) → is_ok x ≡ true → (y : Verdict) (lines lines' : List ℕ) (n : ℕ) → Wrote lines 0 (texts_of operations) lines' n → y ≡ judged (compact_last (state_of m) t (n + 6) room) → y ≡ verdict room
         last-judged room a y lines lines' n w k =
             let size : n + 6 ≡ length (append_of operations) = omega (arith, frame-long operations, w.next) in
             k
             ∙ ap (λ (i : ℕ). judged (compact_last (state_of m) t i room)) size
-            ∙ sym (input-passed room ∙ ap (λ (z : Verdict). or_else z (judged (compact_last (state_of m) t (length (append_of operations)) room))) (sym h) ∙ or-on x _ a)
+            ∙ sym (input-passed room ∙ ap (λ (z : Verdict). result_and z (judged (compact_last (state_of m) t (length (append_of operations)) room))) (sym h) ∙ or-on x _ a)
 
     -- there is room for the lines of so many
     module _ (b : bad_inner m ≡ false) (w : Narrow (state_of m)) where
@@ -147,5 +147,5 @@ module _ (m : VersionManagerInner) (t : ℕ) (new taken : List ℕ) where
       lines-short h = omega (arith, texts-short operations well)
 
 -- a verdict that refuses
-pub made-off : (v : Verdict) (os : List Operation) (l : List ℕ) (r : Made) (l' : List ℕ) → r.verdict ≡ v → is_accepted r.verdict ≡ false → MadeIs v os l r l'
-made-off v os l r l' h a = record { verdict = h; written = λ e. clash (ap is_accepted e) a }
+pub made-off : (v : Verdict) (os : List Operation) (l : List ℕ) (r : Made) (l' : List ℕ) → r.verdict ≡ v → is_ok r.verdict ≡ false → MadeIs v os l r l'
+made-off v os l r l' h a = record { verdict = h; written = λ e. clash (ap is_ok e) a }

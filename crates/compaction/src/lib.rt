@@ -21,7 +21,7 @@ ghost use Rattle.compaction.specs.New.{new_of};
 
 use ids::limits::{LAST_EPOCH, LONGEST_MANIFEST, MOST_HELD, MOST_OPERATIONS, MOST_TABLES};
 use ids::name::Name;
-use ids::refusal::{Refusal, Verdict};
+use ids::refusal::Refusal;
 use ids::{RowsetNo, TableNo};
 use manifest::operation::{Change, EpochOp};
 use table::Made;
@@ -156,12 +156,12 @@ fn locked<'a>(
 }
 
 // 11, 12, 14, 16, 20, 22.
-fn standing(inner: VersionManagerInner, table: TableNo, new: NewRowset, taken: &[u32]) -> Verdict
+fn standing(inner: VersionManagerInner, table: TableNo, new: NewRowset, taken: &[u32]) -> Result<(), Refusal>
     requires { bad_inner inner ≡ false }
     ensures { result ≡ judged (compact_state (state_of inner) table.0 (new_of new) taken.now) }
 {
     if !snapshot::tables::holds(&inner.tables.ids, inner.tables.count, table) {
-        return Verdict::Refused(Refusal::TableNotLive(0));
+        return Err(Refusal::TableNotLive(0));
     }
     if !taken::shown(
         &inner.rowsets.tables,
@@ -173,10 +173,10 @@ fn standing(inner: VersionManagerInner, table: TableNo, new: NewRowset, taken: &
         table,
         taken,
     ) {
-        return Verdict::Refused(Refusal::PairNotShown(0));
+        return Err(Refusal::PairNotShown(0));
     }
     if new.undrawn(inner.next.rowset) {
-        return Verdict::Refused(Refusal::IdNotDrawn(0));
+        return Err(Refusal::IdNotDrawn(0));
     }
     if new.held(
         &inner.rowsets.tables,
@@ -184,24 +184,24 @@ fn standing(inner: VersionManagerInner, table: TableNo, new: NewRowset, taken: &
         inner.rowsets.count,
         table,
     ) {
-        return Verdict::Refused(Refusal::StillHeld(0));
+        return Err(Refusal::StillHeld(0));
     }
     if LAST_EPOCH <= inner.epoch {
-        return Verdict::Refused(Refusal::EpochsFull);
+        return Err(Refusal::EpochsFull);
     }
     if new.full(inner.rowsets.count) {
-        return Verdict::Refused(Refusal::HeldFull(0));
+        return Err(Refusal::HeldFull(0));
     }
-    Verdict::Accepted
+    Ok(())
 }
 
 // 23, 27, 9, for an append of `size` bytes and a lent buffer of `room`.
-fn ending(inner: VersionManagerInner, table: TableNo, size: usize, room: usize) -> Verdict
+fn ending(inner: VersionManagerInner, table: TableNo, size: usize, room: usize) -> Result<(), Refusal>
     requires { bad_inner inner ≡ false }
     ensures { result ≡ judged (compact_last (state_of inner) table.0 size room) }
 {
     if LONGEST_MANIFEST - inner.manifest < size {
-        return Verdict::Refused(Refusal::ManifestFull);
+        return Err(Refusal::ManifestFull);
     }
     if !locked(
         &inner.tables.ids,
@@ -209,12 +209,12 @@ fn ending(inner: VersionManagerInner, table: TableNo, size: usize, room: usize) 
         inner.tables.count,
         table,
     ) {
-        return Verdict::Refused(Refusal::LockNotHeld);
+        return Err(Refusal::LockNotHeld);
     }
     if room < size {
-        return Verdict::Refused(Refusal::OutputTooShort);
+        return Err(Refusal::OutputTooShort);
     }
-    Verdict::Accepted
+    Ok(())
 }
 
 // The lines: `A` for the new rowset, `W` for the marked vectors, `D` for the taken rowsets.
@@ -271,7 +271,7 @@ pub fn compact(
         return table::refused(Refusal::TooManyOperations(0));
     }
     let verdict = standing(inner, table, new, taken);
-    if !verdict.accepted() {
+    if verdict.is_err() {
         return Made { verdict, length: 0 };
     }
     let length = put_lines(

@@ -7,6 +7,7 @@ use native.Mathlib.Omega.{arith}
 use lib.Dec.{leb, eqb}
 use lib.ListN.{length, get_or, length-map}
 use borrow.Author.Tests.{eq-eqb, ne_eqb, lt-ltb, le-ltb}
+use Rattle.std.specs.Prelude.{Ok, Err}
 use Rattle.lists.specs.Keyed.{keep, has}
 use Rattle.lists.specs.Written.{over}
 use Rattle.lists.proofs.Tests.{by_cases}
@@ -15,7 +16,6 @@ use Rattle.ids.specs.Ids.{is_id32}
 use Rattle.ids.specs.Limits.{most_held}
 use Rattle.ids.specs.declared.refusal.Refusal.{Refusal}
 use Rattle.ids.specs.declared.refusal.Refusal.TheVariants.{Malformed, WrongCount, OutputTooShort, TableNotLive}
-use Rattle.ids.specs.declared.refusal.Verdict.TheVariants.{Accepted, Refused}
 use Rattle.ids.specs.Verdicts.{judged}
 use Rattle.columns.specs.Rows.{rows, column, across, plain}
 use Rattle.columns.proofs.Rows.{rows-length}
@@ -26,7 +26,6 @@ use Rattle.snapshot.proofs.TableRows.{has-tables}
 use Rattle.version_state.specs.declared.VersionManagerInner.{VersionManagerInner}
 use Rattle.version_state.specs.State.{state_of}
 use Rattle.operations.specs.Judge.{is_live}
-use Rattle.compactor.specs.declared.SelectAnswer.TheVariants.{Chosen, Refused as NotChosen}
 use Rattle.compactor.specs.Selection.{Sized, taken_on, taken, compacted, sized, rowsets_now, selected}
 use Rattle.compactor.specs.Places.{Took}
 use Rattle.compactor.specs.Says.{select_rules, SelectIs}
@@ -109,27 +108,27 @@ module _ (m : VersionManagerInner) (t target : ℕ) (ns : List ℕ) where
   live_here b h = h ∙ sym (has-tables m.tables.ids m.tables.shapes m.tables.lengths m.tables.names m.tables.locked m.tables.count (t ∷ []))
 
   module _ (out : List ℕ) where
-    refuses : (k : Refusal) → judged (select_rules (state_of m) t target ns (length out)) ≡ Refused k → SelectIs (state_of m) t target ns out (NotChosen k) out
+    refuses : (k : Refusal) → judged (select_rules (state_of m) t target ns (length out)) ≡ Err k → SelectIs (state_of m) t target ns out (Err k) out
     refuses k h = record { answer = rw h; rowsets = rw h }
 
-    pub not-id : not (is_id32 t) ≡ true → SelectIs (state_of m) t target ns out (NotChosen (Malformed 0)) out
+    pub not-id : not (is_id32 t) ≡ true → SelectIs (state_of m) t target ns out (Err (Malformed 0)) out
     not-id h = refuses (Malformed 0) (rw h)
 
     module _ (h : not (is_id32 t) ≡ false) where
-      pub wrong-count : (length ns ≡ length (rowsets_now t (state_of m)) → ⊥) → SelectIs (state_of m) t target ns out (NotChosen WrongCount) out
+      pub wrong-count : (length ns ≡ length (rowsets_now t (state_of m)) → ⊥) → SelectIs (state_of m) t target ns out (Err WrongCount) out
       wrong-count u = refuses WrongCount (rw (h, ne_eqb (length ns) (length (rowsets_now t (state_of m))) u))
 
       module _ (u : length ns ≡ length (rowsets_now t (state_of m))) where
-        pub not_live : not (is_live t (state_of m)) ≡ true → SelectIs (state_of m) t target ns out (NotChosen (TableNotLive 0)) out
+        pub not_live : not (is_live t (state_of m)) ≡ true → SelectIs (state_of m) t target ns out (Err (TableNotLive 0)) out
         not_live v = refuses (TableNotLive 0) (rw (h, eq-eqb (length ns) (length (rowsets_now t (state_of m))) u, v))
 
         module _ (v : not (is_live t (state_of m)) ≡ false) where
-          pub no_room : length out < length (selected t target ns (state_of m)) → SelectIs (state_of m) t target ns out (NotChosen OutputTooShort) out
+          pub no_room : length out < length (selected t target ns (state_of m)) → SelectIs (state_of m) t target ns out (Err OutputTooShort) out
           no_room w = refuses OutputTooShort (rw (h, eq-eqb (length ns) (length (rowsets_now t (state_of m))) u, v, lt-ltb (length out) (length (selected t target ns (state_of m))) w))
 
           pub chooses : length (selected t target ns (state_of m)) ≤ length out → (n : ℕ) (out' : List ℕ) → n ≡ length (selected t target ns (state_of m)) → out' ≡ over (selected t target ns (state_of m)) out
-              → SelectIs (state_of m) t target ns out (Chosen n) out'
+              → SelectIs (state_of m) t target ns out (Ok n) out'
           chooses w n out' x y =
-              let a : judged (select_rules (state_of m) t target ns (length out)) ≡ Accepted =
+              let a : judged (select_rules (state_of m) t target ns (length out)) ≡ Ok tt =
               rw (h, eq-eqb (length ns) (length (rowsets_now t (state_of m))) u, v, le-ltb (length out) (length (selected t target ns (state_of m))) w) in
               record { answer = rw (a, x); rowsets = rw a y }

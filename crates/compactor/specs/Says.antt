@@ -1,22 +1,22 @@
 -- What a selection of a state that 29 let pass is: its verdict, its answer and the lent slice. Assumes nothing.
-use Rattle.std.specs.Prelude.{◌≡◌, not, List, [], ◌∷◌, ℕ, ltb, eqb, length}
+use Rattle.std.specs.Prelude.{◌≡◌, not, List, [], ◌∷◌, ℕ, ltb, eqb, length, Ok, Err, Result}
 use Rattle.lists.specs.Written.{over}
 use Rattle.ids.specs.Ids.{is_id32}
+use Rattle.ids.specs.declared.refusal.Refusal.{Refusal}
 use Rattle.ids.specs.declared.refusal.Refusal.TheVariants.{Malformed, WrongCount, OutputTooShort, TableNotLive}
-use Rattle.ids.specs.declared.refusal.Verdict.{Verdict}
-use Rattle.ids.specs.declared.refusal.Verdict.TheVariants.{Accepted, Refused}
-use Rattle.ids.specs.Verdicts.{Rule, ◌⇒◌, judged}
+use Rattle.ids.specs.Verdicts.{Rule, ◌⇒◌, judged, Verdict}
 use Rattle.ids.specs.Answers.{Told, told, after}
 use Rattle.version_state.specs.State.{State}
 use Rattle.operations.specs.Judge.{is_live}
-use Rattle.compactor.specs.declared.SelectAnswer.{SelectAnswer}
-use Rattle.compactor.specs.declared.SelectAnswer.TheVariants.{Chosen, Refused as NotChosen}
 use Rattle.compactor.specs.Selection.{rowsets_now, selected}
 
--- accepted: how many rowsets are to be compacted
+-- how many rowsets are to be compacted
+abbrev pub SelectAnswer : Type 0
+SelectAnswer = Result ℕ Refusal
+
 abbrev pub select_told : SelectAnswer → Told
-select_told (Chosen n) = told Accepted (n ∷ [])
-select_told (NotChosen k) = told (Refused k) []
+select_told (Ok n) = told (Ok tt) (n ∷ [])
+select_told (Err k) = told (Err k) []
 
 -- selection among the rowsets of table t of s, their sizes lent as ns
 module _ (s : State) (t target : ℕ) (ns : List ℕ) where

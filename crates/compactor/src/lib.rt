@@ -20,13 +20,6 @@ use ids::refusal::Refusal;
 use snapshot::held;
 use version_state::VersionManagerInner;
 
-#[derive(Clone, Copy)]
-pub enum SelectAnswer {
-    // How many rowsets are to be compacted.
-    Chosen(usize),
-    Refused(Refusal),
-}
-
 // The laws of what is taken.
 pub fn holds()
     ensures { TakenLaws }
@@ -96,19 +89,19 @@ fn compacted(taken: usize) -> usize
     taken
 }
 
-// The state has passed 29.
+// Answers how many rowsets are to be compacted. The state has passed 29.
 pub fn select(
     inner: VersionManagerInner,
     table: TableNo,
     target: u64,
     sizes: &[u64],
     out: &mut [u32],
-) -> SelectAnswer
+) -> Result<usize, Refusal>
     requires { bad_inner inner ≡ false }
     ensures { SelectIs (state_of inner) table.0 target sizes.now out.old result out.new }
 {
     if !table.is_id() {
-        return SelectAnswer::Refused(Refusal::Malformed(0));
+        return Err(Refusal::Malformed(0));
     }
     let mut places = [0; MOST_HELD];
     let shown = places_of(
@@ -122,16 +115,16 @@ pub fn select(
         &mut places,
     );
     if sizes.len() != shown {
-        return SelectAnswer::Refused(Refusal::WrongCount);
+        return Err(Refusal::WrongCount);
     }
     if !snapshot::tables::holds(&inner.tables.ids, inner.tables.count, table) {
-        return SelectAnswer::Refused(Refusal::TableNotLive(0));
+        return Err(Refusal::TableNotLive(0));
     }
     let taken = take(&mut places, sizes, target);
     let count = compacted(taken);
     if out.len() < count {
-        return SelectAnswer::Refused(Refusal::OutputTooShort);
+        return Err(Refusal::OutputTooShort);
     }
     held::write(&inner.rowsets.rowsets, &places, count, out);
-    SelectAnswer::Chosen(count)
+    Ok(count)
 }

@@ -1,6 +1,5 @@
 -- The specification's number (0 where accepted), place and values of each answer. Assumes nothing.
-use Rattle.std.specs.Prelude.{ℕ, ◌+◌, [], ◌∷◌, length}
-use Rattle.ids.specs.declared.refusal.Verdict.TheVariants.{Accepted, Refused}
+use Rattle.std.specs.Prelude.{ℕ, ◌+◌, [], ◌∷◌, length, Ok, Err}
 use Rattle.ids.specs.Answers.{Told, told}
 use Rattle.delete_vector.specs.Records.{Records, Rows, Bad}
 use Rattle.delete_vector.specs.declared.file.Scanned.{Scanned}
@@ -20,17 +19,17 @@ scanned_of n (Rows rows) = Whole (n + length rows)
 scanned_of n (Bad place) = BadAt place
 
 abbrev pub written_told : Written → Told
-written_told (Bytes n) = told Accepted (n ∷ [])
-written_told (NotWritten r) = told (Refused r) []
+written_told (Bytes n) = told (Ok tt) (n ∷ [])
+written_told (NotWritten r) = told (Err r) []
 
 abbrev pub loaded_told : Loaded → Told
-loaded_told (Loads n) = told Accepted (n ∷ [])
-loaded_told (NotLoaded r) = told (Refused r) []
+loaded_told (Loads n) = told (Ok tt) (n ∷ [])
+loaded_told (NotLoaded r) = told (Err r) []
 
 abbrev pub held_told : Held → Told
-held_told (Holds n) = told Accepted (n ∷ [])
-held_told (NotHeld r) = told (Refused r) []
+held_told (Holds n) = told (Ok tt) (n ∷ [])
+held_told (NotHeld r) = told (Err r) []
 
 abbrev pub masked_told : Masked → Told
-masked_told Cleared = told Accepted []
-masked_told (NotMasked r) = told (Refused r) []
+masked_told Cleared = told (Ok tt) []
+masked_told (NotMasked r) = told (Err r) []

@@ -9,13 +9,13 @@ use lib.Dec.{leb, ltb}
 use lib.ListN.{length, take, get_or, set, length-map, get_or-map}
 use lib.Seq.{take-suc, take-suc-set, take_all}
 use borrow.Author.Tests.{leb-true, leb-false}
+use Rattle.std.specs.Prelude.{Err}
 use Rattle.lists.proofs.Tests.{by_cases}
 use Rattle.lists.proofs.Views.{map-take, map-set}
 use Rattle.ids.specs.declared.SecondaryRowHandler.{SecondaryRowHandler}
 use Rattle.ids.specs.declared.refusal.Refusal.{Refusal}
 use Rattle.ids.specs.declared.refusal.Refusal.TheVariants.{BadManager, Malformed}
-use Rattle.ids.specs.declared.refusal.Verdict.{Verdict}
-use Rattle.ids.specs.declared.refusal.Verdict.TheVariants.{Refused}
+use Rattle.ids.specs.Verdicts.{Verdict}
 use Rattle.ids.specs.Answers.{Told}
 use Rattle.ids.specs.Names.{longest_name}
 use Rattle.text.specs.Name.{is_name}
@@ -23,8 +23,7 @@ use Rattle.manifest.specs.Operations.{Operation}
 use Rattle.transaction.specs.Groups.{handle_of}
 use Rattle.transaction.specs.Says.{most_handles}
 use Rattle.version_manager.specs.declared.VersionManager.{VersionManager}
-use Rattle.version_manager.specs.declared.Created.{Created}
-use Rattle.version_manager.specs.declared.Committed.{Committed}
+use Rattle.version_manager.specs.Answered.{Committed, Created}
 use Rattle.version_manager.specs.Managers.{bad_manager}
 use Rattle.version_manager.specs.Made.{MadeSays}
 use Rattle.version_manager.specs.Create.{create_verdict, CreateSays}
@@ -33,9 +32,9 @@ use Rattle.host.specs.Arguments.{name_in, handle_in}
 
 -- where the refusal is the same, what was to be committed makes no difference
 refused-alike : (v w : Verdict) (k : Refusal) (os ps : List Operation) (is js : List ℕ) (m : VersionManager) (out : List ℕ) (t : Told) (n : VersionManager) (out' : List ℕ)
-    → v ≡ Refused k → w ≡ Refused k → MadeSays v os is m out t n out' → MadeSays w ps js m out t n out'
+    → v ≡ Err k → w ≡ Err k → MadeSays v os is m out t n out' → MadeSays w ps js m out t n out'
 refused-alike v w k os ps is js m out t n out' e f s =
-    let z : MadeSays (Refused k) os is m out t n out' = subst (λ (d : Verdict). MadeSays d os is m out t n out') e s in
+    let z : MadeSays (Err k) os is m out t n out' = subst (λ (d : Verdict). MadeSays d os is m out t n out') e s in
     subst (λ (d : Verdict). MadeSays d ps js m out t n out') (sym f) (record { answer = z.answer; manager = z.manager; bytes = z.bytes })
 
 no_name : (name : List ℕ) → leb (length name) longest_name ≡ false → is_name name ≡ false

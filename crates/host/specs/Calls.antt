@@ -1,23 +1,14 @@
 -- What each call over the border promises: the entry point's own proposition, told in numbers. Assumes nothing.
 use Rattle.std.specs.Prelude.{Bool, List, [], ℕ, length}
-use Rattle.ids.specs.declared.refusal.Verdict.{Verdict}
+use Rattle.ids.specs.Verdicts.{Verdict}
 use Rattle.ids.specs.Answers.{told}
 use Rattle.pins.specs.declared.PinBook.{PinBook}
 use Rattle.commit.specs.Lent.{operations_in}
-use Rattle.show.specs.declared.ShowAnswer.{ShowAnswer}
-use Rattle.show.specs.Says.{show_told}
+use Rattle.show.specs.Says.{show_told, ShowAnswer}
 use Rattle.transaction.specs.declared.Handles.{Handles}
-use Rattle.compactor.specs.declared.SelectAnswer.{SelectAnswer}
-use Rattle.compactor.specs.Says.{select_told}
+use Rattle.compactor.specs.Says.{select_told, SelectAnswer}
 use Rattle.version_manager.specs.declared.VersionManager.{VersionManager}
-use Rattle.version_manager.specs.declared.RowsetAnswer.{RowsetAnswer}
-use Rattle.version_manager.specs.declared.VectorAnswer.{VectorAnswer}
-use Rattle.version_manager.specs.declared.GroupAnswer.{GroupAnswer}
-use Rattle.version_manager.specs.declared.CommitAnswer.{CommitAnswer}
-use Rattle.version_manager.specs.declared.CreateAnswer.{CreateAnswer}
-use Rattle.version_manager.specs.declared.VacuumAnswer.{VacuumAnswer}
-use Rattle.version_manager.specs.declared.CheckpointAnswer.{CheckpointAnswer}
-use Rattle.version_manager.specs.declared.ReportAnswer.{ReportAnswer}
+use Rattle.version_manager.specs.Answered.{RowsetAnswer, VectorAnswer, GroupAnswer, CommitAnswer, CreateAnswer, VacuumAnswer, CheckpointAnswer, ReportAnswer}
 use Rattle.version_manager.specs.Group.{group_told, GroupSays}
 use Rattle.version_manager.specs.Commit.{commit_told, CommitSays}
 use Rattle.version_manager.specs.Create.{create_told, CreateSays}
@@ -30,11 +21,8 @@ use Rattle.version_manager.specs.Show.{ShowTablesSays, ShowPairsSays, ShowVector
 use Rattle.version_manager.specs.Lock.{LockSays, UnlockSays}
 use Rattle.version_manager.specs.Select.{SelectSays}
 use Rattle.version_manager.specs.Draw.{rowset_told, vector_told, DrawRowsetSays, DrawVectorSays}
-use Rattle.pinning.specs.declared.PinAnswer.{PinAnswer}
-use Rattle.pinning.specs.declared.UnpinAnswer.{UnpinAnswer}
-use Rattle.pinning.specs.Says.{pin_told, unpin_told, PinSays, UnpinSays}
-use Rattle.storage.specs.declared.ReopenAnswer.{ReopenAnswer}
-use Rattle.storage.specs.Reopen.{reopen_told, ReopenSays}
+use Rattle.pinning.specs.Says.{pin_told, unpin_told, PinSays, UnpinSays, PinAnswer, UnpinAnswer}
+use Rattle.storage.specs.Reopen.{reopen_told, ReopenSays, ReopenAnswer}
 use Rattle.delete_vector.specs.declared.Written.{Written}
 use Rattle.delete_vector.specs.declared.Loaded.{Loaded}
 use Rattle.delete_vector.specs.declared.Held.{Held}

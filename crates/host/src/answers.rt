@@ -1,5 +1,5 @@
 // Each answer of the library as numbers.
-ghost use Rattle.std.specs.Prelude.{◌≡◌, [], ◌∷◌};
+ghost use Rattle.std.specs.Prelude.{◌≡◌, [], ◌∷◌, Ok, Err};
 ghost use Rattle.ids.specs.Answers.{told};
 ghost use Rattle.version_manager.specs.Commit.{commit_told};
 ghost use Rattle.version_manager.specs.Create.{create_told};
@@ -15,16 +15,11 @@ ghost use Rattle.storage.specs.Reopen.{reopen_told};
 ghost use Rattle.delete_vector.specs.Answers.{written_told, loaded_told, held_told, masked_told};
 ghost use Rattle.host.specs.Numbers.{said_by};
 
-use compactor::SelectAnswer;
 use delete_vector::{Held, Loaded, Masked, Written};
-use ids::refusal::{Refusal, Verdict};
-use pinning::{PinAnswer, UnpinAnswer};
-use show::ShowAnswer;
-use storage::ReopenAnswer;
-use version_manager::{
-    CheckpointAnswer, CommitAnswer, CreateAnswer, GroupAnswer, ReportAnswer, RowsetAnswer,
-    VacuumAnswer, VectorAnswer,
-};
+use ids::refusal::Refusal;
+use ids::{RowsetNo, VectorNo};
+use pinning::Unpinned;
+use version_manager::{Appended, NewTable, NewVectors, TakenBack};
 
 // The refusal's number, or 0 where the call was accepted; the refusal's place; and the first `count` values of an accepted call.
 #[repr(C)]
@@ -37,7 +32,7 @@ pub struct Answer {
 }
 
 fn refused(why: Refusal) -> Answer
-    ensures { said_by result ≡ told (Verdict.Refused why) [] }
+    ensures { said_by result ≡ told (Err why) [] }
 {
     Answer {
         number: why.number(),
@@ -48,7 +43,7 @@ fn refused(why: Refusal) -> Answer
 }
 
 fn none() -> Answer
-    ensures { said_by result ≡ told Verdict.Accepted [] }
+    ensures { said_by result ≡ told (Ok tt) [] }
 {
     Answer {
         number: 0,
@@ -59,7 +54,7 @@ fn none() -> Answer
 }
 
 fn one(first: u64) -> Answer
-    ensures { said_by result ≡ told Verdict.Accepted (first ∷ []) }
+    ensures { said_by result ≡ told (Ok tt) (first ∷ []) }
 {
     Answer {
         number: 0,
@@ -70,7 +65,7 @@ fn one(first: u64) -> Answer
 }
 
 fn two(first: u64, second: u64) -> Answer
-    ensures { said_by result ≡ told Verdict.Accepted (first ∷ second ∷ []) }
+    ensures { said_by result ≡ told (Ok tt) (first ∷ second ∷ []) }
 {
     Answer {
         number: 0,
@@ -81,7 +76,7 @@ fn two(first: u64, second: u64) -> Answer
 }
 
 fn three(first: u64, second: u64, third: u64) -> Answer
-    ensures { said_by result ≡ told Verdict.Accepted (first ∷ second ∷ third ∷ []) }
+    ensures { said_by result ≡ told (Ok tt) (first ∷ second ∷ third ∷ []) }
 {
     Answer {
         number: 0,
@@ -112,130 +107,134 @@ fn flag(yes: bool) -> u64
     0
 }
 
-pub fn drawn_rowset(answer: RowsetAnswer) -> Answer
+pub fn drawn_rowset(answer: Result<RowsetNo, Refusal>) -> Answer
     ensures { said_by result ≡ rowset_told answer }
 {
     match answer {
-        RowsetAnswer::Id(id) => one(wide(id.0)),
-        RowsetAnswer::Refused(why) => refused(why),
+        Ok(id) => one(wide(id.0)),
+        Err(why) => refused(why),
     }
 }
 
-pub fn drawn_vector(answer: VectorAnswer) -> Answer
+pub fn drawn_vector(answer: Result<VectorNo, Refusal>) -> Answer
     ensures { said_by result ≡ vector_told answer }
 {
     match answer {
-        VectorAnswer::Id(id) => one(id.0),
-        VectorAnswer::Refused(why) => refused(why),
+        Ok(id) => one(id.0),
+        Err(why) => refused(why),
     }
 }
 
-pub fn grouped(answer: GroupAnswer) -> Answer
+pub fn grouped(answer: Result<NewVectors, Refusal>) -> Answer
     ensures { said_by result ≡ group_told answer }
 {
     match answer {
-        GroupAnswer::Vectors(n, first) => two(size(n), first.0),
-        GroupAnswer::Refused(why) => refused(why),
+        Ok(NewVectors { count, first }) => two(size(count), first.0),
+        Err(why) => refused(why),
     }
 }
 
-pub fn committed(answer: CommitAnswer) -> Answer
+pub fn committed(answer: Result<Appended, Refusal>) -> Answer
     ensures { said_by result ≡ commit_told answer }
 {
     match answer {
-        CommitAnswer::Appended(epoch, n) => two(wide(epoch), size(n)),
-        CommitAnswer::Refused(why) => refused(why),
+        Ok(Appended { epoch, length }) => two(wide(epoch), size(length)),
+        Err(why) => refused(why),
     }
 }
 
-pub fn created(answer: CreateAnswer) -> Answer
+pub fn created(answer: Result<NewTable, Refusal>) -> Answer
     ensures { said_by result ≡ create_told answer }
 {
     match answer {
-        CreateAnswer::Table(table, epoch, n) => three(wide(table.0), wide(epoch), size(n)),
-        CreateAnswer::Refused(why) => refused(why),
+        Ok(NewTable {
+            table,
+            epoch,
+            length,
+        }) => three(wide(table.0), wide(epoch), size(length)),
+        Err(why) => refused(why),
     }
 }
 
-pub fn vacuumed(answer: VacuumAnswer) -> Answer
+pub fn vacuumed(answer: Result<usize, Refusal>) -> Answer
     ensures { said_by result ≡ vacuum_told answer }
 {
     match answer {
-        VacuumAnswer::Listed(n) => one(size(n)),
-        VacuumAnswer::Refused(why) => refused(why),
+        Ok(n) => one(size(n)),
+        Err(why) => refused(why),
     }
 }
 
-pub fn checkpointed(answer: CheckpointAnswer) -> Answer
+pub fn checkpointed(answer: Result<usize, Refusal>) -> Answer
     ensures { said_by result ≡ checkpoint_told answer }
 {
     match answer {
-        CheckpointAnswer::Rewritten(n) => one(size(n)),
-        CheckpointAnswer::Refused(why) => refused(why),
+        Ok(n) => one(size(n)),
+        Err(why) => refused(why),
     }
 }
 
-pub fn reported(answer: ReportAnswer) -> Answer
+pub fn reported(answer: Result<TakenBack, Refusal>) -> Answer
     ensures { said_by result ≡ report_told answer }
 {
     match answer {
-        ReportAnswer::TakenBack(epoch, n) => two(wide(epoch), size(n)),
-        ReportAnswer::Refused(why) => refused(why),
+        Ok(TakenBack { epoch, manifest }) => two(wide(epoch), size(manifest)),
+        Err(why) => refused(why),
     }
 }
 
-pub fn shown(answer: ShowAnswer) -> Answer
+pub fn shown(answer: Result<usize, Refusal>) -> Answer
     ensures { said_by result ≡ show_told answer }
 {
     match answer {
-        ShowAnswer::Shown(n) => one(size(n)),
-        ShowAnswer::Refused(why) => refused(why),
+        Ok(n) => one(size(n)),
+        Err(why) => refused(why),
     }
 }
 
-pub fn selected(answer: SelectAnswer) -> Answer
+pub fn selected(answer: Result<usize, Refusal>) -> Answer
     ensures { said_by result ≡ select_told answer }
 {
     match answer {
-        SelectAnswer::Chosen(n) => one(size(n)),
-        SelectAnswer::Refused(why) => refused(why),
+        Ok(n) => one(size(n)),
+        Err(why) => refused(why),
     }
 }
 
 // Of a call that has no values.
-pub fn relocked(answer: Verdict) -> Answer
+pub fn relocked(answer: Result<(), Refusal>) -> Answer
     ensures { said_by result ≡ told answer [] }
 {
     match answer {
-        Verdict::Accepted => none(),
-        Verdict::Refused(why) => refused(why),
+        Ok(()) => none(),
+        Err(why) => refused(why),
     }
 }
 
-pub fn pinned(answer: PinAnswer) -> Answer
+pub fn pinned(answer: Result<u32, Refusal>) -> Answer
     ensures { said_by result ≡ pin_told answer }
 {
     match answer {
-        PinAnswer::Pinned(epoch) => one(wide(epoch)),
-        PinAnswer::Refused(why) => refused(why),
+        Ok(epoch) => one(wide(epoch)),
+        Err(why) => refused(why),
     }
 }
 
-pub fn unpinned(answer: UnpinAnswer) -> Answer
+pub fn unpinned(answer: Result<Unpinned, Refusal>) -> Answer
     ensures { said_by result ≡ unpin_told answer }
 {
     match answer {
-        UnpinAnswer::Unpinned(due, ready) => two(flag(due), size(ready)),
-        UnpinAnswer::Refused(why) => refused(why),
+        Ok(Unpinned { due, ready }) => two(flag(due), size(ready)),
+        Err(why) => refused(why),
     }
 }
 
-pub fn reopened(answer: ReopenAnswer) -> Answer
+pub fn reopened(answer: Result<usize, Refusal>) -> Answer
     ensures { said_by result ≡ reopen_told answer }
 {
     match answer {
-        ReopenAnswer::Rewritten(n) => one(size(n)),
-        ReopenAnswer::Refused(why) => refused(why),
+        Ok(n) => one(size(n)),
+        Err(why) => refused(why),
     }
 }
 

@@ -3,10 +3,10 @@ use mathlib.Core.Path.{◌≡◌, refl, sym, ap, subst, ◌∙◌}
 use mathlib.Core.Bool.{true}
 use mathlib.Core.List.{List, [], ◌∷◌}
 use borrow.Author.Tests.{eq-eqb}
+use Rattle.std.specs.Prelude.{Err}
 use Rattle.lists.specs.Keyed.{all_of, ascending}
 use Rattle.ids.specs.declared.refusal.Refusal.TheVariants.{PinAtEpochZero}
-use Rattle.ids.specs.declared.refusal.Verdict.{Verdict}
-use Rattle.ids.specs.declared.refusal.Verdict.TheVariants.{Refused}
+use Rattle.ids.specs.Verdicts.{Verdict}
 use Rattle.ids.specs.Answers.{told}
 use Rattle.version_state.specs.State.{State}
 use Rattle.pins.specs.Book.{PinEntry, by_place, valid_pin}
@@ -18,7 +18,7 @@ use Rattle.pinning.specs.Says.{current, pin_verdict}
 use Rattle.pinning.proofs.Says.{pin-10}
 use Rattle.log_book.specs.Pins.{PinCases}
 
-fresh-refused : (r : Opened) → FreshSays r → pin_verdict r.manager r.book ≡ Refused PinAtEpochZero
+fresh-refused : (r : Opened) → FreshSays r → pin_verdict r.manager r.book ≡ Err PinAtEpochZero
 fresh-refused r f =
     let q = sym f.book.pins in
     sym

@@ -1,6 +1,5 @@
 -- Entries on manifests: what a reopen of their bytes gives, and the manifest rewritten. Assumes nothing.
-use Rattle.std.specs.Prelude.{◌≡◌, false, List, [], ◌∷◌, ◌++◌, ℕ}
-use Rattle.ids.specs.Results.{given}
+use Rattle.std.specs.Prelude.{◌≡◌, false, List, [], ◌∷◌, ◌++◌, ℕ, Ok}
 use Rattle.manifest.specs.Split.{joined}
 use Rattle.snapshot.specs.Tables.{TableEntry}
 use Rattle.version_state.specs.State.{State}
@@ -57,15 +56,15 @@ merged =
 
 pub record ManifestCases : Type 0 where
   -- of no bytes: the empty store at epoch 1, and a manifest of next ids alone
-  pub nothing : reopen_of [] longest_rewritten ≡ given empty
+  pub nothing : reopen_of [] longest_rewritten ≡ Ok empty
   pub nothing_text : rewritten_of empty ≡ 66 ∷ 10 ∷ 78 ∷ 44 ∷ 48 ∷ 44 ∷ 48 ∷ 44 ∷ 48 ∷ 10 ∷ 69 ∷ 10 ∷ []
   -- two whole frames, the second of which exchanges a rowset for another, and one that never ends
   pub frames :
       reopen_of (joined (begin ∷ create ∷ add0 ∷ end ∷ begin ∷ add1 ∷ delete0 ∷ end ∷ begin ∷ delete1 ∷ [])) longest_rewritten
-      ≡ given merged
+      ≡ Ok merged
   pub frames_text : rewritten_of merged
       ≡ 66 ∷ 10 ∷ 78 ∷ 44 ∷ 49 ∷ 44 ∷ 50 ∷ 44 ∷ 48 ∷ 10 ∷ 84 ∷ 44 ∷ 48 ∷ 44 ∷ 55 ∷ 44 ∷ 115 ∷ 108 ∷ 111 ∷ 116 ∷ 115 ∷ 10 ∷ 65 ∷ 44 ∷ 48 ∷ 44 ∷ 49 ∷ 10 ∷ 69 ∷ 10 ∷ []
   -- a second `B` drops the create before it
-  pub begun_again : reopen_of (joined (begin ∷ create ∷ begin ∷ end ∷ [])) longest_rewritten ≡ given empty
+  pub begun_again : reopen_of (joined (begin ∷ create ∷ begin ∷ end ∷ [])) longest_rewritten ≡ Ok empty
   -- an `E` that no newline ends applies nothing
-  pub unended : reopen_of (joined (begin ∷ create ∷ []) ++ end) longest_rewritten ≡ given empty
+  pub unended : reopen_of (joined (begin ∷ create ∷ []) ++ end) longest_rewritten ≡ Ok empty

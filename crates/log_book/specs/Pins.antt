@@ -3,8 +3,7 @@ use Rattle.std.specs.Prelude.{◌≡◌, []}
 use Rattle.pins.specs.declared.PinBook.{PinBook}
 use Rattle.version_manager.specs.declared.Opened.{Opened}
 use Rattle.version_manager.specs.Managers.{FreshSays}
-use Rattle.pinning.specs.declared.PinAnswer.{PinAnswer}
-use Rattle.pinning.specs.Says.{pin_told, PinSays}
+use Rattle.pinning.specs.Says.{pin_told, PinSays, PinAnswer}
 
 pub record PinCases : Type 0 where
   -- what a pin of a fresh manager and its book answers

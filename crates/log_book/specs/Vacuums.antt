@@ -1,7 +1,5 @@
 -- Entries on deletions and pins, of every manager and book that stand for a state and its pins. Assumes nothing.
-use Rattle.std.specs.Prelude.{◌≡◌, false, List, [], ◌∷◌}
-use Rattle.ids.specs.declared.refusal.Verdict.TheVariants.{Accepted}
-use Rattle.ids.specs.Results.{given}
+use Rattle.std.specs.Prelude.{◌≡◌, false, List, [], ◌∷◌, Ok}
 use Rattle.manifest.specs.Operations.{create_table, add_rowset, delete_rowset}
 use Rattle.snapshot.specs.Entries.{Entry}
 use Rattle.version_state.specs.State.{State, start, Hands}
@@ -44,7 +42,7 @@ on2 = record { epoch = 2; count = 1 } ∷ []
 -- a manager that 29 lets pass: the vacuum of it, lent one place in each slice, is accepted, lists es and leaves s
 pub record Lists (m : VersionManager) (b : PinBook) (es : List Entry) (s : State) : Type 0 where
   pub passes : bad_manager m ≡ false
-  pub verdict : vacuum_verdict m b 1 1 ≡ Accepted
+  pub verdict : vacuum_verdict m b 1 1 ≡ Ok tt
   pub list : list_of (held_by m) b ≡ es
   pub leaves : vacuumed (bound_of (held_by m) b) (held_by m) ≡ s
 
@@ -54,9 +52,9 @@ Vacuum s l es t = (m : VersionManager) (b : PinBook) → Hands m.inner s → bad
 
 pub record VacuumCases : Type 0 where
   -- a pair is added at epoch 1 and pinned there, and deleted at 2
-  pub adds : commit_of (rowset_drawn start) 2 (create_table 0 7 slots ∷ add_rowset 0 0 ∷ []) 24 ≡ given one
+  pub adds : commit_of (rowset_drawn start) 2 (create_table 0 7 slots ∷ add_rowset 0 0 ∷ []) 24 ≡ Ok one
   pub pins : with_pin (place_on 1) [] ≡ on1
-  pub deletes : commit_of one 1 (delete_rowset 0 0 ∷ []) 12 ≡ given two
+  pub deletes : commit_of one 1 (delete_rowset 0 0 ∷ []) 12 ≡ Ok two
   -- the pin keeps it; without the pin it is listed, and once
   pub pinned : Vacuum two on1 [] two
   pub unpins : without_pin (place_on 1) on1 ≡ []

@@ -6,12 +6,12 @@ use Prim.Native.Nat.{ℕ, ◌≤◌, ◌<◌}
 use native.Mathlib.Omega.{arith}
 use lib.ListN.{length, length-map}
 use borrow.Author.Tests.{leb-false, eqb-true, not-false}
+use Rattle.std.specs.Prelude.{Ok}
 use Rattle.lists.specs.Keyed.{is_at, has}
 use Rattle.lists.proofs.Tests.{by_cases, clash}
 use Rattle.lists.proofs.Keyed.{All, all_map, all-put, all_keep, all-mapped, Ascending, ascending-put, ascending-keep, ascending-changed, length-keep, length-put}
 use Rattle.ids.specs.Ids.{largest32, Next, next}
 use Rattle.ids.specs.Limits.{most_tables, most_held}
-use Rattle.ids.specs.declared.refusal.Verdict.TheVariants.{Accepted}
 use Rattle.ids.specs.Verdicts.{judged}
 use Rattle.ids.proofs.Verdicts.{none-judged}
 use Rattle.text.specs.Name.{is_name}
@@ -146,7 +146,7 @@ pub record Fits (e : ℕ) (d : Edits) (s : State) : Type 0 where
   pub pairs : EntryFits e d.pairs s.pairs
   pub vectors : EntryFits e d.vectors s.vectors
 
-pub fits : (i e : ℕ) (o : Operation) (s : State) → judged (op_rules i e o s) ≡ Accepted → Fits e (edits_of o) s
+pub fits : (i e : ℕ) (o : Operation) (s : State) → judged (op_rules i e o s) ≡ Ok tt → Fits e (edits_of o) s
 fits i e (create_table t h n) s a =
     let p = none-judged (op_rules i e (create_table t h n) s) a in
     record { tables = (eqb-true t s.next_table (not-false _ p.1.0), p.1.1.0, leb-false most_tables (length s.tables) p.1.1.1.0); pairs = tt; vectors = tt }

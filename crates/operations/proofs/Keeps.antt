@@ -7,13 +7,12 @@ use native.Mathlib.Omega.{arith}
 use lib.Dec.{ltb}
 use lib.ListN.{length}
 use borrow.Author.Tests.{ltb-true, lt-ltb}
+use Rattle.std.specs.Prelude.{Ok, Err}
+use Rattle.std.specs.Result.{result_and}
 use Rattle.lists.specs.Keyed.{ascending}
 use Rattle.lists.proofs.Keyed.{All, all_map, all_of-all, all-all_of, ascend-to, ascend-from}
 use Rattle.ids.specs.Limits.{most_tables, most_held}
-use Rattle.ids.specs.declared.refusal.Verdict.{Verdict}
-use Rattle.ids.specs.declared.refusal.Verdict.TheVariants.{Accepted, Refused}
-use Rattle.ids.specs.Verdicts.{judged}
-use Rattle.ids.specs.Results.{given, onward}
+use Rattle.ids.specs.Verdicts.{judged, Verdict}
 use Rattle.manifest.specs.Operations.{Operation, well_formed}
 use Rattle.manifest.specs.Edits.{Edit, edits_of}
 use Rattle.columns.proofs.Rows.{rows-length}
@@ -63,7 +62,7 @@ pub record Short (s : State) : Type 0 where
   pub pairs : length s.pairs ≤ most_held
   pub vectors : length s.vectors ≤ most_held
 
-pub short-applied : (i e : ℕ) (o : Operation) (s : State) → judged (op_rules i e o s) ≡ Accepted → Short s → Short (applied e o s)
+pub short-applied : (i e : ℕ) (o : Operation) (s : State) → judged (op_rules i e o s) ≡ Ok tt → Short s → Short (applied e o s)
 short-applied i e o s a r =
     let d = edits_of o in
     let f = fits i e o s a in
@@ -121,10 +120,10 @@ module _ {h : Held} {c : Columns} (y : Ready h c) where
   unfolding step_of StepIs Turned Leaves
   turned-step i e o r d f t w z = rw f (go (judged (state_rules i e o (state_in h c))) refl t)
     where
-      go : (v : Verdict) → judged (state_rules i e o (state_in h c)) ≡ v → Leaves (onward v (given (applied e o (state_in h c)))) r.verdict (state_in r.held d)
-          → StepIs (onward v (given (applied e o (state_in h c)))) r d
-      go Accepted a k =
+      go : (v : Verdict) → judged (state_rules i e o (state_in h c)) ≡ v → Leaves (result_and v (Ok (applied e o (state_in h c)))) r.verdict (state_in r.held d)
+          → StepIs (result_and v (Ok (applied e o (state_in h c)))) r d
+      go (Ok _) a k =
           let s = state_in h c in
-          let j : judged (op_rules i e o s) ≡ Accepted = rw f a in
+          let j : judged (op_rules i e o s) ≡ Ok tt = rw f a in
           (k.0, k.1, ready_of r.held d (applied e o s) k.1 w z (short-applied i e o s j short) (ordered-applied e o s (record { tables = y.tables; pairs = y.pairs; vectors = y.vectors })) (below-applied e o s (all_of-all _ s.tables y.below)))
-      go (Refused x) a k = k
+      go (Err x) a k = k

@@ -1,11 +1,10 @@
 -- What a step over lent columns says. All here is internal. Assumes nothing.
-use Rattle.std.specs.Prelude.{◌≡◌, true, List, [], ◌∷◌, ℕ, ◌≤◌, ltb, length}
+use Rattle.std.specs.Prelude.{◌≡◌, true, List, [], ◌∷◌, ℕ, ◌≤◌, ltb, length, Result, Ok, Err}
+use Rattle.std.specs.Result.{result_and}
 use Rattle.lists.specs.Keyed.{all_of, ascending}
 use Rattle.ids.specs.Limits.{most_held}
-use Rattle.ids.specs.declared.refusal.Verdict.{Verdict}
-use Rattle.ids.specs.declared.refusal.Verdict.TheVariants.{Accepted, Refused}
-use Rattle.ids.specs.Verdicts.{judged}
-use Rattle.ids.specs.Results.{Result, refused, given, onward}
+use Rattle.ids.specs.declared.refusal.Refusal.{Refusal}
+use Rattle.ids.specs.Verdicts.{judged, Verdict}
 use Rattle.columns.specs.Rows.{rows, across, plain}
 use Rattle.manifest.specs.Operations.{Operation}
 use Rattle.snapshot.specs.Entries.{Entry, by_ids}
@@ -22,13 +21,13 @@ abbrev pub state_held : Held → (ℕ → List TableEntry) → (ℕ → List Ent
 state_held h ts ps vs = state_by h.epoch h.next (ts h.tables) (ps h.rowsets) (vs h.vectors) h.manifest
 
 -- the outcome is the verdict v; what is left, where it is accepted, is t
-unfoldable pub Leaves : Result State → Verdict → State → Type 0
-Leaves (given s) v t = (v ≡ Accepted) × (t ≡ s)
-Leaves (refused k) v t = v ≡ Refused k
+unfoldable pub Leaves : Result State Refusal → Verdict → State → Type 0
+Leaves (Ok s) v t = (v ≡ Ok tt) × (t ≡ s)
+Leaves (Err k) v t = v ≡ Err k
 
 -- a well-formed operation was judged on s, and applied where it is accepted
 unfoldable pub Turned : ℕ → ℕ → Operation → State → Stepped → State → Type 0
-Turned i e o s r t = Leaves (onward (judged (state_rules i e o s)) (given (applied e o s))) r.verdict t
+Turned i e o s r t = Leaves (result_and (judged (state_rules i e o s)) (Ok (applied e o s))) r.verdict t
 
 -- columns of most_held places
 abbrev pub Sized : List (List ℕ) → Type 0
@@ -51,6 +50,6 @@ pub record Ready (h : Held) (c : Columns) : Type 0 where
   pub below : all_of (λ t. ltb t.table (state_in h c).next_table) (state_in h c).tables ≡ true
 
 -- a step is accepted and the columns hold what is left, ready for the next, or it is refused
-unfoldable pub StepIs : Result State → Stepped → Columns → Type 0
-StepIs (given s) r c = (r.verdict ≡ Accepted) × (state_in r.held c ≡ s) × Ready r.held c
-StepIs (refused k) r c = r.verdict ≡ Refused k
+unfoldable pub StepIs : Result State Refusal → Stepped → Columns → Type 0
+StepIs (Ok s) r c = (r.verdict ≡ Ok tt) × (state_in r.held c ≡ s) × Ready r.held c
+StepIs (Err k) r c = r.verdict ≡ Err k

@@ -1,7 +1,7 @@
 // One operation of a commit after another: judged on the state that the ones before it left, and applied to it, in lent columns.
 #![tactic(auto)]
 
-ghost use Rattle.std.specs.Prelude.{◌≡◌, true};
+ghost use Rattle.std.specs.Prelude.{◌≡◌, true, Ok, Err};
 ghost use Rattle.manifest.specs.Operations.{operation_of, well_formed};
 ghost use Rattle.version_state.specs.Columns.{columns, state_in};
 ghost use Rattle.operations.specs.Laws.{JudgedAlike};
@@ -9,7 +9,7 @@ ghost use Rattle.operations.specs.Steps.{step_of};
 ghost use Rattle.operations.specs.Columns.{Ready, StepIs};
 
 use ids::limits::{MOST_HELD, MOST_TABLES, NAME_BYTES};
-use ids::refusal::{Refusal, Verdict};
+use ids::refusal::Refusal;
 use manifest::operation::{Change, EpochOp};
 use version_state::Held;
 
@@ -19,7 +19,7 @@ pub mod vectors;
 
 #[derive(Drop)]
 pub struct Stepped {
-    pub verdict: Verdict,
+    pub verdict: Result<(), Refusal>,
     pub held: Held,
 }
 
@@ -30,19 +30,19 @@ pub fn holds()
 
 // Internal, as is what follows.
 pub fn refused(held: Held, refusal: Refusal) -> Stepped
-    ensures { result.verdict ≡ Verdict.Refused refusal }
+    ensures { result.verdict ≡ Err refusal }
 {
     Stepped {
-        verdict: Verdict::Refused(refusal),
+        verdict: Err(refusal),
         held,
     }
 }
 
 pub fn accepted(held: Held) -> Stepped
-    ensures { (result.verdict ≡ Verdict.Accepted) × (result.held ≡ held) }
+    ensures { (result.verdict ≡ Ok tt) × (result.held ≡ held) }
 {
     Stepped {
-        verdict: Verdict::Accepted,
+        verdict: Ok(()),
         held,
     }
 }

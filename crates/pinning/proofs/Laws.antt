@@ -4,8 +4,8 @@ use mathlib.Core.Bool.{false}
 use mathlib.Core.List.{List}
 use Prim.Native.Nat.{ℕ, ◌+◌}
 use native.Mathlib.Omega.{arith}
-use Rattle.ids.specs.declared.refusal.Verdict.{Verdict}
-use Rattle.ids.specs.declared.refusal.Verdict.TheVariants.{Accepted, Refused}
+use Rattle.std.specs.Prelude.{Ok, Err}
+use Rattle.ids.specs.Verdicts.{Verdict}
 use Rattle.pins.specs.declared.PinBook.{PinBook}
 use Rattle.pins.specs.Book.{PinEntry, pins_of, place_on, bad_book, GoodBook, Keeps}
 use Rattle.pins.specs.Counts.{pins_at, left_on, with_pin, without_pin}
@@ -17,20 +17,20 @@ use Rattle.pinning.specs.Laws.{PinLaws}
 use Rattle.pinning.proofs.Says.{pinnable, unpinnable}
 
 -- an accepted pin leaves a good book
-pub pinned-good : (m : VersionManager) (b b' : PinBook) → pin_verdict m b ≡ Accepted → Keeps b' (with_pin (place_on (current m)) (pins_of b)) → GoodBook (current m) b'
+pub pinned-good : (m : VersionManager) (b b' : PinBook) → pin_verdict m b ≡ Ok tt → Keeps b' (with_pin (place_on (current m)) (pins_of b)) → GoodBook (current m) b'
 pinned-good m b b' a k =
     let p = pinnable m b a in
     good-recounted (current m) (place_on (current m)) (pins_at (place_on (current m)) (pins_of b) + 1) b b' p.first-epoch (omega arith) p.good k
 
-pub unpinned-good : (m : VersionManager) (e : ℕ) (b b' : PinBook) → unpin_verdict m e b ≡ Accepted → Keeps b' (without_pin (place_on e) (pins_of b)) → GoodBook (current m) b'
+pub unpinned-good : (m : VersionManager) (e : ℕ) (b b' : PinBook) → unpin_verdict m e b ≡ Ok tt → Keeps b' (without_pin (place_on e) (pins_of b)) → GoodBook (current m) b'
 unpinned-good m e b b' a k =
     let p = unpinnable m b e a in
     good-recounted (current m) (place_on e) (left_on (place_on e) (pins_of b)) b b' p.pins.first p.pins.last p.good k
 
 -- the book afterwards, of either verdict
-either_way : (d : Verdict) (c : ℕ) (b : PinBook) (l : List PinEntry) (b' : PinBook) → (d ≡ Accepted → Keeps b' l → GoodBook c b') → BookAfter d b l b' → bad_book c b ≡ false → bad_book c b' ≡ false
-either_way Accepted c b l b' f k h = book-good c b' (f refl k)
-either_way (Refused q) c b l b' f k h = rw k h
+either_way : (d : Verdict) (c : ℕ) (b : PinBook) (l : List PinEntry) (b' : PinBook) → (d ≡ Ok tt → Keeps b' l → GoodBook c b') → BookAfter d b l b' → bad_book c b ≡ false → bad_book c b' ≡ false
+either_way (Ok _) c b l b' f k h = book-good c b' (f refl k)
+either_way (Err q) c b l b' f k h = rw k h
 
 pub pin-laws : PinLaws
 pin-laws =

@@ -7,11 +7,11 @@ use native.Mathlib.Omega.{arith}
 use borrow.Author.Tests.{eq-eqb, ne_eqb, leb-false, eqb-false, not-false}
 use lib.Dec.{leb, eqb}
 use lib.ListN.{length}
+use Rattle.std.specs.Prelude.{Ok, Err}
+use Rattle.std.specs.Result.{result_and}
 use Rattle.ids.specs.declared.refusal.Refusal.{Refusal}
 use Rattle.ids.specs.declared.refusal.Refusal.TheVariants.{BadManager, BadPinBook, PinAtEpochZero, PinsFull, PinnedEpochsFull, EpochNotPinned}
-use Rattle.ids.specs.declared.refusal.Verdict.{Verdict}
-use Rattle.ids.specs.declared.refusal.Verdict.TheVariants.{Accepted, Refused}
-use Rattle.ids.specs.Verdicts.{Rule, ◌⇒◌, judged, or_else}
+use Rattle.ids.specs.Verdicts.{Rule, ◌⇒◌, judged, Verdict}
 use Rattle.ids.proofs.Verdicts.{judged-append, none-judged}
 use Rattle.version_state.specs.State.{Fit}
 use Rattle.version_manager.specs.Managers.{held_by, bad_manager}
@@ -24,8 +24,6 @@ use Rattle.pins.proofs.Facts.{good_book}
 use Rattle.pins.proofs.Counting.{Counted, counted, no_pins, place-had, pinned-after}
 use Rattle.vacuum.specs.Says.{list_of}
 use Rattle.version_manager.specs.declared.VersionManager.{VersionManager}
-use Rattle.pinning.specs.declared.PinAnswer.TheVariants as pin
-use Rattle.pinning.specs.declared.UnpinAnswer.TheVariants as unpin
 use Rattle.pinning.specs.Says.{current, pin_rules, pin_verdict, PinSays, unpin_rules, unpin_verdict, is_due, UnpinSays}
 
 module _ (m : VersionManager) (b : PinBook) where
@@ -33,30 +31,30 @@ module _ (m : VersionManager) (b : PinBook) where
   abbrev pub first_two : List Rule
   first_two = (bad_manager m ⇒ BadManager) ∷ (bad_book (current m) b ⇒ BadPinBook) ∷ []
 
-  pub two-passed : judged first_two ≡ Accepted → GoodBook (current m) b
+  pub two-passed : judged first_two ≡ Ok tt → GoodBook (current m) b
   two-passed h = good_book (current m) b (none-judged first_two h).1.0
 
   abbrev pin-rest : List Rule
   pin-rest = (eqb (current m) 0 ⇒ PinAtEpochZero) ∷ (pins_full (place_on (current m)) (pins_of b) ⇒ PinsFull) ∷ (places_full (place_on (current m)) (pins_of b) ⇒ PinnedEpochsFull) ∷ []
 
-  pin-split : pin_verdict m b ≡ or_else (judged first_two) (judged pin-rest)
+  pin-split : pin_verdict m b ≡ result_and (judged first_two) (judged pin-rest)
   pin-split = judged-append first_two pin-rest
 
-  pub pin-early : (k : Refusal) → judged first_two ≡ Refused k → pin_verdict m b ≡ Refused k
-  pin-early k h = pin-split ∙ ap (λ (v : Verdict). or_else v (judged pin-rest)) h
+  pub pin-early : (k : Refusal) → judged first_two ≡ Err k → pin_verdict m b ≡ Err k
+  pin-early k h = pin-split ∙ ap (λ (v : Verdict). result_and v (judged pin-rest)) h
 
   -- the rest over the numbers that a call has read
-  pub pin-late : (n : ℕ) → n ≡ pins_at (place_on (current m)) (pins_of b) → length (pins_of b) ≡ b.count → judged first_two ≡ Accepted
+  pub pin-late : (n : ℕ) → n ≡ pins_at (place_on (current m)) (pins_of b) → length (pins_of b) ≡ b.count → judged first_two ≡ Ok tt
       → pin_verdict m b ≡ judged ((eqb (current m) 0 ⇒ PinAtEpochZero) ∷ (leb most_pins n ⇒ PinsFull) ∷ ((eqb n 0 && leb most_pinned b.count) ⇒ PinnedEpochsFull) ∷ [])
   pin-late n e l h =
       let v : pins_full (place_on (current m)) (pins_of b) ≡ leb most_pins n = ap (leb most_pins) (sym e) in
       let z : not (has_place (place_on (current m)) (pins_of b)) ≡ eqb n 0 = sym (ap (λ (k : ℕ). eqb k 0) e ∙ no_pins (current m) (place_on (current m)) (pins_of b) (two-passed h).valid) in
       let w : places_full (place_on (current m)) (pins_of b) ≡ eqb n 0 && leb most_pinned b.count = ap₂ ◌&&◌ z (ap (leb most_pinned) l) in
       pin-split
-      ∙ ap (λ (d : Verdict). or_else d (judged pin-rest)) h
+      ∙ ap (λ (d : Verdict). result_and d (judged pin-rest)) h
       ∙ ap₂ (λ (x y : Bool). judged ((eqb (current m) 0 ⇒ PinAtEpochZero) ∷ (x ⇒ PinsFull) ∷ (y ⇒ PinnedEpochsFull) ∷ [])) v w
 
-  pub pin-10 : bad_manager m ≡ false → bad_book (current m) b ≡ false → eqb (current m) 0 ≡ true → Refused PinAtEpochZero ≡ pin_verdict m b
+  pub pin-10 : bad_manager m ≡ false → bad_book (current m) b ≡ false → eqb (current m) 0 ≡ true → Err PinAtEpochZero ≡ pin_verdict m b
   pin-10 p q r = sym (rw (p, q, r))
 
   -- what is known where pin is accepted
@@ -66,7 +64,7 @@ module _ (m : VersionManager) (b : PinBook) where
     pub more : pins_at (place_on (current m)) (pins_of b) < most_pins
     pub place : places_full (place_on (current m)) (pins_of b) ≡ false
 
-  pub pinnable : pin_verdict m b ≡ Accepted → Pinnable
+  pub pinnable : pin_verdict m b ≡ Ok tt → Pinnable
   pinnable a =
       let h = none-judged (pin_rules m b) a in
       let z = eqb-false (current m) 0 h.1.1.0 in
@@ -77,34 +75,34 @@ module _ (m : VersionManager) (b : PinBook) where
         place = h.1.1.1.1.0;
       }
 
-  pub pin-refuses : (k : Refusal) → pin_verdict m b ≡ Refused k → PinSays m b (pin.Refused k) b
+  pub pin-refuses : (k : Refusal) → pin_verdict m b ≡ Err k → PinSays m b (Err k) b
   pin-refuses k d = record { answer = rw d; book = rw d }
 
-  pub pin-accepts : (b' : PinBook) → pin_verdict m b ≡ Accepted → Keeps b' (with_pin (place_on (current m)) (pins_of b)) → PinSays m b (pin.Pinned (current m)) b'
+  pub pin-accepts : (b' : PinBook) → pin_verdict m b ≡ Ok tt → Keeps b' (with_pin (place_on (current m)) (pins_of b)) → PinSays m b (Ok (current m)) b'
   pin-accepts b' d k = record { answer = rw d; book = rw d k }
 
   module _ (e : ℕ) where
     abbrev unpin-rest : List Rule
     unpin-rest = (not (has_place (place_on e) (pins_of b)) ⇒ EpochNotPinned) ∷ []
 
-    unpin-split : unpin_verdict m e b ≡ or_else (judged first_two) (judged unpin-rest)
+    unpin-split : unpin_verdict m e b ≡ result_and (judged first_two) (judged unpin-rest)
     unpin-split = judged-append first_two unpin-rest
 
-    pub unpin-early : (k : Refusal) → judged first_two ≡ Refused k → unpin_verdict m e b ≡ Refused k
-    unpin-early k h = unpin-split ∙ ap (λ (v : Verdict). or_else v (judged unpin-rest)) h
+    pub unpin-early : (k : Refusal) → judged first_two ≡ Err k → unpin_verdict m e b ≡ Err k
+    unpin-early k h = unpin-split ∙ ap (λ (v : Verdict). result_and v (judged unpin-rest)) h
 
     -- 24 over the number that a call has read
-    unpin-late : (n : ℕ) → n ≡ pins_at (place_on e) (pins_of b) → judged first_two ≡ Accepted → unpin_verdict m e b ≡ judged ((eqb n 0 ⇒ EpochNotPinned) ∷ [])
+    unpin-late : (n : ℕ) → n ≡ pins_at (place_on e) (pins_of b) → judged first_two ≡ Ok tt → unpin_verdict m e b ≡ judged ((eqb n 0 ⇒ EpochNotPinned) ∷ [])
     unpin-late n q h =
         let z : not (has_place (place_on e) (pins_of b)) ≡ eqb n 0 = sym (ap (λ (k : ℕ). eqb k 0) q ∙ no_pins (current m) (place_on e) (pins_of b) (two-passed h).valid) in
         unpin-split
-        ∙ ap (λ (d : Verdict). or_else d (judged unpin-rest)) h
+        ∙ ap (λ (d : Verdict). result_and d (judged unpin-rest)) h
         ∙ ap (λ (x : Bool). judged ((x ⇒ EpochNotPinned) ∷ [])) z
 
-    pub unpin-24 : (n : ℕ) → n ≡ pins_at (place_on e) (pins_of b) → judged first_two ≡ Accepted → n ≡ 0 → unpin_verdict m e b ≡ Refused EpochNotPinned
+    pub unpin-24 : (n : ℕ) → n ≡ pins_at (place_on e) (pins_of b) → judged first_two ≡ Ok tt → n ≡ 0 → unpin_verdict m e b ≡ Err EpochNotPinned
     unpin-24 n q h z = unpin-late n q h ∙ ap (λ (x : Bool). judged ((x ⇒ EpochNotPinned) ∷ [])) (eq-eqb n 0 z)
 
-    pub unpin-passes : (n : ℕ) → n ≡ pins_at (place_on e) (pins_of b) → judged first_two ≡ Accepted → (n ≡ 0 → ⊥) → unpin_verdict m e b ≡ Accepted
+    pub unpin-passes : (n : ℕ) → n ≡ pins_at (place_on e) (pins_of b) → judged first_two ≡ Ok tt → (n ≡ 0 → ⊥) → unpin_verdict m e b ≡ Ok tt
     unpin-passes n q h z = unpin-late n q h ∙ ap (λ (x : Bool). judged ((x ⇒ EpochNotPinned) ∷ [])) (ne_eqb n 0 z)
 
     -- what is known where unpin is accepted
@@ -114,7 +112,7 @@ module _ (m : VersionManager) (b : PinBook) where
       pub pins : Counted (current m) (place_on e) (pins_of b)
       pub place : places_full (place_on e) (pins_of b) ≡ false
 
-    pub unpinnable : unpin_verdict m e b ≡ Accepted → Unpinnable
+    pub unpinnable : unpin_verdict m e b ≡ Ok tt → Unpinnable
     unpinnable a =
         let h = none-judged (unpin_rules m e b) a in
         let g = good_book (current m) b h.1.0 in
@@ -126,7 +124,7 @@ module _ (m : VersionManager) (b : PinBook) where
           place = place-had (place_on e) (pins_of b) p;
         }
 
-    pub unpin-refuses : (k : Refusal) → unpin_verdict m e b ≡ Refused k → UnpinSays m e b (unpin.Refused k) b
+    pub unpin-refuses : (k : Refusal) → unpin_verdict m e b ≡ Err k → UnpinSays m e b (Err k) b
     unpin-refuses k d = record { answer = rw d; ready = omega arith; book = rw d }
 
     -- the count of the epoch's one place tells whether it is pinned still
@@ -137,6 +135,6 @@ module _ (m : VersionManager) (b : PinBook) where
         not-not true = refl
         not-not false = refl
 
-    pub unpin-accepts : (b' : PinBook) (y : Bool) (n : ℕ) → unpin_verdict m e b ≡ Accepted → y ≡ eqb (left_on (place_on e) (pins_of b)) 0 && not (eqb e (current m)) → n ≤ length (list_of (held_by m) b')
-        → Keeps b' (without_pin (place_on e) (pins_of b)) → UnpinSays m e b (unpin.Unpinned y n) b'
+    pub unpin-accepts : (b' : PinBook) (y : Bool) (n : ℕ) → unpin_verdict m e b ≡ Ok tt → y ≡ eqb (left_on (place_on e) (pins_of b)) 0 && not (eqb e (current m)) → n ≤ length (list_of (held_by m) b')
+        → Keeps b' (without_pin (place_on e) (pins_of b)) → UnpinSays m e b (Ok (record { due = y; ready = n })) b'
     unpin-accepts b' y n d u r k = record { answer = rw (d, u ∙ sym due-by); ready = r; book = rw d k }

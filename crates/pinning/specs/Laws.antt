@@ -3,9 +3,7 @@ use Rattle.std.specs.Prelude.{◌≡◌, false, ℕ}
 use Rattle.pins.specs.declared.PinBook.{PinBook}
 use Rattle.pins.specs.Book.{bad_book}
 use Rattle.version_manager.specs.declared.VersionManager.{VersionManager}
-use Rattle.pinning.specs.declared.PinAnswer.{PinAnswer}
-use Rattle.pinning.specs.declared.UnpinAnswer.{UnpinAnswer}
-use Rattle.pinning.specs.Says.{current, PinSays, UnpinSays}
+use Rattle.pinning.specs.Says.{current, PinSays, UnpinSays, PinAnswer, UnpinAnswer}
 
 pub record PinLaws : Type 0 where
   -- a book that 28 lets pass does so afterwards, whether the call was accepted or refused

@@ -1,9 +1,8 @@
 -- Pin answers the current epoch and adds one to its count, unpin takes one off. Assumes nothing.
-use Rattle.std.specs.Prelude.{◌≡◌, Bool, cond, not, ◌&&◌, List, [], ◌∷◌, ℕ, ◌≤◌, eqb, length}
+use Rattle.std.specs.Prelude.{◌≡◌, Bool, cond, not, ◌&&◌, List, [], ◌∷◌, ℕ, ◌≤◌, eqb, length, Ok, Err, Result}
+use Rattle.ids.specs.declared.refusal.Refusal.{Refusal}
 use Rattle.ids.specs.declared.refusal.Refusal.TheVariants.{BadManager, BadPinBook, PinAtEpochZero, PinsFull, PinnedEpochsFull, EpochNotPinned}
-use Rattle.ids.specs.declared.refusal.Verdict.{Verdict}
-use Rattle.ids.specs.declared.refusal.Verdict.TheVariants.{Accepted, Refused}
-use Rattle.ids.specs.Verdicts.{Rule, ◌⇒◌, judged}
+use Rattle.ids.specs.Verdicts.{Rule, ◌⇒◌, judged, Verdict}
 use Rattle.ids.specs.Answers.{Told, told}
 use Rattle.pins.specs.declared.PinBook.{PinBook}
 use Rattle.pins.specs.Book.{PinEntry, pins_of, place_on, Keeps, bad_book, has_place, pinned}
@@ -11,10 +10,15 @@ use Rattle.pins.specs.Counts.{pins_full, places_full, with_pin, without_pin}
 use Rattle.vacuum.specs.Says.{list_of}
 use Rattle.version_manager.specs.declared.VersionManager.{VersionManager}
 use Rattle.version_manager.specs.Managers.{held_by, bad_manager}
-use Rattle.pinning.specs.declared.PinAnswer.{PinAnswer}
-use Rattle.pinning.specs.declared.PinAnswer.TheVariants as pin
-use Rattle.pinning.specs.declared.UnpinAnswer.{UnpinAnswer}
-use Rattle.pinning.specs.declared.UnpinAnswer.TheVariants as unpin
+use Rattle.pinning.specs.declared.Unpinned.{Unpinned}
+
+-- the epoch that is pinned
+abbrev pub PinAnswer : Type 0
+PinAnswer = Result ℕ Refusal
+
+-- whether a vacuum is due, and the number ready
+abbrev pub UnpinAnswer : Type 0
+UnpinAnswer = Result Unpinned Refusal
 
 -- the current epoch
 abbrev pub current : VersionManager → ℕ
@@ -22,8 +26,8 @@ current m = m.inner.epoch
 
 -- the lent book afterwards: on a refusal the very same b, and else one that stands for l
 abbrev pub BookAfter : Verdict → PinBook → List PinEntry → PinBook → Type 0
-BookAfter Accepted b l b' = Keeps b' l
-BookAfter (Refused k) b l b' = b' ≡ b
+BookAfter (Ok _) b l b' = Keeps b' l
+BookAfter (Err k) b l b' = b' ≡ b
 
 -- 29, 28, 10, 18, 19
 abbrev pub pin_rules : VersionManager → PinBook → List Rule
@@ -39,8 +43,8 @@ abbrev pub pin_verdict : VersionManager → PinBook → Verdict
 pin_verdict m b = judged (pin_rules m b)
 
 abbrev pub pin_told : PinAnswer → Told
-pin_told (pin.Pinned e) = told Accepted (e ∷ [])
-pin_told (pin.Refused k) = told (Refused k) []
+pin_told (Ok e) = told (Ok tt) (e ∷ [])
+pin_told (Err k) = told (Err k) []
 
 -- pin of m, lent the book b, answers a and leaves b' there
 pub record PinSays (m : VersionManager) (b : PinBook) (a : PinAnswer) (b' : PinBook) : Type 0 where
@@ -66,15 +70,14 @@ is_due m e b = not (pinned e (without_pin (place_on e) (pins_of b))) && not (eqb
 abbrev pub flag : Bool → ℕ
 flag y = cond y 1 0
 
--- whether a vacuum is due, and the number ready
 abbrev pub unpin_told : UnpinAnswer → Told
-unpin_told (unpin.Unpinned y n) = told Accepted (flag y ∷ n ∷ [])
-unpin_told (unpin.Refused k) = told (Refused k) []
+unpin_told (Ok u) = told (Ok tt) (flag u.due ∷ u.ready ∷ [])
+unpin_told (Err k) = told (Err k) []
 
 -- the number ready that an answer gives
 abbrev pub ready_of : UnpinAnswer → ℕ
-ready_of (unpin.Unpinned y n) = n
-ready_of (unpin.Refused k) = 0
+ready_of (Ok u) = u.ready
+ready_of (Err k) = 0
 
 -- unpin of epoch e of m, lent the book b, answers a and leaves b' there; the number ready is left free, up to the length of the
 -- list that a vacuum would then give

@@ -16,34 +16,28 @@ ghost use Rattle.pinning.specs.Says.{current, PinSays, UnpinSays};
 ghost use Rattle.pinning.specs.Laws.{PinLaws};
 
 use ids::limits::MOST_HELD;
-use ids::refusal::{Refusal, Verdict};
+use ids::refusal::Refusal;
 use pins::{MOST_PINNED, MOST_PINS, PinBook, Place, counts};
 use version_manager::VersionManager;
-
-#[derive(Clone, Copy)]
-pub enum PinAnswer {
-    // The epoch that is pinned.
-    Pinned(u32),
-    Refused(Refusal),
-}
 
 #[derive(Drop)]
 pub struct PinStep {
     pub book: PinBook,
-    pub answer: PinAnswer,
+    // The epoch that is pinned.
+    pub answer: Result<u32, Refusal>,
 }
 
+// Whether a vacuum is due, and how many deletions it would list.
 #[derive(Clone, Copy)]
-pub enum UnpinAnswer {
-    // Whether a vacuum is due, and how many deletions it would list.
-    Unpinned(bool, usize),
-    Refused(Refusal),
+pub struct Unpinned {
+    pub due: bool,
+    pub ready: usize,
 }
 
 #[derive(Drop)]
 pub struct UnpinStep {
     pub book: PinBook,
-    pub answer: UnpinAnswer,
+    pub answer: Result<Unpinned, Refusal>,
 }
 
 // A book that passes 28 passes it after a pin or an unpin.
@@ -52,35 +46,35 @@ pub fn holds()
 {}
 
 // 29, 28
-fn judge(manager: VersionManager, book: PinBook) -> Verdict
+fn judge(manager: VersionManager, book: PinBook) -> Result<(), Refusal>
     ensures { result ≡ judged ((bad_manager manager ⇒ BadManager) ∷ (bad_book (current manager) book ⇒ BadPinBook) ∷ []) }
 {
     if manager.bad() {
-        return Verdict::Refused(Refusal::BadManager);
+        return Err(Refusal::BadManager);
     }
     if book.bad(manager.inner.epoch) {
-        return Verdict::Refused(Refusal::BadPinBook);
+        return Err(Refusal::BadPinBook);
     }
-    Verdict::Accepted
+    Ok(())
 }
 
 // 10, 18, 19 of an epoch with so many pins, where so many epochs are pinned. One without pins needs a place.
-fn judge_pin(epoch: u32, pins: u16, pinned: usize) -> Verdict
+fn judge_pin(epoch: u32, pins: u16, pinned: usize) -> Result<(), Refusal>
     ensures { result ≡ judged ((eqb epoch 0 ⇒ PinAtEpochZero) ∷ (leb most_pins pins ⇒ PinsFull) ∷ ((eqb pins 0 && leb most_pinned pinned) ⇒ PinnedEpochsFull) ∷ []) }
 {
     if epoch == 0 {
-        return Verdict::Refused(Refusal::PinAtEpochZero);
+        return Err(Refusal::PinAtEpochZero);
     }
     if MOST_PINS <= pins {
-        return Verdict::Refused(Refusal::PinsFull);
+        return Err(Refusal::PinsFull);
     }
     if pins != 0 {
-        return Verdict::Accepted;
+        return Ok(());
     }
     if MOST_PINNED <= pinned {
-        return Verdict::Refused(Refusal::PinnedEpochsFull);
+        return Err(Refusal::PinnedEpochsFull);
     }
-    Verdict::Accepted
+    Ok(())
 }
 
 // Pin, by value.
@@ -88,26 +82,26 @@ pub fn after_pin(manager: VersionManager, book: PinBook) -> PinStep
     ensures { PinSays manager book result.answer result.book }
 {
     let verdict = judge(manager, book);
-    if let Verdict::Refused(why) = verdict {
+    if let Err(why) = verdict {
         return PinStep {
             book,
-            answer: PinAnswer::Refused(why),
+            answer: Err(why),
         };
     }
     let epoch = manager.inner.epoch;
     let place = Place { epoch };
     let found = counts::find(book, place);
     let full = judge_pin(epoch, found.pins, book.count);
-    if let Verdict::Refused(why) = full {
+    if let Err(why) = full {
         return PinStep {
             book,
-            answer: PinAnswer::Refused(why),
+            answer: Err(why),
         };
     }
     let next = counts::recounted(book, found, place, found.pins + 1);
     PinStep {
         book: next,
-        answer: PinAnswer::Pinned(epoch),
+        answer: Ok(epoch),
     }
 }
 
@@ -138,10 +132,10 @@ pub fn after_unpin(manager: VersionManager, book: PinBook, epoch: u32) -> UnpinS
     ensures { UnpinSays manager epoch book result.answer result.book }
 {
     let verdict = judge(manager, book);
-    if let Verdict::Refused(why) = verdict {
+    if let Err(why) = verdict {
         return UnpinStep {
             book,
-            answer: UnpinAnswer::Refused(why),
+            answer: Err(why),
         };
     }
     let place = Place { epoch };
@@ -149,7 +143,7 @@ pub fn after_unpin(manager: VersionManager, book: PinBook, epoch: u32) -> UnpinS
     if found.pins == 0 {
         return UnpinStep {
             book,
-            answer: UnpinAnswer::Refused(Refusal::EpochNotPinned),
+            answer: Err(Refusal::EpochNotPinned),
         };
     }
     let current = manager.inner.epoch;
@@ -162,12 +156,12 @@ pub fn after_unpin(manager: VersionManager, book: PinBook, epoch: u32) -> UnpinS
     let ready = ready(&deleted, rowsets.count, current, next, due);
     UnpinStep {
         book: next,
-        answer: UnpinAnswer::Unpinned(due, ready),
+        answer: Ok(Unpinned { due, ready }),
     }
 }
 
 // The book at entry is read whole, and what the step makes of it is stored whole.
-pub fn pin(manager: VersionManager, book: &mut PinBook) -> PinAnswer
+pub fn pin(manager: VersionManager, book: &mut PinBook) -> Result<u32, Refusal>
     ensures { PinSays manager book.old result book.new }
 {
     let old = *book;
@@ -176,7 +170,7 @@ pub fn pin(manager: VersionManager, book: &mut PinBook) -> PinAnswer
     step.answer
 }
 
-pub fn unpin(manager: VersionManager, book: &mut PinBook, epoch: u32) -> UnpinAnswer
+pub fn unpin(manager: VersionManager, book: &mut PinBook, epoch: u32) -> Result<Unpinned, Refusal>
     ensures { UnpinSays manager epoch book.old result book.new }
 {
     let old = *book;

@@ -13,9 +13,8 @@ use Rattle.lists.proofs.Tests.{by_cases}
 use Rattle.lists.proofs.Order.{less-same, same-sym}
 use Rattle.lists.proofs.Keyed.{Ascending, ascend-to, ascending-keep, any_of-placed, any_of-map, none-any_of, all_map}
 use Rattle.ids.specs.declared.refusal.Refusal.{Refusal}
-use Rattle.ids.specs.declared.refusal.Verdict.{Verdict}
 use Rattle.ids.specs.Names.{longest_name}
-use Rattle.ids.specs.Verdicts.{◌⇒◌, judged}
+use Rattle.ids.specs.Verdicts.{◌⇒◌, judged, Verdict}
 use Rattle.ids.specs.Answers.{told, after}
 use Rattle.snapshot.specs.Entries.{Entry, by_ids, by_deletion, waits}
 use Rattle.snapshot.specs.Tables.{TableEntry}

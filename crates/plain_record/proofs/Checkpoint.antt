@@ -5,10 +5,10 @@ use mathlib.Core.List.{List, [], ◌∷◌}
 use Prim.Native.Nat.{ℕ, ◌+◌, ◌≤◌}
 use native.Mathlib.Omega.{arith}
 use lib.ListN.{length, take}
+use Rattle.std.specs.Prelude.{Ok}
 use Rattle.lists.specs.Written.{over}
-use Rattle.ids.specs.declared.refusal.Verdict.{Verdict}
-use Rattle.ids.specs.declared.refusal.Verdict.TheVariants.{Accepted}
 use Rattle.ids.specs.Ids.{Next}
+use Rattle.ids.specs.Verdicts.{Verdict}
 use Rattle.ids.specs.Answers.{Told, told, after}
 use Rattle.version_state.specs.State.{State}
 use Rattle.version_state.specs.Sets.{next_of}
@@ -70,7 +70,7 @@ module _ (w : World) (t : Told) (l : List (List ℕ)) (v : World) (out : List �
   new-torn : Torn new p
   new-torn = landed new (with_rewritten s) p (omega (arith, c.room)) (shows-now s w.book w.file p stood) filed
 
-  handed-on : verdict ≡ Accepted → Inv (replaced m w.book w.file new stale) (recorded p p gone (r.place + 1))
+  handed-on : verdict ≡ Ok tt → Inv (replaced m w.book w.file new stale) (recorded p p gone (r.place + 1))
   handed-on q =
       let k = subst (λ (x : Verdict). HandsBack x w.manager (with_rewritten s) m) q d.says.manager in
       of-stands m w.book new (cond stale w.file new) no_append p p gone (r.place + 1) (checkpoint-laws.sound w.manager out d.result d.left d.says q)
@@ -81,7 +81,7 @@ module _ (w : World) (t : Told) (l : List (List ℕ)) (v : World) (out : List �
   tells = d.told ∙ d.says.answer
 
   -- the bytes that are handed out
-  bytes : verdict ≡ Accepted → take (value 0 t) d.left ≡ new
+  bytes : verdict ≡ Ok tt → take (value 0 t) d.left ≡ new
   bytes q =
       let n : value 0 t ≡ length new = ap (value 0) (tells ∙ ap (λ (x : Verdict). told x (length new ∷ [])) q) in
       let b : d.left ≡ over new out = d.says.bytes ∙ ap (λ (x : Verdict). after x (over new out) out) q in

@@ -6,10 +6,12 @@ use Prim.Native.Nat.{ℕ, ◌+◌, ◌-◌, ◌≤◌}
 use native.Mathlib.Omega.{arith}
 use lib.ListN.{length, take, length-append}
 use lib.Seq.{take_all}
+use Rattle.std.specs.Prelude.{Result, Ok, Err}
 use Rattle.lists.specs.Keyed.{all_of}
 use Rattle.lists.specs.Written.{over}
+use Rattle.ids.specs.declared.refusal.Refusal.{Refusal}
+use Rattle.ids.specs.Verdicts.{Verdict}
 use Rattle.ids.specs.Answers.{Told, told, after}
-use Rattle.ids.specs.Results.{Result, refused, given}
 use Rattle.manifest.specs.Operations.{Operation}
 use Rattle.version_state.specs.State.{State, pairs_at, vectors_at}
 use Rattle.version_state.specs.Sound.{bad_inner}
@@ -19,13 +21,11 @@ use Rattle.pins.proofs.Books.{book-later}
 use Rattle.commit.specs.Commit.{commit_of, append_of}
 use Rattle.commit.proofs.Older.{older-pairs, older-vectors}
 use Rattle.version_manager.specs.declared.VersionManager.{VersionManager}
-use Rattle.version_manager.specs.declared.Committed.{Committed}
+use Rattle.version_manager.specs.Answered.{Committed}
 use Rattle.version_manager.specs.Managers.{held_by, bad_manager, Follows, HandsOn}
 use Rattle.version_manager.proofs.Managers.{inner-passes}
 use Rattle.version_manager.proofs.Laws.{commit-passes}
 use Rattle.version_manager.specs.Commit.{outcome_of, commit_told, CommitEnds}
-use Rattle.ids.specs.declared.refusal.Verdict.{Verdict}
-use Rattle.ids.specs.declared.refusal.Verdict.TheVariants.{Accepted, Refused}
 use Rattle.table.specs.Made.{committed, create_operations, drop_operations, compact_operations}
 use Rattle.table.specs.Create.{created_by}
 use Rattle.table.specs.Drop.{dropped_by}
@@ -61,7 +61,7 @@ now-at w r i d h =
     rw (i.tables, p, v)
 
 -- Accepted: m is the manager before, n the one after.
-module _ (w : World) (r : Record) (i : Inv w r) (z : ℕ) (os : List Operation) (few : length os ≤ z) (room : ℕ) (n : VersionManager) (s : State) (h : commit_of (held_by w.manager) z os room ≡ given s) (k : Follows n s (held_by w.manager) (length (append_of os))) where
+module _ (w : World) (r : Record) (i : Inv w r) (z : ℕ) (os : List Operation) (few : length os ≤ z) (room : ℕ) (n : VersionManager) (s : State) (h : commit_of (held_by w.manager) z os room ≡ Ok s) (k : Follows n s (held_by w.manager) (length (append_of os))) where
   good : bad_inner w.manager.inner ≡ false
   good = passes w r i
 
@@ -156,7 +156,7 @@ module _ (w : World) (r : Record) (i : Inv w r) (z : ℕ) (os : List Operation) 
 -- may look, and the length b of the append.
 module _ (w : World) (r : Record) (i : Inv w r) (made : ℕ → Sets → List Operation) (missing : ℕ) (t : Told) (b : ℕ) (n : VersionManager) (lent : List ℕ) where
   pub accepted-kept : (z : ℕ) (os : List Operation) (out : List ℕ) (s : State) → is_accepted t ≡ true → b ≡ length (append_of os) → made (value 0 t) r.whole.now ≡ os
-      → length os ≤ z → commit_of (held_by w.manager) z os (length out) ≡ given s → Follows n s (held_by w.manager) (length (append_of os)) → lent ≡ over (append_of os) out
+      → length os ≤ z → commit_of (held_by w.manager) z os (length out) ≡ Ok s → Follows n s (held_by w.manager) (length (append_of os)) → lent ≡ over (append_of os) out
       → Inv (after_commit n t b lent missing w) (turn (as_commit made missing) (is_accepted t) (value 0 t) r)
   accepted-kept z os out s a e c few h k q =
       let f = append_of os in
@@ -169,12 +169,12 @@ module _ (w : World) (r : Record) (i : Inv w r) (made : ℕ → Sets → List Op
 
   -- one that is judged by rules of its own, and that the commit accepts where these pass
   pub made_kept : (x : Verdict) (os : List Operation) (vs out : List ℕ) → t ≡ told x vs → HandsOn x w.manager (committed os (held_by w.manager)) (length (append_of os)) n → lent ≡ after x (over (append_of os) out) out
-      → (x ≡ Accepted → (b ≡ length (append_of os)) × (made (value 0 t) r.whole.now ≡ os) × Accepts (held_by w.manager) os (length out))
+      → (x ≡ Ok tt → (b ≡ length (append_of os)) × (made (value 0 t) r.whole.now ≡ os) × Accepts (held_by w.manager) os (length out))
       → Inv (after_commit n t b lent missing w) (turn (as_commit made missing) (is_accepted t) (value 0 t) r)
-  made_kept Accepted os vs out e k q h =
+  made_kept (Ok _) os vs out e k q h =
       let y = h refl in
       accepted-kept (length os) os out (committed os (held_by w.manager)) (ap is_accepted e) y.0 y.1 (omega arith) y.2 k q
-  made_kept (Refused j) os vs out e k q h = refused-kept (ap is_accepted e ∙ refused-number j) k
+  made_kept (Err j) os vs out e k q h = refused-kept (ap is_accepted e ∙ refused-number j) k
 
 -- A commit.
 module _ (w : World) (t : Told) (l : List (List ℕ)) (v : World) (os : List Operation) (out : List ℕ) (missing : ℕ) (r : Record) (i : Inv w r) where
@@ -185,17 +185,17 @@ module _ (w : World) (t : Told) (l : List (List ℕ)) (v : World) (os : List Ope
   outcome-is : (z : ℕ) → outcome_of w.manager z os (length out) ≡ commit_of (held_by w.manager) z os (length out)
   outcome-is z = rw i.sound
 
-  outcome-inv : (z : ℕ) (c : Committed) (lent : List ℕ) (x : Result State) → length os ≤ z → commit_of (held_by w.manager) z os (length out) ≡ x → CommitEnds x w.manager os out c lent
+  outcome-inv : (z : ℕ) (c : Committed) (lent : List ℕ) (x : Result State Refusal) → length os ≤ z → commit_of (held_by w.manager) z os (length out) ≡ x → CommitEnds x w.manager os out c lent
       → t ≡ commit_told c.answer → Inv (after_commit c.manager t (value 1 t) lent missing w) (turn (as_commit made missing) (is_accepted t) (value 0 t) r)
-  outcome-inv z c lent (given s) few h k e =
+  outcome-inv z c lent (Ok s) few h k e =
       let q = e ∙ k.0 in
       accepted-kept w r i made missing t (value 1 t) c.manager lent z os out s (ap is_accepted q) (ap (value 1) q) refl few h k.1 k.2
-  outcome-inv z c lent (refused j) few h k e =
+  outcome-inv z c lent (Err j) few h k e =
       refused-kept w r i made missing t (value 1 t) c.manager lent (ap is_accepted (e ∙ k.0) ∙ refused-number j) k.1
 
   pub commit-keeps : DidCommit port w t l v os out missing → Inv v (turn (as_commit made missing) (is_accepted t) (value 0 t) r)
   commit-keeps d =
-      let says = subst (λ (x : Result State). CommitEnds x w.manager os out d.result d.left) (outcome-is d.count) d.says in
+      let says = subst (λ (x : Result State Refusal). CommitEnds x w.manager os out d.result d.left) (outcome-is d.count) d.says in
       rw d.after (outcome-inv d.count d.result d.left (commit_of (held_by w.manager) d.count os (length out)) d.counted refl says d.told)
 
 -- A create.
@@ -209,7 +209,7 @@ module _ (w : World) (t : Told) (l : List (List ℕ)) (v : World) (shape : ℕ) 
       let e : t ≡ told x vs = d.told ∙ d.says.answer in
       rw d.after
       (made_kept w r i (λ id z. create_operations id shape name) missing t (value 2 t) d.result.manager d.left x os vs out e d.says.manager d.says.bytes
-      (λ a. let q : t ≡ told Accepted vs = e ∙ ap (λ (y : Verdict). told y vs) a in
+      (λ a. let q : t ≡ told (Ok tt) vs = e ∙ ap (λ (y : Verdict). told y vs) a in
       (ap (value 2) q, ap (λ (y : Told). create_operations (value 0 y) shape name) q, made-laws.create w.manager.inner shape name (length out) (passes w r i) d.narrow (rw i.sound at a))))
 
 -- A drop.
@@ -223,7 +223,7 @@ module _ (w : World) (t : Told) (l : List (List ℕ)) (v : World) (n : ℕ) (out
       let e : t ≡ told x vs = d.told ∙ d.says.answer in
       rw d.after
       (made_kept w r i (λ id z. drop_operations n z.pairs z.vectors) missing t (value 1 t) d.result.manager d.left x os vs out e d.says.manager d.says.bytes
-      (λ a. let q : t ≡ told Accepted vs = e ∙ ap (λ (y : Verdict). told y vs) a in
+      (λ a. let q : t ≡ told (Ok tt) vs = e ∙ ap (λ (y : Verdict). told y vs) a in
       (ap (value 1) q, ap (λ (z : Sets). drop_operations n z.pairs z.vectors) (sym (now-at w r i w.manager.inner.epoch (omega arith))), made-laws.drop w.manager.inner n (length out) (passes w r i) d.narrow (rw i.sound at a))))
 
 -- A compaction.
@@ -241,5 +241,5 @@ module _ (w : World) (t : Told) (l : List (List ℕ)) (v : World) (n : ℕ) (o :
       let e : t ≡ told x vs = d.told ∙ d.says.answer in
       rw d.after
       (made_kept w r i (λ id z. compact_operations n (new_of o) taken z.vectors) missing t (value 1 t) d.result.manager d.left x os vs out e d.says.manager d.says.bytes
-      (λ a. let q : t ≡ told Accepted vs = e ∙ ap (λ (y : Verdict). told y vs) a in
+      (λ a. let q : t ≡ told (Ok tt) vs = e ∙ ap (λ (y : Verdict). told y vs) a in
       (ap (value 1) q, ap (λ (z : Sets). compact_operations n (new_of o) taken z.vectors) (sym (now-at w r i w.manager.inner.epoch (omega arith))), (made-laws.compact w.manager.inner n (new_of o) taken (length out) (passes w r i) d.narrow (few-new o) (rw i.sound at a)).accepts)))

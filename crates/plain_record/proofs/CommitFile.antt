@@ -8,8 +8,8 @@ use lib.Dec.{eqb}
 use lib.ListN.{length, take, drop, length-append, length-take}
 use lib.Seq.{take-append-le, take_all}
 use borrow.Author.Tests.{eqb-true, eqb-false}
+use Rattle.std.specs.Prelude.{Ok}
 use Rattle.ids.specs.Limits.{longest_manifest}
-use Rattle.ids.specs.Results.{given}
 use Rattle.lists.specs.Written.{over}
 use Rattle.lists.proofs.Tests.{by_cases}
 use Rattle.manifest.specs.Operations.{Operation}
@@ -32,7 +32,7 @@ use Rattle.plain_record.proofs.CommitState.{commit-manifest, commit-fits, commit
 pub append-taken : (f out : List ℕ) (n : ℕ) → n ≤ length f → take n (over f out) ≡ take n f
 append-taken f out n h = take-append-le n f (drop (length f) out) h
 
-module _ (f : List ℕ) (p : Plain) (m n : VersionManagerInner) (z : ℕ) (os : List Operation) (room : ℕ) (s : State) (b : bad_inner m ≡ false) (few : length os ≤ z) (h : commit_of (state_of m) z os room ≡ given s) (k : Hands n s) (c : ℕ) (i : Filed f (state_of m) p) where
+module _ (f : List ℕ) (p : Plain) (m n : VersionManagerInner) (z : ℕ) (os : List Operation) (room : ℕ) (s : State) (b : bad_inner m ≡ false) (few : length os ≤ z) (h : commit_of (state_of m) z os room ≡ Ok s) (k : Hands n s) (c : ℕ) (i : Filed f (state_of m) p) where
   appended : manifest.Holds (f ++ append_of os) (manifest.followed os i.state) × (shows.sets_of (manifest.followed os i.state) ≡ shows.sets_of s)
   appended = whole-appended f i.state m z os room s i.holds i.same b few h
 

@@ -5,11 +5,10 @@ use mathlib.Core.List.{List, [], ◌∷◌, ◌++◌, append-nil, append_assoc}
 use Prim.Native.Nat.{ℕ}
 use native.Mathlib.Omega.{arith}
 use borrow.Author.Tests.{ltb-true, lt-ltb}
+use Rattle.std.specs.Prelude.{Ok}
 use Rattle.lists.specs.Keyed.{all_of}
 use Rattle.lists.proofs.Keyed.{All, all_map, all_append, all_of-all, all-all_of}
-use Rattle.ids.specs.declared.refusal.Verdict.TheVariants.{Accepted}
 use Rattle.ids.specs.Verdicts.{judged}
-use Rattle.ids.specs.Results.{given}
 use Rattle.manifest.specs.Operations.{Operation}
 use Rattle.manifest.specs.Edits.{Edit, leaves, adds, deletes, rowset_in, vector_in, Edits, edits_of}
 use Rattle.version_state.specs.State.{State}
@@ -71,7 +70,7 @@ record Gathers (z : List Id) (os : List Operation) (s : State) : Type 0 where
   over : Over s ids
   all : ids ++ ids_of os ≡ z
 
-gathers-on : (z : List Id) (e i : ℕ) (o : Operation) (os : List Operation) (s : State) → Gathers z (o ∷ os) s → judged (op_rules i e o s) ≡ Accepted → Gathers z os (applied e o s)
+gathers-on : (z : List Id) (e i : ℕ) (o : Operation) (os : List Operation) (s : State) → Gathers z (o ∷ os) s → judged (op_rules i e o s) ≡ Ok tt → Gathers z os (applied e o s)
 gathers-on z e i o os s k a =
     record { ids = k.ids ++ ids_by (edits_of o); over = over-applied e o s k.ids k.over; all = sym (ids-on k.ids o os) ∙ k.all }
 
@@ -80,7 +79,7 @@ gathers-done z s k =
     let q : k.ids ≡ z = sym (append-nil k.ids) ∙ k.all in
     rw (← q) (all-all_of (below_next s) k.ids k.over)
 
-pub steps_next : (e : ℕ) (os : List Operation) (s t : State) (l : List Id) → all_of (below_next s) l ≡ true → steps_of 0 e os s ≡ given t → all_of (below_next t) (l ++ ids_of os) ≡ true
+pub steps_next : (e : ℕ) (os : List Operation) (s t : State) (l : List Id) → all_of (below_next s) l ≡ true → steps_of 0 e os s ≡ Ok t → all_of (below_next t) (l ++ ids_of os) ≡ true
 steps_next e os s t l h g =
     let z = l ++ ids_of os in
     let k = steps_on (λ i ps u. Gathers z ps u) e (λ i o ps u. gathers-on z e i o ps u) 0 os s t (record { ids = l; over = all_of-all (below_next s) l h; all = refl }) g in

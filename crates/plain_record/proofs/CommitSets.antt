@@ -2,9 +2,10 @@
 use mathlib.Core.Path.{◌≡◌, refl, sym, ap, subst, ◌∙◌}
 use mathlib.Core.List.{List, [], ◌∷◌, map}
 use Prim.Native.Nat.{ℕ, ◌+◌, ◌≤◌}
-use Rattle.ids.specs.declared.refusal.Verdict.TheVariants.{Accepted}
+use Rattle.std.specs.Prelude.{Result, Ok, Err}
+use Rattle.ids.specs.declared.refusal.Refusal.{Refusal}
 use Rattle.ids.specs.Verdicts.{judged}
-use Rattle.ids.specs.Results.{Result, refused, given, and_then}
+use Rattle.ids.specs.Results.{and_then}
 use Rattle.manifest.specs.Operations.{Operation}
 use Rattle.manifest.specs.Edits.{Edit, leaves, adds, deletes, Table, edits_of}
 use Rattle.snapshot.specs.Tables.{TableEntry, by_table}
@@ -23,19 +24,19 @@ use Rattle.plain_record.proofs.Invariant.{plain_table}
 
 -- what holds of the operations still to come and of the state they find, step by step to the last
 pub steps_on : (P : ℕ → List Operation → State → Type 0) (e : ℕ)
-    → ((i : ℕ) (o : Operation) (os : List Operation) (s : State) → P i (o ∷ os) s → judged (op_rules i e o s) ≡ Accepted → P (i + 1) os (applied e o s))
-    → (i : ℕ) (os : List Operation) (s t : State) → P i os s → steps_of i e os s ≡ given t → (j : ℕ) × P j [] t
+    → ((i : ℕ) (o : Operation) (os : List Operation) (s : State) → P i (o ∷ os) s → judged (op_rules i e o s) ≡ Ok tt → P (i + 1) os (applied e o s))
+    → (i : ℕ) (os : List Operation) (s t : State) → P i os s → steps_of i e os s ≡ Ok t → (j : ℕ) × P j [] t
 steps_on P e k i [] s t p h =
     let q : s ≡ t = cc in
     (i, rw (← q) p)
 steps_on P e k i (o ∷ os) s t p h = go (step_of i e o s) refl h (λ u q. steps_on P e k (i + 1) os u t q)
   where
-    go : (x : Result State) → step_of i e o s ≡ x → and_then x (λ u. steps_of (i + 1) e os u) ≡ given t
-        → ((u : State) → P (i + 1) os u → steps_of (i + 1) e os u ≡ given t → (j : ℕ) × P j [] t) → (j : ℕ) × P j [] t
-    go (given u) a h ih =
+    go : (x : Result State Refusal) → step_of i e o s ≡ x → and_then x (λ u. steps_of (i + 1) e os u) ≡ Ok t
+        → ((u : State) → P (i + 1) os u → steps_of (i + 1) e os u ≡ Ok t → (j : ℕ) × P j [] t) → (j : ℕ) × P j [] t
+    go (Ok u) a h ih =
         let w = step_given i e o s u a in
         ih u (subst (P (i + 1) os) w.1 (k i o os s p w.0)) h
-    go (refused r) a h ih = absurd (halt h)
+    go (Err r) a h ih = absurd (halt h)
 
 -- the sets that a state shows at an epoch, as the record's
 abbrev pub plain_of : shows.Sets → Sets
@@ -78,12 +79,12 @@ record Applies (e : ℕ) (z : Sets) (os : List Operation) (s : State) : Type 0 w
   result : apply_all os (plain_at e s) ≡ z
 
 applies-on : (e : ℕ) (z : Sets) → 1 ≤ e → (i : ℕ) (o : Operation) (os : List Operation) (s : State)
-    → Applies e z (o ∷ os) s → judged (op_rules i e o s) ≡ Accepted → Applies e z os (applied e o s)
+    → Applies e z (o ∷ os) s → judged (op_rules i e o s) ≡ Ok tt → Applies e z os (applied e o s)
 applies-on e z h i o os s k a =
     record { ordered = ordered-applied e o s k.ordered; result = ap (apply_all os) (apply_at e o s h k.ordered) ∙ k.result }
 
 -- what the commit's epoch shows after the operations
-pub steps-sets : (e : ℕ) (os : List Operation) (s t : State) → 1 ≤ e → Ordered s → steps_of 0 e os s ≡ given t → plain_at e t ≡ apply_all os (plain_at e s)
+pub steps-sets : (e : ℕ) (os : List Operation) (s t : State) → 1 ≤ e → Ordered s → steps_of 0 e os s ≡ Ok t → plain_at e t ≡ apply_all os (plain_at e s)
 steps-sets e os s t h r g =
     let z = apply_all os (plain_at e s) in
     let k = steps_on (λ i ps u. Applies e z ps u) e (applies-on e z h) 0 os s t (record { ordered = r; result = refl }) g in

@@ -5,8 +5,8 @@ use mathlib.Core.List.{List, ◌++◌, map}
 use Prim.Native.Nat.{ℕ, ◌+◌, ◌≤◌}
 use native.Mathlib.Omega.{arith}
 use lib.ListN.{length}
+use Rattle.std.specs.Prelude.{Ok}
 use Rattle.ids.specs.Limits.{most_operations, longest_manifest}
-use Rattle.ids.specs.Results.{given}
 use Rattle.lists.specs.Keyed.{all_of}
 use Rattle.lists.proofs.Keyed.{all_map, all_of-all}
 use Rattle.manifest.specs.Operations.{Operation, well_formed}
@@ -32,7 +32,7 @@ use Rattle.plain_record.proofs.CommitWaits.{Late, steps-waits}
 late-sound : (m : VersionManagerInner) → Sound m → Late (m.epoch + 1) (state_of m).pairs
 late-sound m s = all_map (state_of m).pairs (λ x h. omega (arith, (within_of m.epoch _ x h).deleted)) (all_of-all _ (state_of m).pairs s.pairs)
 
-module _ (m : VersionManagerInner) (n : ℕ) (os : List Operation) (room : ℕ) (s : State) (b : bad_inner m ≡ false) (h : commit_of (state_of m) n os room ≡ given s) where
+module _ (m : VersionManagerInner) (n : ℕ) (os : List Operation) (room : ℕ) (s : State) (b : bad_inner m ≡ false) (h : commit_of (state_of m) n os room ≡ Ok s) where
   a : Accepts (state_of m) n os room s
   a = accepts (state_of m) n os room s h
 

@@ -6,14 +6,13 @@ use Prim.Native.Nat.{ℕ, ◌+◌, ◌≤◌}
 use native.Mathlib.Omega.{arith}
 use lib.Dec.{eqb, leb}
 use borrow.Author.Tests.{le-leb, ne_eqb}
+use Rattle.std.specs.Prelude.{Ok}
 use Rattle.lists.specs.Order.{less}
 use Rattle.lists.specs.Keyed.{keep, has, is_at, put, placed, arranged, changed}
 use Rattle.lists.proofs.Tests.{by_cases, clash, neither}
 use Rattle.lists.proofs.Order.{same_true}
 use Rattle.lists.proofs.Keyed.{All, Ascending, ascend-to, after-absent, put-new, keep-placed-out, changed-absent, placed-swap}
-use Rattle.ids.specs.declared.refusal.Verdict.TheVariants.{Accepted}
 use Rattle.ids.specs.Verdicts.{judged}
-use Rattle.ids.specs.Results.{given}
 use Rattle.manifest.specs.Operations.{Operation}
 use Rattle.manifest.specs.Edits.{Edit, leaves, adds, deletes, edits_of}
 use Rattle.snapshot.specs.Entries.{Entry, added_at, deleted_at, gone_at, shown_at, shown_by, by_ids, by_deletion, waits}
@@ -134,7 +133,7 @@ step_waits c e i (adds k) ws l p r h f = ap (placed_all (map by_epoch_and_pair w
 step_waits c e i (deletes k) ws l p r h f = ap (placed_all (map by_epoch_and_pair ws)) (deleted-waits e k p l r h f)
 
 awaits-on : (c e : ℕ) (z : List (List ℕ)) → 1 ≤ e → (i : ℕ) (o : Operation) (os : List Operation) (s : State)
-    → Awaits c e z i (o ∷ os) s → judged (op_rules i e o s) ≡ Accepted → Awaits c e z (i + 1) os (applied e o s)
+    → Awaits c e z i (o ∷ os) s → judged (op_rules i e o s) ≡ Ok tt → Awaits c e z (i + 1) os (applied e o s)
 awaits-on c e z p i o os s k a =
     let d = (edits_of o).pairs in
     record {
@@ -145,7 +144,7 @@ awaits-on c e z p i o os s k a =
 
 -- what waits after the operations of a commit at place c
 pub steps-waits : (c e : ℕ) (os : List Operation) (s t : State) (ws : List Waiting) → 1 ≤ e → Ordered s → Late e s.pairs → waiting_in s ≡ map by_epoch_and_pair ws
-    → steps_of 0 e os s ≡ given t → waiting_in t ≡ map by_epoch_and_pair (await (deletions c e 0 os) ws)
+    → steps_of 0 e os s ≡ Ok t → waiting_in t ≡ map by_epoch_and_pair (await (deletions c e 0 os) ws)
 steps-waits c e os s t ws p r l h g =
     let z = placed_all (map by_epoch_and_pair (deletions c e 0 os)) (wait_list s.pairs) in
     let k = steps_on (Awaits c e z) e (awaits-on c e z p) 0 os s t (record { ordered = r; late = l; all = refl }) g in

@@ -5,9 +5,9 @@ use mathlib.Core.List.{List, [], ◌∷◌}
 use Prim.Native.Nat.{ℕ, ◌+◌}
 use native.Mathlib.Omega.{arith}
 use lib.ListN.{length}
+use Rattle.std.specs.Prelude.{Ok}
 use Rattle.ids.specs.declared.TableNo.{TableNo}
-use Rattle.ids.specs.declared.refusal.Verdict.{Verdict}
-use Rattle.ids.specs.declared.refusal.Verdict.TheVariants.{Accepted}
+use Rattle.ids.specs.Verdicts.{Verdict}
 use Rattle.ids.specs.Answers.{Told}
 use Rattle.transaction.specs.declared.Handles.{Handles}
 use Rattle.version_state.specs.State.{State}
@@ -50,7 +50,7 @@ module _ (id : ℕ) (w : World) (r : Record) (t : Told) (l : List (List ℕ)) (v
   unmoved-relocked n b s =
       record { epoch = refl; tables = tables-kept n b s; pairs = refl; vectors = refl; manifest = refl; next = record { table = omega arith; rowset = omega arith; vector = omega arith } }
 
-  relock-sound : (m o : VersionManager) (n : ℕ) (b : Bool) (x : Verdict) → bad_manager m ≡ false → HandsBack x m (relocked n b (held_by m)) o → x ≡ Accepted → bad_manager o ≡ false
+  relock-sound : (m o : VersionManager) (n : ℕ) (b : Bool) (x : Verdict) → bad_manager m ≡ false → HandsBack x m (relocked n b (held_by m)) o → x ≡ Ok tt → bad_manager o ≡ false
   relock-sound m o n b x h k q =
       let g = subst (λ (y : Verdict). HandsBack y m (relocked n b (held_by m)) o) q k in
       nothing-passes o (relocked-sound n b m.inner o.inner (inner-passes m h) g.hands) g.nothing

@@ -7,13 +7,13 @@ use native.Mathlib.Omega.{arith}
 use lib.Dec.{eqb}
 use lib.ListN.{length, replicate}
 use borrow.Author.Tests.{eq-eqb}
+use Rattle.std.specs.Prelude.{Ok, Err}
 use Rattle.columns.specs.Rows.{rows}
 use Rattle.ids.specs.Ids.{largest32}
 use Rattle.ids.specs.Limits.{most_tables, most_held}
 use Rattle.ids.specs.declared.TableNo.{TableNo}
 use Rattle.ids.specs.declared.refusal.Refusal.{Refusal}
 use Rattle.ids.specs.declared.refusal.Refusal.TheVariants.{OutputTooShort}
-use Rattle.ids.specs.declared.refusal.Verdict.TheVariants.{Accepted, Refused}
 use Rattle.ids.specs.Answers.{Told, told}
 use Rattle.text.specs.Class.{is_digit, is_lower}
 use Rattle.text.specs.Name.{is_name_byte, is_name}
@@ -36,30 +36,12 @@ use Rattle.compaction.specs.declared.NewRowset.{NewRowset}
 use Rattle.compaction.specs.New.{new_of}
 use Rattle.version_manager.specs.declared.VersionManager.{VersionManager}
 use Rattle.version_manager.specs.declared.Opened.{Opened}
-use Rattle.version_manager.specs.declared.RowsetAnswer.TheVariants as rowset
-use Rattle.version_manager.specs.declared.DrawnRowset.{DrawnRowset}
-use Rattle.version_manager.specs.declared.VectorAnswer.TheVariants as vector
-use Rattle.version_manager.specs.declared.DrawnVector.{DrawnVector}
-use Rattle.version_manager.specs.declared.Locked.{Locked}
-use Rattle.version_manager.specs.declared.CommitAnswer.TheVariants.{Appended}
-use Rattle.version_manager.specs.declared.Committed.{Committed}
-use Rattle.version_manager.specs.declared.CreateAnswer.TheVariants.{Table as NewTable}
-use Rattle.version_manager.specs.declared.Created.{Created}
-use Rattle.version_manager.specs.declared.VacuumAnswer.TheVariants.{Listed}
-use Rattle.version_manager.specs.declared.Vacuumed.{Vacuumed}
-use Rattle.version_manager.specs.declared.ReportAnswer.TheVariants.{TakenBack}
-use Rattle.version_manager.specs.declared.Reported.{Reported}
-use Rattle.version_manager.specs.declared.CheckpointAnswer.TheVariants as checkpoint_answer
-use Rattle.version_manager.specs.declared.Checkpointed.{Checkpointed}
+use Rattle.version_manager.specs.Answered.{DrawnRowset, DrawnVector, Committed, Created, Vacuumed, Checkpointed, Reported, Locked}
 use Rattle.version_manager.specs.Managers.{held_by, FreshSays}
 use Rattle.version_manager.specs.Draw.{DrawRowsetSays, DrawVectorSays}
 use Rattle.version_manager.specs.Commit.{CommitSays}
-use Rattle.pinning.specs.declared.PinAnswer.TheVariants.{Pinned}
 use Rattle.pinning.specs.Says.{PinSays}
-use Rattle.pinning.specs.declared.UnpinAnswer.TheVariants.{Unpinned}
-use Rattle.show.specs.declared.ShowAnswer.TheVariants.{Shown, Refused as NotShown}
 use Rattle.storage.specs.declared.Reopened.{Reopened}
-use Rattle.storage.specs.declared.ReopenAnswer.TheVariants.{Rewritten}
 use Rattle.plain_record.specs.Calls.{draw_rowset, draw_vector, lock, commit, create, drop, compact, pin, unpin, vacuum, report, checkpoint, reopen}
 use Rattle.plain_record.specs.Run.{Steps, no_append, World, world, Event, onward, after_commit, after_report, after_checkpoint, after_reopen, pairs_in, Starts, Link, Chain}
 use Rattle.plain_record.specs.Claim.{Claim, Holds}
@@ -159,7 +141,7 @@ abbrev telling : List ℕ → Told
 telling l = record { number = 0; place = 0; values = l }
 
 abbrev pub drawn_by : VersionManager → ℕ → DrawnRowset
-drawn_by m i = record { manager = m; answer = rowset.Id (record { 0 = i }) }
+drawn_by m i = record { manager = m; answer = Ok (record { 0 = i }) }
 
 -- the rowset ids below n drawn
 abbrev pub drawn_to : ℕ → VersionManager
@@ -169,28 +151,28 @@ abbrev pub drawn : DrawnRowset
 drawn = drawn_by (drawn_to 1) 0
 
 abbrev pub drawn_vector : DrawnVector
-drawn_vector = record { manager = holding_all 0 0 1 1 no_tables no_pairs no_vectors 0; answer = vector.Id (record { 0 = 0 }) }
+drawn_vector = record { manager = holding_all 0 0 1 1 no_tables no_pairs no_vectors 0; answer = Ok (record { 0 = 0 }) }
 
 abbrev pub appended : VersionManager → ℕ → ℕ → Committed
-appended m e n = record { manager = m; answer = Appended e n }
+appended m e n = record { manager = m; answer = Ok (record { epoch = e; length = n }) }
 
 abbrev pub created_by : VersionManager → ℕ → ℕ → ℕ → Created
-created_by m t e n = record { manager = m; answer = NewTable (record { 0 = t }) e n }
+created_by m t e n = record { manager = m; answer = Ok (record { table = record { 0 = t }; epoch = e; length = n }) }
 
 abbrev pub locked_by : VersionManager → Locked
-locked_by m = record { manager = m; answer = Accepted }
+locked_by m = record { manager = m; answer = Ok tt }
 
 abbrev pub listed_by : VersionManager → ℕ → Vacuumed
-listed_by m n = record { manager = m; answer = Listed n }
+listed_by m n = record { manager = m; answer = Ok n }
 
 abbrev pub reported_by : VersionManager → ℕ → ℕ → Reported
-reported_by m e n = record { manager = m; answer = TakenBack e n }
+reported_by m e n = record { manager = m; answer = Ok (record { epoch = e; manifest = n }) }
 
 abbrev pub checkpointed_by : VersionManager → ℕ → Checkpointed
-checkpointed_by m n = record { manager = m; answer = checkpoint_answer.Rewritten n }
+checkpointed_by m n = record { manager = m; answer = Ok n }
 
 abbrev pub rewritten_by : VersionManager → ℕ → Reopened
-rewritten_by m n = record { manager = m; book = unpinned; answer = Rewritten n }
+rewritten_by m n = record { manager = m; book = unpinned; answer = Ok n }
 
 abbrev pub draws_on : World → VersionManager → ℕ → Event
 draws_on w m i =
@@ -294,7 +276,7 @@ reopens w m n out stale =
 
 -- Refused calls. A commit, a create and a vacuum are lent nothing.
 abbrev pub refusing : Refusal → Told
-refusing k = told (Refused k) []
+refusing k = told (Err k) []
 
 abbrev pub commit_refused : World → List Operation → VersionManager → Refusal → Event
 commit_refused w os m k =
@@ -342,11 +324,11 @@ module _ (S : Steps) where
   pub took-lock : (w : World) (t : TableNo) (m : VersionManager) → S.lock w.manager t (locked_by m) → Link S (locks w t m)
   took-lock w t m h = record { result = locked_by m; says = h; told = refl; none = refl; after = refl }
 
-  pub pinned : (w : World) (e : ℕ) (b : PinBook) → S.pin w.manager w.book (Pinned e) b → Link S (pins w e b)
-  pinned w e b h = record { answer = Pinned e; book = b; says = h; told = refl; none = refl; after = refl }
+  pub pinned : (w : World) (e : ℕ) (b : PinBook) → S.pin w.manager w.book (Ok e) b → Link S (pins w e b)
+  pinned w e b h = record { answer = Ok e; book = b; says = h; told = refl; none = refl; after = refl }
 
-  pub released : (w : World) (e : ℕ) (b : PinBook) → S.unpin w.manager e w.book (Unpinned false 0) b → Link S (unpins w e b)
-  released w e b h = record { answer = Unpinned false 0; book = b; says = h; told = refl; none = refl; after = refl }
+  pub released : (w : World) (e : ℕ) (b : PinBook) → S.unpin w.manager e w.book (Ok (record { due = false; ready = 0 })) b → Link S (unpins w e b)
+  released w e b h = record { answer = Ok (record { due = false; ready = 0 }); book = b; says = h; told = refl; none = refl; after = refl }
 
   pub vacuumed : (w : World) (m : VersionManager) (n : ℕ) (ts rs : List ℕ) → S.vacuum w.manager w.book (5 ∷ []) (5 ∷ []) (listed_by m n) ts rs → Link S (vacuums w m n ts rs)
   vacuumed w m n ts rs h =
@@ -479,11 +461,11 @@ pub fits-T : Fit (created_t 14).inner
 fits-T = few 1 1 0 tables no_pairs 14 (omega arith) (omega arith)
 
 -- a manager without tables, where the record has one; and one with a table, where it has none
-pub no_table : (S : Steps) (w : World) (d : ℕ) (t : Table) → S.show_tables w.manager w.book d [] [] [] [] (Shown 0) [] [] [] [] → ShowsTables S w d (t ∷ []) → ⊥
-no_table S w d t says h = apart (ap (λ (x : Told). x.number) (h [] [] [] [] (Shown 0) [] [] [] [] says).0) refl
+pub no_table : (S : Steps) (w : World) (d : ℕ) (t : Table) → S.show_tables w.manager w.book d [] [] [] [] (Ok 0) [] [] [] [] → ShowsTables S w d (t ∷ []) → ⊥
+no_table S w d t says h = apart (ap (λ (x : Told). x.number) (h [] [] [] [] (Ok 0) [] [] [] [] says).0) refl
 
-pub a-table : (S : Steps) (w : World) (d : ℕ) → S.show_tables w.manager w.book d [] [] [] [] (NotShown OutputTooShort) [] [] [] [] → ShowsTables S w d [] → ⊥
-a-table S w d says h = apart (ap (λ (x : Told). x.number) (h [] [] [] [] (NotShown OutputTooShort) [] [] [] [] says).0) refl
+pub a-table : (S : Steps) (w : World) (d : ℕ) → S.show_tables w.manager w.book d [] [] [] [] (Err OutputTooShort) [] [] [] [] → ShowsTables S w d [] → ⊥
+a-table S w d says h = apart (ap (λ (x : Told). x.number) (h [] [] [] [] (Err OutputTooShort) [] [] [] [] says).0) refl
 
 abbrev pub recorded : Table
 recorded = table 0 7 name
@@ -548,7 +530,7 @@ pin_ta = pins commit_ta.after 1 once
 abbrev pub commit_d : Event
 commit_d = commits pin_ta.after ops_d after_d 2 12 frame_d 0
 
-pub pin-says-TA : PinSays after_ta unpinned (Pinned 1) once
+pub pin-says-TA : PinSays after_ta unpinned (Ok 1) once
 unfolding rows is_name is_name_byte is_digit is_lower gone_at shown_at
 pin-says-TA = record { answer = refl; book = record { fits = omega arith; pins = refl } }
 
@@ -558,7 +540,7 @@ says-D = (refl, record { hands = record { fits = few 2 1 1 tables (pair 1 2) 32 
 
 -- the claim of these calls and further ones, by a manager that draws, commits and pins as the port does
 module _ (S : Steps) (claim : Claim S) (fresh : S.fresh first) (draw : S.draw_rowset first.manager drawn)
-    (add : S.commit drawn.manager (length ops_ta) ops_ta frame_ta (appended after_ta 1 20) frame_ta) (guard : S.pin after_ta unpinned (Pinned 1) once)
+    (add : S.commit drawn.manager (length ops_ta) ops_ta frame_ta (appended after_ta 1 20) frame_ta) (guard : S.pin after_ta unpinned (Ok 1) once)
     (delete : S.commit after_ta (length ops_d) ops_d frame_d (appended after_d 2 12) frame_d) where
   pub on-D : (es : List Event) → Chain S commit_d.after es → Holds S begun (draws ∷ commit_ta ∷ pin_ta ∷ commit_d ∷ es)
   on-D es c =
@@ -569,12 +551,12 @@ module _ (S : Steps) (claim : Claim S) (fresh : S.fresh first) (draw : S.draw_ro
       )
 
 -- a show without pairs, where the record has one
-pub no-pair : (S : Steps) (w : World) (d : ℕ) (k : List ℕ) → S.show_pairs w.manager w.book d [] [] (Shown 0) [] [] → ShowsPairs S w d (k ∷ []) → ⊥
-no-pair S w d k says h = apart (ap (λ (x : Told). x.number) (h [] [] (Shown 0) [] [] says).0) refl
+pub no-pair : (S : Steps) (w : World) (d : ℕ) (k : List ℕ) → S.show_pairs w.manager w.book d [] [] (Ok 0) [] [] → ShowsPairs S w d (k ∷ []) → ⊥
+no-pair S w d k says h = apart (ap (λ (x : Told). x.number) (h [] [] (Ok 0) [] [] says).0) refl
 
 -- a show of a pair, where the record has none
-pub a_pair : (S : Steps) (w : World) (d : ℕ) → S.show_pairs w.manager w.book d [] [] (NotShown OutputTooShort) [] [] → ShowsPairs S w d [] → ⊥
-a_pair S w d says h = apart (ap (λ (x : Told). x.number) (h [] [] (NotShown OutputTooShort) [] [] says).0) refl
+pub a_pair : (S : Steps) (w : World) (d : ℕ) → S.show_pairs w.manager w.book d [] [] (Err OutputTooShort) [] [] → ShowsPairs S w d [] → ⊥
+a_pair S w d says h = apart (ap (λ (x : Told). x.number) (h [] [] (Err OutputTooShort) [] [] says).0) refl
 
 abbrev pub recorded_pair : List ℕ
 recorded_pair = 0 ∷ 0 ∷ []

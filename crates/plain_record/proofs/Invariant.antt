@@ -4,8 +4,8 @@ use mathlib.Core.Bool.{true, false}
 use mathlib.Core.List.{List, ◌++◌, map}
 use Prim.Native.Nat.{ℕ, ◌+◌, ◌<◌, ◌≤◌}
 use lib.ListN.{length, take}
+use Rattle.std.specs.Prelude.{Ok}
 use Rattle.lists.specs.Keyed.{all_of}
-use Rattle.ids.specs.Results.{given}
 use Rattle.snapshot.specs.Tables.{TableEntry}
 use Rattle.version_state.specs.State.{State, with_epoch, pairs_at, vectors_at}
 use Rattle.version_state.specs.Sets.{sets_of}
@@ -43,7 +43,7 @@ pub record Filed (f : List ℕ) (s : State) (p : Plain) : Type 0 where
 -- the file as a reopen would find it is replayed to the record's last sets
 pub record Torn (f : List ℕ) (p : Plain) : Type 0 where
   pub state : State
-  pub replayed : replay_of f ≡ given state
+  pub replayed : replay_of f ≡ Ok state
   pub sets : plain_sets state ≡ p.now
   pub next : all_of (below_next state) p.added ≡ true
 

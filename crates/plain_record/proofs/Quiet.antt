@@ -4,8 +4,8 @@ use mathlib.Core.Bool.{false}
 use mathlib.Core.List.{List, map}
 use Prim.Native.Nat.{ℕ, ◌+◌, ◌≤◌}
 use native.Mathlib.Omega.{arith}
-use Rattle.ids.specs.declared.refusal.Verdict.{Verdict}
-use Rattle.ids.specs.declared.refusal.Verdict.TheVariants.{Accepted, Refused}
+use Rattle.std.specs.Prelude.{Ok, Err}
+use Rattle.ids.specs.Verdicts.{Verdict}
 use Rattle.ids.specs.Answers.{Told, told}
 use Rattle.version_state.specs.State.{State, with_next}
 use Rattle.pins.specs.declared.PinBook.{PinBook}
@@ -57,13 +57,13 @@ stands-unmoved s u b f p a k =
 
 -- a call that hands on the manager m, which stands for s where it is accepted
 pub quiet-kept : (id : ℕ) (w : World) (r : Record) (m : VersionManager) (s : State) (x : Verdict) (vs : List ℕ) (t : Told) (v : World) → Inv w r
-    → v ≡ onward m w.book t w → t ≡ told x vs → HandsBack x w.manager s m → (x ≡ Accepted → bad_manager m ≡ false) → Unmoved (held_by w.manager) s
+    → v ≡ onward m w.book t w → t ≡ told x vs → HandsBack x w.manager s m → (x ≡ Ok tt → bad_manager m ≡ false) → Unmoved (held_by w.manager) s
     → Inv v (turn quiet (is_accepted t) id r)
 quiet-kept id w r m s x vs t v i after e back sound a =
     onward-kept quiet id w r m w.book x vs t v i after e
-    (λ q. accepted-stands m w.book w.file w.last s r.whole gone (r.place + 1) (sound q) (handed Accepted q).hands.state
-    (stands-unmoved (held_by w.manager) s w.book w.file r.whole a (stands_of w r i)) (handed Accepted q).nothing)
-    (λ j q. (handed (Refused j) q, refl))
+    (λ q. accepted-stands m w.book w.file w.last s r.whole gone (r.place + 1) (sound q) (handed (Ok tt) q).hands.state
+    (stands-unmoved (held_by w.manager) s w.book w.file r.whole a (stands_of w r i)) (handed (Ok tt) q).nothing)
+    (λ j q. (handed (Err j) q, refl))
   where
     handed : (y : Verdict) → x ≡ y → HandsBack y w.manager s m
     handed y q = subst (λ (z : Verdict). HandsBack z w.manager s m) q back

@@ -8,13 +8,12 @@ use borrow.Author.Tests.{le-ltb}
 use lib.Dec.{ltb}
 use lib.ListN.{length, take}
 use lib.Seq.{take_all}
+use Rattle.std.specs.Prelude.{Ok}
 use Rattle.lists.specs.Keyed.{arranged}
 use Rattle.lists.specs.Written.{over}
 use Rattle.lists.proofs.Tests.{by_cases}
 use Rattle.lists.proofs.Keyed.{All}
 use Rattle.ids.specs.Answers.{Told, told}
-use Rattle.ids.specs.declared.refusal.Verdict.TheVariants.{Accepted}
-use Rattle.ids.specs.Results.{given}
 use Rattle.snapshot.specs.Entries.{Entry, by_deletion}
 use Rattle.version_state.specs.State.{State, state_of, with_epoch, pairs_at, vectors_at}
 use Rattle.version_state.specs.Sets.{sets_of}
@@ -46,7 +45,7 @@ pub empty-book : (e : ℕ) (b : PinBook) → Keeps b [] → bad_book e b ≡ fal
 empty-book e b k = rw (le-ltb 64 b.count k.fits, k.pins)
 
 -- what a replay gives
-module _ (src : List ℕ) (s : State) (h : replay_of src ≡ given s) where
+module _ (src : List ℕ) (s : State) (h : replay_of src ≡ Ok s) where
   whole : Whole s
   whole = whole-replayed src s h
 
@@ -161,7 +160,7 @@ module _ (w : World) (t : Told) (l : List (List ℕ)) (v : World) (out : List �
       (λ e. short-stays id (too-short e))
       (λ e.
       let x = rw (i.torn.replayed, e) at d.says in
-      let q : t ≡ told Accepted (length (rewritten_of found) ∷ []) = d.told ∙ x.0 in
+      let q : t ≡ told (Ok tt) (length (rewritten_of found) ∷ []) = d.told ∙ x.0 in
       let k : take (length (rewritten_of found)) d.left ≡ rewritten_of found = ap (take (length (rewritten_of found))) x.3 ∙ written-first (rewritten_of found) out in
       rw (d.after, q, k) (handed-on w r i d.result.manager d.result.book stale (r.place + 1) x.1 x.2))
 

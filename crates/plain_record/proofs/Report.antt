@@ -7,12 +7,11 @@ use native.Mathlib.Omega.{arith}
 use borrow.Author.Tests.{lt-ltb, le-ltb, le-leb, leb-true, leb-false, eqb-false}
 use lib.Dec.{leb, ltb, eqb}
 use lib.ListN.{length, take}
+use Rattle.std.specs.Prelude.{Ok}
 use Rattle.lists.specs.Keyed.{all_of}
 use Rattle.lists.proofs.Tests.{by_cases, clash, both, neither}
 use Rattle.ids.specs.declared.refusal.Refusal.TheVariants.{NotReportable}
-use Rattle.ids.specs.declared.refusal.Verdict.{Verdict}
-use Rattle.ids.specs.declared.refusal.Verdict.TheVariants.{Accepted}
-use Rattle.ids.specs.Verdicts.{◌⇒◌, judged}
+use Rattle.ids.specs.Verdicts.{◌⇒◌, judged, Verdict}
 use Rattle.ids.specs.Answers.{Told, told}
 use Rattle.ids.proofs.Verdicts.{none-judged}
 use Rattle.version_state.specs.State.{State}
@@ -110,10 +109,10 @@ module _ (w : World) (r : Record) (t : Told) (l : List (List ℕ)) (v : World) (
   tells : t ≡ told verdict answers
   tells = d.told ∙ d.says.answer
 
-  accepted-late : verdict ≡ Accepted → late ≡ false
+  accepted-late : verdict ≡ Ok tt → late ≡ false
   accepted-late q = (none-judged ((late ⇒ NotReportable) ∷ []) (sym verdict-is ∙ q)).0
 
-  stands : verdict ≡ Accepted → Stands s w.book (reported n w) (taken_off r.former p)
+  stands : verdict ≡ Ok tt → Stands s w.book (reported n w) (taken_off r.former p)
   stands q =
       let h = neither (leb w.manager.append n) (pinned (epoch_of p) p.pinned) (accepted-late q) in
       stands-reported w.manager w.book w.last p r.former n i.recalled (rw (← i.epoch) i.book) i.pins h.0 h.1
@@ -121,7 +120,7 @@ module _ (w : World) (r : Record) (t : Told) (l : List (List ℕ)) (v : World) (
   abbrev Handed : Verdict → Type 0
   Handed x = HandsBack x w.manager s m
 
-  handed-on : verdict ≡ Accepted → Inv (world m w.book (reported n w) (reported n w) w.last) (recorded (taken_off r.former p) (taken_off r.former p) gone (r.place + 1))
+  handed-on : verdict ≡ Ok tt → Inv (world m w.book (reported n w) (reported n w) w.last) (recorded (taken_off r.former p) (taken_off r.former p) gone (r.place + 1))
   handed-on q =
       let h = subst Handed q d.says.manager in
       accepted-stands m w.book (reported n w) w.last s (taken_off r.former p) gone (r.place + 1)
@@ -148,7 +147,7 @@ module _ (w : World) (r : Record) (t : Told) (l : List (List ℕ)) (v : World) (
   report-answers =
       by-verdict (λ a. a ≡ true → (value 0 t ≡ epoch_of (taken_off r.former p)) × (value 1 t ≡ length v.file)) verdict answers t tells
       (λ q h.
-      let e : t ≡ told Accepted answers = tells ∙ ap (λ (x : Verdict). told x answers) q in
+      let e : t ≡ told (Ok tt) answers = tells ∙ ap (λ (x : Verdict). told x answers) q in
       let f : v.file ≡ reported n w = ap (λ (x : World). x.file) (d.after ∙ ap (λ (x : Told). after_report m x n w) e) in
       (ap (value 0) e ∙ (stands q).epoch, ap (value 1) e ∙ sym (stands q).file.long ∙ ap length (sym f)))
       (λ k q h. clash h refl)

@@ -5,10 +5,10 @@ use mathlib.Core.List.{List, map}
 use Prim.Native.Nat.{ℕ, ◌+◌, ◌≤◌}
 use native.Mathlib.Omega.{arith}
 use lib.ListN.{get_or-eq_default}
+use Rattle.std.specs.Prelude.{Ok, Err}
 use Rattle.lists.specs.Keyed.{all_of}
 use Rattle.ids.specs.declared.refusal.Refusal.{Refusal}
-use Rattle.ids.specs.declared.refusal.Verdict.{Verdict}
-use Rattle.ids.specs.declared.refusal.Verdict.TheVariants.{Accepted, Refused}
+use Rattle.ids.specs.Verdicts.{Verdict}
 use Rattle.ids.specs.Answers.{Told, told}
 use Rattle.version_state.specs.State.{State, pairs_at, vectors_at}
 use Rattle.version_state.proofs.Facts.{sound-of}
@@ -91,13 +91,13 @@ pub refused-stands : (w : World) (r : Record) (m : VersionManager) (b : PinBook)
 refused-stands w r m b e h i = inv-stays w (world m b w.file w.torn w.last) r (r.place + 1) e h refl refl refl i
 
 -- the two turns of a call, by its verdict v; t is what its answer tells
-pub by-verdict : (P : Bool → Type 0) (v : Verdict) (vs : List ℕ) (t : Told) → t ≡ told v vs → (v ≡ Accepted → P true) → ((k : Refusal) → v ≡ Refused k → P false) → P (is_accepted t)
-by-verdict P Accepted vs t e a r = subst (λ (u : Told). P (is_accepted u)) (sym e) (a refl)
-by-verdict P (Refused k) vs t e a r = subst (λ (u : Told). P (is_accepted u)) (sym e) (subst P (sym (refused-number k)) (r k refl))
+pub by-verdict : (P : Bool → Type 0) (v : Verdict) (vs : List ℕ) (t : Told) → t ≡ told v vs → (v ≡ Ok tt → P true) → ((k : Refusal) → v ≡ Err k → P false) → P (is_accepted t)
+by-verdict P (Ok _) vs t e a r = subst (λ (u : Told). P (is_accepted u)) (sym e) (a refl)
+by-verdict P (Err k) vs t e a r = subst (λ (u : Told). P (is_accepted u)) (sym e) (subst P (sym (refused-number k)) (r k refl))
 
 -- a call of the kind k that appends nothing and hands on the manager m and the book b; x is its verdict
 pub onward-kept : (k : Kind) (id : ℕ) (w : World) (r : Record) (m : VersionManager) (b : PinBook) (x : Verdict) (vs : List ℕ) (t : Told) (v : World) → Inv w r
-    → v ≡ onward m b t w → t ≡ told x vs → (x ≡ Accepted → Inv (world m b w.file w.file w.last) (accepts k id r)) → ((j : Refusal) → x ≡ Refused j → (m ≡ w.manager) × (b ≡ w.book))
+    → v ≡ onward m b t w → t ≡ told x vs → (x ≡ Ok tt → Inv (world m b w.file w.file w.last) (accepts k id r)) → ((j : Refusal) → x ≡ Err j → (m ≡ w.manager) × (b ≡ w.book))
     → Inv v (turn k (is_accepted t) id r)
 onward-kept k id w r m b x vs t v i after e took stayed =
     subst (λ (u : World). Inv u (turn k (is_accepted t) id r)) (sym after)

@@ -6,9 +6,9 @@ use Prim.Native.Nat.{ℕ, ◌+◌, ◌-◌}
 use native.Mathlib.Omega.{arith}
 use lib.Dec.{leb}
 use borrow.Author.Tests.{eq-eqb, ne_eqb, leb-true, leb-false, not-false}
+use Rattle.std.specs.Prelude.{Ok}
 use Rattle.lists.proofs.Tests.{by_cases}
-use Rattle.ids.specs.declared.refusal.Verdict.{Verdict}
-use Rattle.ids.specs.declared.refusal.Verdict.TheVariants.{Accepted}
+use Rattle.ids.specs.Verdicts.{Verdict}
 use Rattle.ids.specs.Answers.{Told}
 use Rattle.ids.proofs.Verdicts.{none-judged}
 use Rattle.pins.specs.Book.{PinEntry, pins_of, place_on, Keeps, has_place}
@@ -55,7 +55,7 @@ module _ (w : World) (r : Record) (t : Told) (l : List (List ℕ)) (v : World) (
       recalled-book w.manager w.book d.book w.last r.whole r.former (one_less e r.whole.pinned) i.recalled
       (λ h. bound-recounted f w.book d.book (place_on e) (left_on (place_on e) pins_held) k (bound-guarded (guards_of f w.book) e (held-pinned (place_on e) pins_held on)))
 
-  is_held : unpin_verdict w.manager e w.book ≡ Accepted → has_place (place_on e) pins_held ≡ true
+  is_held : unpin_verdict w.manager e w.book ≡ Ok tt → has_place (place_on e) pins_held ≡ true
   is_held a = not-false (has_place (place_on e) pins_held) (none-judged (unpin_rules w.manager e w.book) a).1.1.0
 
   abbrev After : Verdict → Type 0

@@ -8,13 +8,13 @@ use lib.Dec.{leb}
 use lib.ListN.{length, drop, get_or, length-map}
 use lib.Seq.{take_at}
 use borrow.Author.Tests.{leb-true}
+use Rattle.std.specs.Prelude.{Ok, Err}
 use Rattle.lists.specs.Keyed.{keep, placed, arranged}
 use Rattle.lists.specs.Written.{over}
 use Rattle.lists.proofs.Tests.{by_cases, clash, both}
 use Rattle.lists.proofs.Keyed.{All, all_map, all_any, all_of-all, all_keep, all_placed, keep_same, keep-keep, keep-map, sorted-arranged, keep-placed, keep-placed-out}
 use Rattle.columns.proofs.Rows.{rows_all}
-use Rattle.ids.specs.declared.refusal.Verdict.{Verdict}
-use Rattle.ids.specs.declared.refusal.Verdict.TheVariants.{Accepted, Refused}
+use Rattle.ids.specs.Verdicts.{Verdict}
 use Rattle.ids.specs.Answers.{Told, told, after}
 use Rattle.snapshot.specs.Views.{rowsets_of}
 use Rattle.snapshot.specs.Entries.{Entry, gone_at, gone_by, waits, by_deletion, below_next, within, field}
@@ -206,8 +206,8 @@ module _ (w : World) (r : Record) (t : Told) (l : List (List ℕ)) (v : World) (
 
   lists-by : (c : Verdict) (ts' rs' : List ℕ) → t ≡ told c (length list ∷ []) → ts' ≡ after c (over (field 0 list) ts) ts → rs' ≡ after c (over (field 1 list) rs) rs → is_accepted t ≡ true
       → (listed_if t ts' rs' ≡ map (λ (x : Entry). x.ids) list) × (value 0 t ≡ length list)
-  lists-by Accepted ts' rs' e f g a = (rw (e, f, g) (pairs-written list ts rs (two-ids inner to)), rw e)
-  lists-by (Refused q) ts' rs' e f g a = clash a (rw e (refused-number q))
+  lists-by (Ok _) ts' rs' e f g a = (rw (e, f, g) (pairs-written list ts rs (two-ids inner to)), rw e)
+  lists-by (Err q) ts' rs' e f g a = clash a (rw e (refused-number q))
 
   -- what it lists, by the slices that it left
   pub vacuum-pairs : is_accepted t ≡ true → l ≡ map (λ (x : Entry). x.ids) list

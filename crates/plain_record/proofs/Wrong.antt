@@ -5,9 +5,9 @@ use mathlib.Core.List.{List, [], ◌∷◌}
 use Prim.Native.Nat.{ℕ, ◌-◌}
 use native.Mathlib.Omega.{arith}
 use lib.ListN.{length, replicate}
+use Rattle.std.specs.Prelude.{Err, Ok}
 use Rattle.columns.specs.Rows.{rows}
 use Rattle.ids.specs.declared.refusal.Refusal.TheVariants.{PinAtEpochZero, IdNotDrawn, EpochNotPinned, OutputTooShort}
-use Rattle.ids.specs.declared.refusal.Verdict.TheVariants.{Refused}
 use Rattle.ids.specs.Answers.{Told}
 use Rattle.text.specs.Class.{is_digit, is_lower}
 use Rattle.text.specs.Name.{is_name_byte, is_name}
@@ -22,17 +22,11 @@ use Rattle.pins.specs.declared.PinBook.{PinBook}
 use Rattle.pins.specs.Book.{most_pinned}
 use Rattle.operations.specs.Steps.{step_of}
 use Rattle.version_manager.specs.declared.VersionManager.{VersionManager}
-use Rattle.version_manager.specs.declared.CommitAnswer.TheVariants.{Refused as NotAppended}
-use Rattle.version_manager.specs.declared.Committed.{Committed}
-use Rattle.version_manager.specs.declared.VacuumAnswer.TheVariants.{Refused as NotListed}
-use Rattle.version_manager.specs.declared.Vacuumed.{Vacuumed}
+use Rattle.version_manager.specs.Answered.{Committed, Vacuumed}
 use Rattle.version_manager.specs.Managers.{held_by}
 use Rattle.version_manager.specs.Commit.{outcome_of, CommitEnds, CommitSays}
 use Rattle.version_manager.specs.Show.{ShowTablesSays, ShowPairsSays, ShowVectorsSays}
-use Rattle.pinning.specs.declared.PinAnswer.TheVariants.{Pinned, Refused as NotPinned}
-use Rattle.pinning.specs.declared.UnpinAnswer.TheVariants.{Unpinned}
 use Rattle.pinning.specs.Says.{PinSays}
-use Rattle.show.specs.declared.ShowAnswer.TheVariants.{Shown, Refused as NotShown}
 use Rattle.show.specs.Says.{TablesShown}
 use Rattle.plain_record.specs.Run.{Steps, World, Event, Chain}
 use Rattle.plain_record.specs.Claim.{Claim, Holds}
@@ -97,7 +91,7 @@ counts-one-more claim =
 
 -- a vacuum that is lent nothing lets the deletion go
 abbrev not_listed : Vacuumed
-not_listed = record { manager = swept_tad; answer = NotListed OutputTooShort }
+not_listed = record { manager = swept_tad; answer = Err OutputTooShort }
 
 anyway-says : VacuumsAnyway after_tad unpinned [] [] not_listed [] []
 unfolding rows is_name is_name_byte is_digit is_lower gone_at shown_at
@@ -118,7 +112,7 @@ lets-go-refused claim =
     not-empty h.agrees.waiting
 
 -- the deletion's own epoch is pinned
-pin-says : PinSays after_tad unpinned (Pinned 1) once
+pin-says : PinSays after_tad unpinned (Ok 1) once
 unfolding rows is_name is_name_byte is_digit is_lower gone_at shown_at
 pin-says = record { answer = refl; book = record { fits = omega arith; pins = refl } }
 
@@ -139,7 +133,7 @@ keeps-own-epoch claim =
     true≢false (sym (((h.deletions.1.0 refl refl refl).0.1 refl).1.0 refl).0.1)
 
 -- a pin answers the next epoch
-next-says : PinsNext after_tad unpinned (Pinned 2) once
+next-says : PinsNext after_tad unpinned (Ok 2) once
 unfolding rows is_name is_name_byte is_digit is_lower gone_at shown_at
 next-says = record { answer = refl; book = record { fits = omega arith; pins = refl } }
 
@@ -151,7 +145,7 @@ answers-next claim =
     apart (h.answers.1.1.0 refl) refl
 
 -- a pin is not counted
-uncounted-says : PinsNothing after_tad unpinned (Pinned 1) unpinned
+uncounted-says : PinsNothing after_tad unpinned (Ok 1) unpinned
 unfolding rows is_name is_name_byte is_digit is_lower gone_at shown_at
 uncounted-says = record { answer = refl; book = refl }
 
@@ -166,7 +160,7 @@ counts-no-pin claim =
 abbrev on_zero : PinBook
 on_zero = record { items = record { epoch = 0; count = 1 } ∷ replicate (most_pinned - 1) (record { epoch = 0; count = 0 }); count = 1 }
 
-zero-says : PinsAnyway first.manager unpinned (NotPinned PinAtEpochZero) on_zero
+zero-says : PinsAnyway first.manager unpinned (Err PinAtEpochZero) on_zero
 unfolding rows
 zero-says = record { answer = refl; book = record { fits = omega arith; pins = refl } }
 
@@ -176,7 +170,7 @@ counts-refused claim =
     let h =
     claim begun (pin_refused begun PinAtEpochZero on_zero ∷ []) (begins S fresh-says) (
       refl,
-      record { answer = NotPinned PinAtEpochZero; book = on_zero; says = zero-says; told = refl; none = refl; after = refl },
+      record { answer = Err PinAtEpochZero; book = on_zero; says = zero-says; told = refl; none = refl; after = refl },
       tt,
     ) in
     not-empty (sym h.agrees.book)
@@ -265,7 +259,7 @@ pairs-lost : VacuumsTo 0 port_bound unguarded port_bound after_d once (5 ∷ [])
 unfolding rows is_name is_name_byte is_digit is_lower gone_at shown_at
 pairs-lost = record { answer = refl; tables = refl; rowsets = refl; manager = record { hands = record { fits = fits-D; state = refl }; nothing = refl } }
 
-lost-shows : ShowPairsSays swept_d once 1 [] [] (Shown 0) [] []
+lost-shows : ShowPairsSays swept_d once 1 [] [] (Ok 0) [] []
 unfolding rows is_name is_name_byte is_digit is_lower gone_at shown_at
 lost-shows = record { answer = refl; tables = refl; rowsets = refl }
 
@@ -282,7 +276,7 @@ loses-pairs claim =
     no-pair S v.after 1 recorded_pair lost-shows (h.agrees.pairs 1 refl)
 
 -- a show of epoch 1 gives what epoch 2 has
-current-says : ShowPairsSays after_d once 2 [] [] (Shown 0) [] []
+current-says : ShowPairsSays after_d once 2 [] [] (Ok 0) [] []
 unfolding rows is_name is_name_byte is_digit is_lower gone_at shown_at
 current-says = record { answer = refl; tables = refl; rowsets = refl }
 
@@ -311,7 +305,7 @@ pin_tav = pins commit_tav.after 1 once
 abbrev commit_w : Event
 commit_w = commits pin_tav.after ops_w after_w 2 14 frame_w 0
 
-pin-says-TAV : PinSays after_tav unpinned (Pinned 1) once
+pin-says-TAV : PinSays after_tav unpinned (Ok 1) once
 unfolding rows is_name is_name_byte is_digit is_lower gone_at shown_at
 pin-says-TAV = record { answer = refl; book = record { fits = omega arith; pins = refl } }
 
@@ -322,7 +316,7 @@ says-W =
 
 -- the claim of these calls and further ones, by a manager that draws, commits and pins as the port does
 module _ (S : Steps) (claim : Claim S) (fresh : S.fresh first) (draw : S.draw_rowset first.manager drawn) (draw-v : S.draw_vector drawn.manager drawn_vector)
-    (add : S.commit drawn_vector.manager (length ops_tav) ops_tav frame_tav (appended after_tav 1 28) frame_tav) (guard : S.pin after_tav unpinned (Pinned 1) once)
+    (add : S.commit drawn_vector.manager (length ops_tav) ops_tav frame_tav (appended after_tav 1 28) frame_tav) (guard : S.pin after_tav unpinned (Ok 1) once)
     (delete : S.commit after_tav (length ops_w) ops_w frame_w (appended after_w 2 14) frame_w) where
   on-W : (es : List Event) → Chain S commit_w.after es → Holds S begun (draws ∷ draws_vector ∷ commit_tav ∷ pin_tav ∷ commit_w ∷ es)
   on-W es c =
@@ -345,14 +339,14 @@ module _ (S : Steps) (claim : Claim S) (fresh : S.fresh first) (draw : S.draw_ro
       )
 
 -- a show without vectors, where the record has one
-no-vector : (S : Steps) (w : World) (d : ℕ) (k : List ℕ) → S.show_vectors w.manager w.book d [] [] [] (Shown 0) [] [] [] → ShowsVectors S w d (k ∷ []) → ⊥
-no-vector S w d k says h = apart (ap (λ (x : Told). x.number) (h [] [] [] (Shown 0) [] [] [] says).0) refl
+no-vector : (S : Steps) (w : World) (d : ℕ) (k : List ℕ) → S.show_vectors w.manager w.book d [] [] [] (Ok 0) [] [] [] → ShowsVectors S w d (k ∷ []) → ⊥
+no-vector S w d k says h = apart (ap (λ (x : Told). x.number) (h [] [] [] (Ok 0) [] [] [] says).0) refl
 
 abbrev recorded_vector : List ℕ
 recorded_vector = 0 ∷ 0 ∷ 0 ∷ []
 
 -- a show of epoch 1 gives the vectors that epoch 2 has
-current-vectors : ShowVectorsSays after_w once 2 [] [] [] (Shown 0) [] [] []
+current-vectors : ShowVectorsSays after_w once 2 [] [] [] (Ok 0) [] [] []
 unfolding rows is_name is_name_byte is_digit is_lower gone_at shown_at
 current-vectors = record { answer = refl; tables = refl; rowsets = refl; vectors = refl }
 
@@ -373,7 +367,7 @@ vectors-lost =
       manager = record { hands = record { fits = few-all 2 1 1 1 tables (pair 1 0) no_vectors 42 (omega arith) (omega arith) (omega arith); state = refl }; nothing = refl };
     }
 
-lost-vectors : ShowVectorsSays (held_w no_vectors) once 1 [] [] [] (Shown 0) [] [] []
+lost-vectors : ShowVectorsSays (held_w no_vectors) once 1 [] [] [] (Ok 0) [] [] []
 unfolding rows is_name is_name_byte is_digit is_lower gone_at shown_at
 lost-vectors = record { answer = refl; tables = refl; rowsets = refl; vectors = refl }
 
@@ -409,11 +403,11 @@ leaves-epoch claim =
     apart h.agrees.epoch refl
 
 -- epoch 1 is pinned and unpinned, and the pin stays
-pin-says-none : PinSays after_none unpinned (Pinned 1) once
+pin-says-none : PinSays after_none unpinned (Ok 1) once
 unfolding rows
 pin-says-none = record { answer = refl; book = record { fits = omega arith; pins = refl } }
 
-stays-says : UnpinsNothing after_none 1 once (Unpinned false 0) once
+stays-says : UnpinsNothing after_none 1 once (Ok (record { due = false; ready = 0 })) once
 unfolding rows
 stays-says = record { answer = refl; ready = omega arith; book = refl }
 
@@ -438,7 +432,7 @@ unchanged-T : CommitEnds (unchanged after_none (length ops_t) ops_t 14) after_no
 unfolding rows step_of text_of fields_text digits digits_by is_name is_name_byte is_digit is_lower gone_at shown_at
 unchanged-T = (refl, record { hands = record { fits = few 2 1 0 no_tables no_pairs 20 (omega arith) (omega arith); state = refl }; former = record { fits = says_none.1.hands.fits; state = refl }; append = refl }, refl)
 
-unchanged-shows : ShowTablesSays (after_t no_tables) unpinned 2 [] [] [] [] (Shown 0) [] [] [] []
+unchanged-shows : ShowTablesSays (after_t no_tables) unpinned 2 [] [] [] [] (Ok 0) [] [] [] []
 unfolding rows
 unchanged-shows = record { answer = refl; ids = refl; shapes = refl; lengths = refl; names = refl }
 
@@ -459,13 +453,13 @@ abbrev part_t : VersionManager
 part_t = holding 0 1 0 tables no_pairs 0
 
 abbrev not_appended : Committed
-not_appended = record { manager = part_t; answer = NotAppended (IdNotDrawn 1) }
+not_appended = record { manager = part_t; answer = Err (IdNotDrawn 1) }
 
 part_says : CommitLeaves (outcome_of first.manager (length ops_ta) ops_ta 0) first.manager ops_ta [] not_appended []
 unfolding rows step_of is_name is_name_byte is_digit is_lower
 part_says = (refl, record { hands = record { fits = few 0 1 0 tables no_pairs 0 (omega arith) (omega arith); state = refl }; nothing = refl }, refl)
 
-part-shows : ShowTablesSays part_t unpinned 0 [] [] [] [] (NotShown OutputTooShort) [] [] [] []
+part-shows : ShowTablesSays part_t unpinned 0 [] [] [] [] (Err OutputTooShort) [] [] [] []
 unfolding rows is_name is_name_byte is_digit is_lower
 part-shows = record { answer = refl; ids = refl; shapes = refl; lengths = refl; names = refl }
 
@@ -482,14 +476,14 @@ leaves-part claim =
     a-table S e.after 0 part-shows h.agrees.tables
 
 -- a show of epoch 0 is refused by 24 before any call
-no-epoch : TablesShown (held_by first.manager) 0 (Refused EpochNotPinned) [] [] [] [] (NotShown EpochNotPinned) [] [] [] []
+no-epoch : TablesShown (held_by first.manager) 0 (Err EpochNotPinned) [] [] [] [] (Err EpochNotPinned) [] [] [] []
 no-epoch = record { answer = refl; ids = refl; shapes = refl; lengths = refl; names = refl }
 
 refuses-show : Refuted refuses_show
 refuses-show claim =
     let S = refuses_show in
     let h = claim begun [] (begins S fresh-says) tt in
-    apart (ap (λ (x : Told). x.number) (h.agrees.tables [] [] [] [] (NotShown EpochNotPinned) [] [] [] [] no-epoch).0) refl
+    apart (ap (λ (x : Told). x.number) (h.agrees.tables [] [] [] [] (Err EpochNotPinned) [] [] [] [] no-epoch).0) refl
 
 pub wrong-refuted : WrongRefuted
 wrong-refuted =

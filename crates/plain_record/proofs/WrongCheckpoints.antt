@@ -4,6 +4,7 @@ use mathlib.Core.Bool.{false, true≢false}
 use mathlib.Core.List.{List, [], ◌∷◌}
 use Prim.Native.Nat.{ℕ}
 use native.Mathlib.Omega.{arith}
+use Rattle.std.specs.Prelude.{Ok, Err}
 use Rattle.columns.specs.Rows.{rows}
 use Rattle.ids.specs.declared.refusal.Refusal.TheVariants.{OutputTooShort}
 use Rattle.text.specs.Class.{is_digit, is_lower}
@@ -18,7 +19,6 @@ use Rattle.version_manager.specs.declared.VersionManager.{VersionManager}
 use Rattle.version_manager.specs.Managers.{held_by}
 use Rattle.version_manager.specs.Vacuum.{VacuumSays}
 use Rattle.version_manager.specs.Show.{ShowPairsSays}
-use Rattle.show.specs.declared.ShowAnswer.TheVariants.{Shown, Refused as NotShown}
 use Rattle.storage.specs.Reopen.{ReopenSays}
 use Rattle.plain_record.specs.Wrong.{ChecksBy, with_length, all_held, writes_waiting, past_held, forgets_let_go, keeps_length, only_now, drops_older, Refuted}
 use Rattle.plain_record.proofs.Events.{apart, no_pairs, holding, few, unpinned, once, no_pins, first, begun, listed_by, checkpointed_by, rewritten_by, vacuums, checkpoints, reopens, begins, vacuumed, checkpointed, reopened, fresh-says, draw-says, tables, pair, after_tad, swept_tad, commit_tad, says-TAD, on-TAD, says-TA, after_d, commit_d, pin-says-TA, says-D, on-D, no-pair, a_pair, recorded_pair}
@@ -51,7 +51,7 @@ pair-opens : ReopenSays with_pair with_pair (rewritten_by found_pair 26) with_pa
 unfolding rows text_of fields_text digits digits_by lines lines_on line_of line_by two_fields three_fields table_fields field_at named_at read_at read_in read_on is_name is_name_byte is_digit is_lower gone_at shown_at
 pair-opens = (refl, record { hands = record { fits = few 1 1 1 tables (pair 1 0) 26 (omega arith) (omega arith); state = refl }; nothing = refl }, no_pins, refl)
 
-pair-shows : ShowPairsSays found_pair unpinned 1 [] [] (NotShown OutputTooShort) [] []
+pair-shows : ShowPairsSays found_pair unpinned 1 [] [] (Err OutputTooShort) [] []
 unfolding rows is_name is_name_byte is_digit is_lower gone_at shown_at
 pair-shows = record { answer = refl; tables = refl; rowsets = refl }
 
@@ -149,7 +149,7 @@ older-says : ChecksBy rewritten_of (λ s. with_length rewritten_of (only_now s))
 unfolding rows text_of fields_text digits digits_by is_name is_name_byte is_digit is_lower gone_at shown_at
 older-says = record { answer = refl; bytes = refl; manager = record { hands = record { fits = few 2 1 1 tables no_pairs 20 (omega arith) (omega arith); state = refl }; nothing = refl } }
 
-older-shows : ShowPairsSays checked_d once 1 [] [] (Shown 0) [] []
+older-shows : ShowPairsSays checked_d once 1 [] [] (Ok 0) [] []
 unfolding rows is_name is_name_byte is_digit is_lower gone_at shown_at
 older-shows = record { answer = refl; tables = refl; rowsets = refl }
 

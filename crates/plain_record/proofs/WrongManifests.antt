@@ -5,6 +5,7 @@ use mathlib.Core.List.{List, [], ◌∷◌, ◌++◌}
 use Prim.Native.Nat.{ℕ, ◌≤◌}
 use native.Mathlib.Omega.{arith}
 use lib.ListN.{length, take, replicate, length-replicate}
+use Rattle.std.specs.Prelude.{Ok, Err}
 use Rattle.columns.specs.Rows.{rows}
 use Rattle.ids.specs.declared.refusal.Refusal.TheVariants.{OutputTooShort}
 use Rattle.text.specs.Class.{is_digit, is_lower}
@@ -18,9 +19,7 @@ use Rattle.version_manager.specs.declared.VersionManager.{VersionManager}
 use Rattle.commit.specs.Commit.{append_of}
 use Rattle.version_manager.specs.Commit.{outcome_of, CommitSays}
 use Rattle.version_manager.specs.Show.{ShowTablesSays}
-use Rattle.show.specs.declared.ShowAnswer.TheVariants.{Shown, Refused as NotShown}
 use Rattle.rewrite.specs.Rewritten.{longest_rewritten}
-use Rattle.storage.specs.declared.ReopenAnswer.TheVariants.{Refused as NotOpened}
 use Rattle.storage.specs.Reopen.{reopen_of, ReopenIs, ReopenSays}
 use Rattle.plain_record.specs.Calls.{reopen}
 use Rattle.plain_record.specs.Run.{Steps, Event, Link}
@@ -34,13 +33,13 @@ rewritten = 66 ∷ 10 ∷ 78 ∷ 44 ∷ 48 ∷ 44 ∷ 48 ∷ 44 ∷ 48 ∷ 10 �
 abbrev empty : VersionManager
 empty = holding 1 0 0 no_tables no_pairs 12
 
-empty-shows : ShowTablesSays empty unpinned 1 [] [] [] [] (Shown 0) [] [] [] []
+empty-shows : ShowTablesSays empty unpinned 1 [] [] [] [] (Ok 0) [] [] [] []
 unfolding rows
 empty-shows = record { answer = refl; ids = refl; shapes = refl; lengths = refl; names = refl }
 
 module _ (S : Steps) (fresh : S.fresh first) (none : S.commit first.manager (length ops_none) ops_none frame_none (appended after_none 1 6) frame_none)
     (one : S.commit after_none (length ops_t) ops_t frame_t (appended (after_t tables) 2 14) frame_t)
-    (opens : S.reopen (frame_none ++ frame_t) rewritten (rewritten_by empty 12) rewritten) (shows : S.show_tables empty unpinned 1 [] [] [] [] (Shown 0) [] [] [] []) where
+    (opens : S.reopen (frame_none ++ frame_t) rewritten (rewritten_by empty 12) rewritten) (shows : S.show_tables empty unpinned 1 [] [] [] [] (Ok 0) [] [] [] []) where
   all-gone : Refuted S
   all-gone claim =
       let w = (commit_t tables 0).after in
@@ -117,7 +116,7 @@ early-says : ReopenSays (closed torn) (rewritten_t 49) (rewritten_by (found 1) 2
 unfolding rows text_of fields_text digits digits_by lines lines_on rest_on line_of line_by table_fields field_at named_at read_at read_in read_on is_name is_name_byte is_digit is_lower gone_at shown_at
 early-says = (refl, record { hands = record { fits = few 1 1 0 tables no_pairs 20 (omega arith) (omega arith); state = refl }; nothing = refl }, no_pins, refl)
 
-found-shows : ShowTablesSays (found 1) unpinned 1 [] [] [] [] (NotShown OutputTooShort) [] [] [] []
+found-shows : ShowTablesSays (found 1) unpinned 1 [] [] [] [] (Err OutputTooShort) [] [] [] []
 unfolding rows is_name is_name_byte is_digit is_lower
 found-shows = record { answer = refl; ids = refl; shapes = refl; lengths = refl; names = refl }
 
@@ -225,7 +224,7 @@ module _ (out : List ℕ) (long : longest_rewritten ≤ length out) where
   refusal-says : Link refuses_reopen refusal
   refusal-says =
       record {
-        result = record { manager = first.manager; book = unpinned; answer = NotOpened OutputTooShort };
+        result = record { manager = first.manager; book = unpinned; answer = Err OutputTooShort };
         left = out;
         says = (refl, fresh-says.manager, no_pins, refl);
         told = refl;

@@ -5,6 +5,7 @@ use mathlib.Core.List.{List, [], ◌∷◌}
 use Prim.Native.Nat.{ℕ, ◌≤◌}
 use native.Mathlib.Omega.{arith}
 use lib.ListN.{length, replicate, length-replicate}
+use Rattle.std.specs.Prelude.{Ok, Err}
 use Rattle.columns.specs.Rows.{rows}
 use Rattle.ids.specs.declared.refusal.Refusal.TheVariants.{Malformed, OutputTooShort}
 use Rattle.text.specs.Class.{is_digit, is_lower}
@@ -20,9 +21,6 @@ use Rattle.version_manager.specs.declared.VersionManager.{VersionManager}
 use Rattle.version_manager.specs.Commit.{CommitSays}
 use Rattle.version_manager.specs.Report.{report_verdict, reported_state, ReportSays}
 use Rattle.version_manager.specs.Show.{ShowTablesSays}
-use Rattle.show.specs.declared.ShowAnswer.TheVariants.{Refused as NotShown}
-use Rattle.storage.specs.declared.ReopenAnswer.TheVariants.{Refused as NotOpened}
-use Rattle.pinning.specs.declared.PinAnswer.TheVariants.{Pinned}
 use Rattle.pinning.specs.Says.{PinSays}
 use Rattle.plain_record.specs.Calls.{reopen}
 use Rattle.plain_record.specs.Run.{Event, Link}
@@ -79,7 +77,7 @@ keeps-deletions claim =
 abbrev fresh : VersionManager
 fresh = holding 0 0 0 no_tables no_pairs 0
 
-pin-says : PinSays after_none unpinned (Pinned 1) once
+pin-says : PinSays after_none unpinned (Ok 1) once
 unfolding rows
 pin-says = record { answer = refl; book = record { fits = omega arith; pins = refl } }
 
@@ -146,7 +144,7 @@ unfolding rows text_of fields_text digits digits_by lines lines_on line_of line_
 torn-says =
     (refl, record { hands = record { fits = few 1 1 0 tables no_pairs 20 (omega arith) (omega arith); state = refl }; nothing = refl }, no_pins, refl)
 
-found-shows : ShowTablesSays found_t unpinned 1 [] [] [] [] (NotShown OutputTooShort) [] [] [] []
+found-shows : ShowTablesSays found_t unpinned 1 [] [] [] [] (Err OutputTooShort) [] [] [] []
 unfolding rows is_name is_name_byte is_digit is_lower
 found-shows = record { answer = refl; ids = refl; shapes = refl; lengths = refl; names = refl }
 
@@ -216,7 +214,7 @@ module _ (out : List ℕ) (long : longest_rewritten ≤ length out) where
   unfolding rows lines lines_on line_of line_by
   refusal-says =
       record {
-        result = record { manager = first.manager; book = unpinned; answer = NotOpened (Malformed 1) };
+        result = record { manager = first.manager; book = unpinned; answer = Err (Malformed 1) };
         left = out;
         says = (refl, fresh-says.manager, no_pins, refl);
         told = refl;

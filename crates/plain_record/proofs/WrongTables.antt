@@ -5,6 +5,7 @@ use mathlib.Core.List.{List, [], ◌∷◌, ◌++◌}
 use Prim.Native.Nat.{ℕ}
 use native.Mathlib.Omega.{arith}
 use lib.ListN.{length}
+use Rattle.std.specs.Prelude.{Ok, Err}
 use Rattle.columns.specs.Rows.{rows}
 use Rattle.ids.specs.declared.TableNo.{TableNo}
 use Rattle.ids.specs.declared.refusal.Refusal.TheVariants.{NameTaken, OutputTooShort, BadManager}
@@ -23,15 +24,13 @@ use Rattle.version_state.specs.Widths.{Narrow}
 use Rattle.compaction.specs.declared.NewRowset.{NewRowset}
 use Rattle.compaction.specs.declared.NewRowset.TheVariants as new
 use Rattle.version_manager.specs.declared.VersionManager.{VersionManager}
-use Rattle.version_manager.specs.declared.CreateAnswer.TheVariants.{Refused as NotCreated}
-use Rattle.version_manager.specs.declared.Created.{Created}
+use Rattle.version_manager.specs.Answered.{Created}
 use Rattle.version_manager.specs.Managers.{held_by}
 use Rattle.version_manager.specs.Draw.{DrawRowsetSays}
 use Rattle.version_manager.specs.Lock.{LockSays}
 use Rattle.version_manager.specs.Commit.{CommitSays}
 use Rattle.version_manager.specs.Compact.{CompactSays}
 use Rattle.version_manager.specs.Show.{ShowPairsSays, ShowVectorsSays}
-use Rattle.show.specs.declared.ShowAnswer.TheVariants.{Shown, Refused as NotShown}
 use Rattle.storage.specs.Reopen.{ReopenSays}
 use Rattle.plain_record.specs.Run.{Steps, World, Event, Chain}
 use Rattle.plain_record.specs.Claim.{Claim, Holds}
@@ -87,7 +86,7 @@ abbrev twice : VersionManager
 twice = following (created_t 14) 14 (holding 2 2 0 (holds (0 ∷ 1 ∷ []) (7 ∷ 7 ∷ []) (1 ∷ 1 ∷ []) (places longest_name name ++ name) [] 2) no_pairs 28)
 
 abbrev not_created : Created
-not_created = record { manager = twice; answer = NotCreated (NameTaken 0) }
+not_created = record { manager = twice; answer = Err (NameTaken 0) }
 
 create-says : creates_refused.create first.manager 7 name frame_t (created_by (created_t 14) 0 1 14) frame_t
 unfolding rows text_of fields_text digits digits_by is_name is_name_byte is_digit is_lower
@@ -122,7 +121,7 @@ forgotten-says : LocksForgetting after_ta table (locked_by forgotten)
 unfolding rows is_name is_name_byte is_digit is_lower gone_at shown_at
 forgotten-says = record { answer = refl; manager = record { hands = record { fits = few 1 1 1 locked no_pairs 20 (omega arith) (omega arith); state = refl }; nothing = refl } }
 
-forgotten-shows : ShowPairsSays forgotten unpinned 1 [] [] (Shown 0) [] []
+forgotten-shows : ShowPairsSays forgotten unpinned 1 [] [] (Ok 0) [] []
 unfolding rows is_name is_name_byte is_digit is_lower gone_at shown_at
 forgotten-shows = record { answer = refl; tables = refl; rowsets = refl }
 
@@ -194,7 +193,7 @@ stays-says =
     }
 
 -- a vector without its rowset: 29 refuses to show it
-stays-shows : ShowVectorsSays stays unpinned 2 [] [] [] (NotShown BadManager) [] [] []
+stays-shows : ShowVectorsSays stays unpinned 2 [] [] [] (Err BadManager) [] [] []
 unfolding rows is_name is_name_byte is_digit is_lower gone_at shown_at
 stays-shows = record { answer = refl; tables = refl; rowsets = refl; vectors = refl }
 
@@ -221,7 +220,7 @@ leaves-vectors claim =
         ),
       ),
     ) in
-    apart (ap (λ (x : Told). x.number) (h.agrees.vectors 2 refl [] [] [] (NotShown BadManager) [] [] [] stays-shows).0) refl
+    apart (ap (λ (x : Told). x.number) (h.agrees.vectors 2 refl [] [] [] (Err BadManager) [] [] [] stays-shows).0) refl
 
 -- Rowsets 0 and 1 are merged into 2, by a manager whose compactions alone are wrong.
 abbrev draws_two : Event
@@ -317,8 +316,8 @@ module _ (f : Like CompactSays) (claim : Claim (compacting f)) (d n : ℕ) (says
       )
 
 -- a show of more than one pair, where the record has one
-more-pairs : (S : Steps) (w : World) (d : ℕ) (k : List ℕ) → S.show_pairs w.manager w.book d (5 ∷ []) (5 ∷ []) (NotShown OutputTooShort) (5 ∷ []) (5 ∷ []) → ShowsPairs S w d (k ∷ []) → ⊥
-more-pairs S w d k says h = apart (ap (λ (x : Told). x.number) (h (5 ∷ []) (5 ∷ []) (NotShown OutputTooShort) (5 ∷ []) (5 ∷ []) says).0) refl
+more-pairs : (S : Steps) (w : World) (d : ℕ) (k : List ℕ) → S.show_pairs w.manager w.book d (5 ∷ []) (5 ∷ []) (Err OutputTooShort) (5 ∷ []) (5 ∷ []) → ShowsPairs S w d (k ∷ []) → ⊥
+more-pairs S w d k says h = apart (ap (λ (x : Told). x.number) (h (5 ∷ []) (5 ∷ []) (Err OutputTooShort) (5 ∷ []) (5 ∷ []) says).0) refl
 
 abbrev merged_pair : List ℕ
 merged_pair = 0 ∷ 2 ∷ []
@@ -329,7 +328,7 @@ unfolding rows text_of fields_text digits digits_by is_name is_name_byte is_digi
 both-says =
     record { answer = refl; manager = record { hands = record { fits = few 2 1 3 locked (three 2 0) 38 (omega arith) (omega arith); state = refl }; former = record { fits = lock-says-TAA.manager.hands.fits; state = refl }; append = refl }; bytes = refl }
 
-both-shown : ShowPairsSays (after_merge 0 38) unpinned 2 (5 ∷ []) (5 ∷ []) (NotShown OutputTooShort) (5 ∷ []) (5 ∷ [])
+both-shown : ShowPairsSays (after_merge 0 38) unpinned 2 (5 ∷ []) (5 ∷ []) (Err OutputTooShort) (5 ∷ []) (5 ∷ [])
 unfolding rows is_name is_name_byte is_digit is_lower gone_at shown_at
 both-shown = record { answer = refl; tables = refl; rowsets = refl }
 
@@ -356,7 +355,7 @@ found-says : ReopenSays (frame_taa ++ frame_a) rewritten_three (rewritten_by fou
 unfolding rows text_of fields_text digits digits_by lines lines_on line_of line_by two_fields table_fields field_at named_at read_at read_in read_on is_name is_name_byte is_digit is_lower gone_at shown_at
 found-says = (refl, record { hands = record { fits = few 1 1 3 tables (three 1 0) 38 (omega arith) (omega arith); state = refl }; nothing = refl }, no_pins, refl)
 
-found-shows : ShowPairsSays found unpinned 1 (5 ∷ []) (5 ∷ []) (NotShown OutputTooShort) (5 ∷ []) (5 ∷ [])
+found-shows : ShowPairsSays found unpinned 1 (5 ∷ []) (5 ∷ []) (Err OutputTooShort) (5 ∷ []) (5 ∷ [])
 unfolding rows is_name is_name_byte is_digit is_lower gone_at shown_at
 found-shows = record { answer = refl; tables = refl; rowsets = refl }
 

@@ -1,5 +1,5 @@
 -- Worked examples of what both the port and the record rest on, against literals. Assumes nothing.
-use Rattle.std.specs.Prelude.{◌≡◌, true, false, List, [], ◌∷◌, ℕ}
+use Rattle.std.specs.Prelude.{◌≡◌, true, false, List, [], ◌∷◌, ℕ, Ok}
 use Rattle.lists.specs.Order.{less}
 use Rattle.lists.specs.Keyed.{put, without, arranged}
 use Rattle.manifest.specs.Operations.{add_rowset, delete_rowset, create_table, operation, bad}
@@ -9,7 +9,6 @@ use Rattle.manifest.specs.Edits.{table}
 use Rattle.pins.specs.Book.{place_on}
 use Rattle.pins.specs.Guards.{guards_by, blocked}
 use Rattle.pins.specs.Counts.{pins_on}
-use Rattle.ids.specs.Results.{given}
 use Rattle.version_state.specs.State.{start, with_next, with_epoch}
 use Rattle.version_manager.specs.Draw.{rowset_drawn}
 use Rattle.rewrite.specs.Rewritten.{rewritten_of}
@@ -79,5 +78,5 @@ pub record Examples : Type 0 where
   -- the deletion, its epoch and the set that it left are taken off; one pin is left
   pub taken_back : (record_after short at_start).whole ≡ plain (none ∷ []) (sets (table 0 7 name ∷ []) (pair ∷ []) []) (pins_on (place_on 1) 1 ∷ []) [] (table_id 0 ∷ rowset_id 0 ∷ [])
   -- a draw and a checkpoint: from the old manifest the same rowset id would be drawn again, from the new one the id after it
-  pub undrawn : replay_of [] ≡ given (with_next (with_epoch start reopened 0) 0 0 0)
-  pub drawn : replay_of (rewritten_of (rowset_drawn start)) ≡ given (with_next (with_epoch start reopened 0) 0 1 0)
+  pub undrawn : replay_of [] ≡ Ok (with_next (with_epoch start reopened 0) 0 0 0)
+  pub drawn : replay_of (rewritten_of (rowset_drawn start)) ≡ Ok (with_next (with_epoch start reopened 0) 0 1 0)

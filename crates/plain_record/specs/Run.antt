@@ -8,21 +8,13 @@ use Rattle.manifest.specs.Operations.{Operation, batch_of}
 use Rattle.manifest.specs.declared.operation.Batch.{Batch}
 use Rattle.version_state.specs.Widths.{Narrow}
 use Rattle.pins.specs.declared.PinBook.{PinBook}
-use Rattle.show.specs.declared.ShowAnswer.{ShowAnswer}
+use Rattle.show.specs.Says.{ShowAnswer}
 use Rattle.compaction.specs.declared.NewRowset.{NewRowset}
 use Rattle.compaction.specs.New.{new_of}
 use Rattle.version_manager.specs.declared.VersionManager.{VersionManager}
 use Rattle.version_manager.specs.declared.Opened.{Opened}
-use Rattle.version_manager.specs.declared.DrawnRowset.{DrawnRowset}
-use Rattle.version_manager.specs.declared.DrawnVector.{DrawnVector}
+use Rattle.version_manager.specs.Answered.{DrawnRowset, DrawnVector, Grouped, Committed, Created, Vacuumed, Checkpointed, Reported, Locked}
 use Rattle.transaction.specs.declared.Handles.{Handles}
-use Rattle.version_manager.specs.declared.Grouped.{Grouped}
-use Rattle.version_manager.specs.declared.Locked.{Locked}
-use Rattle.version_manager.specs.declared.Committed.{Committed}
-use Rattle.version_manager.specs.declared.Created.{Created}
-use Rattle.version_manager.specs.declared.Vacuumed.{Vacuumed}
-use Rattle.version_manager.specs.declared.Reported.{Reported}
-use Rattle.version_manager.specs.declared.Checkpointed.{Checkpointed}
 use Rattle.version_manager.specs.Managers.{held_by, FreshSays}
 use Rattle.version_manager.specs.Draw.{rowset_told, vector_told, DrawRowsetSays, DrawVectorSays}
 use Rattle.version_manager.specs.Group.{group_told, GroupSays}
@@ -35,9 +27,7 @@ use Rattle.version_manager.specs.Vacuum.{vacuum_told, VacuumSays}
 use Rattle.version_manager.specs.Report.{report_told, ReportSays}
 use Rattle.version_manager.specs.Checkpoint.{checkpoint_told, CheckpointSays}
 use Rattle.version_manager.specs.Show.{ShowTablesSays, ShowPairsSays, ShowVectorsSays}
-use Rattle.pinning.specs.declared.PinAnswer.{PinAnswer}
-use Rattle.pinning.specs.declared.UnpinAnswer.{UnpinAnswer}
-use Rattle.pinning.specs.Says.{pin_told, unpin_told, PinSays, UnpinSays}
+use Rattle.pinning.specs.Says.{pin_told, unpin_told, PinSays, UnpinSays, PinAnswer, UnpinAnswer}
 use Rattle.storage.specs.declared.Reopened.{Reopened}
 use Rattle.storage.specs.Reopen.{reopen_told, ReopenSays}
 use Rattle.plain_record.specs.Calls.{Call, draw_rowset, draw_vector, group, lock, unlock, commit, create, drop, compact, pin, unpin, vacuum, report, checkpoint, reopen}

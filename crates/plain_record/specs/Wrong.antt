@@ -1,17 +1,17 @@
 -- Managers that are wrong in one call each: the claim is false of every one of them. Assumes nothing.
-use Rattle.std.specs.Prelude.{◌≡◌, true, cond, ◌&&◌, List, [], ◌∷◌, ◌++◌, map, ℕ, ◌+◌, ◌-◌, ◌≤◌, max, leb, ltb, length, take}
+use Rattle.std.specs.Prelude.{◌≡◌, true, cond, ◌&&◌, List, [], ◌∷◌, ◌++◌, map, ℕ, ◌+◌, ◌-◌, ◌≤◌, max, leb, ltb, length, take, Result, Ok, Err}
+use Rattle.std.specs.Result.{result_and}
 use Rattle.lists.specs.Order.{same}
 use Rattle.lists.specs.Keyed.{keep}
 use Rattle.lists.specs.Written.{over}
 use Rattle.text.specs.Class.{newline}
 use Rattle.ids.specs.Ids.{next}
 use Rattle.ids.specs.declared.TableNo.{TableNo}
+use Rattle.ids.specs.declared.refusal.Refusal.{Refusal}
 use Rattle.ids.specs.declared.refusal.Refusal.TheVariants.{BadManager, BadPinBook, NotReportable, EpochNotPinned, OutputTooShort}
-use Rattle.ids.specs.declared.refusal.Verdict.{Verdict}
-use Rattle.ids.specs.declared.refusal.Verdict.TheVariants.{Accepted, Refused}
-use Rattle.ids.specs.Verdicts.{◌⇒◌, judged}
+use Rattle.ids.specs.Verdicts.{◌⇒◌, judged, Verdict}
 use Rattle.ids.specs.Answers.{told, after}
-use Rattle.ids.specs.Results.{Result, refused, given, and_then, onward}
+use Rattle.ids.specs.Results.{and_then}
 use Rattle.manifest.specs.Operations.{Operation, end}
 use Rattle.manifest.specs.Lines.{is_torn, line_text}
 use Rattle.manifest.specs.Split.{rest_on, lines, joined}
@@ -34,12 +34,7 @@ use Rattle.vacuum.specs.LetGo.{vacuum_list, stays_by, vacuumed}
 use Rattle.vacuum.specs.Says.{bound_of, list_of}
 use Rattle.show.specs.Says.{TablesShown}
 use Rattle.version_manager.specs.declared.VersionManager.{VersionManager}
-use Rattle.version_manager.specs.declared.Locked.{Locked}
-use Rattle.version_manager.specs.declared.Committed.{Committed}
-use Rattle.version_manager.specs.declared.Created.{Created}
-use Rattle.version_manager.specs.declared.Vacuumed.{Vacuumed}
-use Rattle.version_manager.specs.declared.Reported.{Reported}
-use Rattle.version_manager.specs.declared.Checkpointed.{Checkpointed}
+use Rattle.version_manager.specs.Answered.{Committed, Created, Vacuumed, Checkpointed, Reported, Locked}
 use Rattle.version_manager.specs.Managers.{held_by, former_by, bad_manager, Manages, Follows, HandsBack, HandsOn}
 use Rattle.version_manager.specs.Commit.{outcome_of, commit_told, CommitEnds}
 use Rattle.version_manager.specs.Lock.{lock_verdict}
@@ -50,9 +45,7 @@ use Rattle.version_manager.specs.Vacuum.{vacuum_told, vacuum_verdict}
 use Rattle.version_manager.specs.Report.{report_told, report_verdict, reported_state}
 use Rattle.version_manager.specs.Checkpoint.{checkpoint_told, checkpoint_verdict}
 use Rattle.version_manager.specs.Show.{ShowPairsSays, ShowVectorsSays}
-use Rattle.pinning.specs.declared.PinAnswer.{PinAnswer}
-use Rattle.pinning.specs.declared.UnpinAnswer.{UnpinAnswer}
-use Rattle.pinning.specs.Says.{current, BookAfter, pin_verdict, pin_told, unpin_verdict, is_due, flag, unpin_told, ready_of}
+use Rattle.pinning.specs.Says.{current, BookAfter, pin_verdict, pin_told, unpin_verdict, is_due, flag, unpin_told, ready_of, PinAnswer, UnpinAnswer}
 use Rattle.replay.specs.Replay.{stands, replay_of}
 use Rattle.rewrite.specs.Rewritten.{written_of, rewritten_of}
 use Rattle.storage.specs.declared.Reopened.{Reopened}
@@ -136,31 +129,31 @@ abbrev pub forgets_pairs : Steps
 forgets_pairs = locking LocksForgetting
 
 -- a commit raises the epoch and the next ids, and keeps the old sets
-abbrev pub with_sets : State → Result State → Result State
-with_sets old (given s) = given (with_vectors (with_pairs (with_tables s old.tables) old.pairs) old.vectors)
-with_sets old (refused k) = refused k
+abbrev pub with_sets : State → Result State Refusal → Result State Refusal
+with_sets old (Ok s) = Ok (with_vectors (with_pairs (with_tables s old.tables) old.pairs) old.vectors)
+with_sets old (Err k) = Err k
 
-abbrev pub unchanged : VersionManager → ℕ → List Operation → ℕ → Result State
+abbrev pub unchanged : VersionManager → ℕ → List Operation → ℕ → Result State Refusal
 unchanged m n os room = with_sets (held_by m) (outcome_of m n os room)
 
 abbrev pub keeps_sets : Steps
 keeps_sets = committing (λ m n os out r out'. CommitEnds (unchanged m n os (length out)) m os out r out')
 
 -- a commit leaves the epoch as it is
-abbrev pub at_epoch : ℕ → Result State → Result State
-at_epoch e (given s) = given (with_epoch s e s.manifest)
-at_epoch e (refused k) = refused k
+abbrev pub at_epoch : ℕ → Result State Refusal → Result State Refusal
+at_epoch e (Ok s) = Ok (with_epoch s e s.manifest)
+at_epoch e (Err k) = Err k
 
-abbrev pub unraised : VersionManager → ℕ → List Operation → ℕ → Result State
+abbrev pub unraised : VersionManager → ℕ → List Operation → ℕ → Result State Refusal
 unraised m n os room = at_epoch (current m) (outcome_of m n os room)
 
 abbrev pub leaves_epoch : Steps
 leaves_epoch = committing (λ m n os out r out'. CommitEnds (unraised m n os (length out)) m os out r out')
 
 -- a commit judges no operation, so that a pair that waits may be added again
-abbrev pub unjudged : VersionManager → ℕ → List Operation → ℕ → Result State
+abbrev pub unjudged : VersionManager → ℕ → List Operation → ℕ → Result State Refusal
 unjudged m n os room =
-    onward (judged ((bad_manager m ⇒ BadManager) ∷ first_rules (held_by m) n)) (finish_of ((held_by m).epoch + 1) os room (applied_all ((held_by m).epoch + 1) os (held_by m)))
+    result_and (judged ((bad_manager m ⇒ BadManager) ∷ first_rules (held_by m) n)) (finish_of ((held_by m).epoch + 1) os room (applied_all ((held_by m).epoch + 1) os (held_by m)))
 
 abbrev pub judges_nothing : Steps
 judges_nothing = committing (λ m n os out r out'. CommitEnds (unjudged m n os (length out)) m os out r out')
@@ -169,13 +162,13 @@ judges_nothing = committing (λ m n os out r out'. CommitEnds (unjudged m n os (
 abbrev pub standing : State → State
 standing s = with_pairs s (keep stands s.pairs)
 
-abbrev pub beside : List Entry → Result State → Result State
-beside l (given s) = given (with_pairs s (l ++ s.pairs))
-beside l (refused k) = refused k
+abbrev pub beside : List Entry → Result State Refusal → Result State Refusal
+beside l (Ok s) = Ok (with_pairs s (l ++ s.pairs))
+beside l (Err k) = Err k
 
-abbrev pub unaware : VersionManager → ℕ → List Operation → ℕ → Result State
+abbrev pub unaware : VersionManager → ℕ → List Operation → ℕ → Result State Refusal
 unaware m n os room =
-    beside (keep waits (held_by m).pairs) (onward (judged ((bad_manager m ⇒ BadManager) ∷ [])) (commit_of (standing (held_by m)) n os room))
+    beside (keep waits (held_by m).pairs) (result_and (judged ((bad_manager m ⇒ BadManager) ∷ [])) (commit_of (standing (held_by m)) n os room))
 
 abbrev pub forgets_waiting : Steps
 forgets_waiting = committing (λ m n os out r out'. CommitEnds (unaware m n os (length out)) m os out r out')
@@ -185,40 +178,40 @@ abbrev pub unended : List ℕ → List ℕ
 unended l = take (length l - (length (line_text end) + 1)) l
 
 -- it ends as the port's, but appends what `written` makes of the operations
-abbrev pub CommitAppends : (List Operation → List ℕ) → Result State → VersionManager → List Operation → List ℕ → Committed → List ℕ → Type 0
-CommitAppends written (given s) m os out r out' =
-    (commit_told r.answer ≡ told Accepted (s.epoch ∷ length (written os) ∷ []))
+abbrev pub CommitAppends : (List Operation → List ℕ) → Result State Refusal → VersionManager → List Operation → List ℕ → Committed → List ℕ → Type 0
+CommitAppends written (Ok s) m os out r out' =
+    (commit_told r.answer ≡ told (Ok tt) (s.epoch ∷ length (written os) ∷ []))
     × Follows r.manager s (held_by m) (length (written os))
     × (out' ≡ over (written os) out)
-CommitAppends written (refused k) m os out r out' = CommitEnds (refused k) m os out r out'
+CommitAppends written (Err k) m os out r out' = CommitEnds (Err k) m os out r out'
 
 abbrev pub appends_no_end : Steps
 appends_no_end = committing (λ m n os out r out'. CommitAppends (λ l. unended (append_of l)) (outcome_of m n os (length out)) m os out r out')
 
 -- a commit appends no `!`, so that what is left of a short append runs into the next one
-abbrev pub of_length : ℕ → Result State → Result State
-of_length n (given s) = given (with_epoch s s.epoch n)
-of_length n (refused k) = refused k
+abbrev pub of_length : ℕ → Result State Refusal → Result State Refusal
+of_length n (Ok s) = Ok (with_epoch s s.epoch n)
+of_length n (Err k) = Err k
 
-abbrev pub unmarked : VersionManager → ℕ → List Operation → ℕ → Result State
+abbrev pub unmarked : VersionManager → ℕ → List Operation → ℕ → Result State Refusal
 unmarked m n os room = of_length ((held_by m).manifest + length (frame_of os)) (outcome_of m n os room)
 
 abbrev pub appends_no_mark : Steps
 appends_no_mark = committing (λ m n os out r out'. CommitAppends frame_of (unmarked m n os (length out)) m os out r out')
 
 -- a refused commit leaves what its operations did before the one that was refused
-abbrev pub reached_by : Result State → State → (State → State) → State
-reached_by (given u) s go = go u
-reached_by (refused k) s go = s
+abbrev pub reached_by : Result State Refusal → State → (State → State) → State
+reached_by (Ok u) s go = go u
+reached_by (Err k) s go = s
 
 abbrev pub reached : ℕ → ℕ → List Operation → State → State
 reached i e [] s = s
 reached i e (o ∷ os) s = reached_by (step_of i e o s) s (λ u. reached (i + 1) e os u)
 
-abbrev pub CommitLeaves : Result State → VersionManager → List Operation → List ℕ → Committed → List ℕ → Type 0
-CommitLeaves (given s) m os out r out' = CommitEnds (given s) m os out r out'
-CommitLeaves (refused k) m os out r out' =
-    (commit_told r.answer ≡ told (Refused k) [])
+abbrev pub CommitLeaves : Result State Refusal → VersionManager → List Operation → List ℕ → Committed → List ℕ → Type 0
+CommitLeaves (Ok s) m os out r out' = CommitEnds (Ok s) m os out r out'
+CommitLeaves (Err k) m os out r out' =
+    (commit_told r.answer ≡ told (Err k) [])
     × Manages r.manager (reached 0 (current m + 1) os (held_by m))
     × (out' ≡ out)
 
@@ -465,27 +458,27 @@ abbrev pub reads_torn : Steps
 reads_torn = reopening (λ src. ReopenSays (joined (untorn (lines src))))
 
 -- a reopen forgets which ids were used
-abbrev pub forgotten : List ℕ → ℕ → Result State
+abbrev pub forgotten : List ℕ → ℕ → Result State Refusal
 forgotten src room = and_then (replay_of src) (λ s. opened_of room (with_next s 0 0 0))
 
 abbrev pub forgets_ids : Steps
 forgets_ids = reopening (λ src out. ReopenIs (forgotten src (length out)) out)
 
 -- a reopen writes no `E`
-abbrev pub ReopenEndsEarly : Result State → List ℕ → Reopened → List ℕ → Type 0
-ReopenEndsEarly (given s) out r out' =
-    (reopen_told r.answer ≡ told Accepted (length (unended (rewritten_of s)) ∷ []))
+abbrev pub ReopenEndsEarly : Result State Refusal → List ℕ → Reopened → List ℕ → Type 0
+ReopenEndsEarly (Ok s) out r out' =
+    (reopen_told r.answer ≡ told (Ok tt) (length (unended (rewritten_of s)) ∷ []))
     × Manages r.manager s
     × Keeps r.book []
     × (out' ≡ over (unended (rewritten_of s)) out)
-ReopenEndsEarly (refused k) out r out' = ReopenIs (refused k) out r out'
+ReopenEndsEarly (Err k) out r out' = ReopenIs (Err k) out r out'
 
 abbrev pub rewrites_no_end : Steps
 rewrites_no_end = reopening (λ src out. ReopenEndsEarly (reopen_of src (length out)) out)
 
 -- a reopen is always refused: no buffer is long enough
 abbrev pub refuses_reopen : Steps
-refuses_reopen = reopening (λ src. ReopenIs (refused OutputTooShort))
+refuses_reopen = reopening (λ src. ReopenIs (Err OutputTooShort))
 
 -- a show of pairs gives the current epoch's, whichever is asked for
 abbrev pub shows_current : Steps
@@ -497,7 +490,7 @@ shows_current_vectors = showing show_tables show_pairs (λ m b e. ShowVectorsSay
 
 -- a show of tables is always refused: no epoch is the current one
 abbrev pub refuses_show : Steps
-refuses_show = showing (λ m b e. TablesShown (held_by m) e (Refused EpochNotPinned)) show_pairs show_vectors
+refuses_show = showing (λ m b e. TablesShown (held_by m) e (Err EpochNotPinned)) show_pairs show_vectors
 
 abbrev pub Refuted : Steps → Type 0
 Refuted S = Claim S → ⊥

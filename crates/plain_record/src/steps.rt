@@ -10,10 +10,10 @@ ghost use Rattle.plain_record.specs.Run.{port};
 use compaction::NewRowset;
 use ids::TableNo;
 use ids::name::Name;
+use ids::refusal::Refusal;
 use manifest::operation::Batch;
 use pinning::{PinStep, UnpinStep};
 use pins::PinBook;
-use show::ShowAnswer;
 use storage::Reopened;
 use transaction::Handles;
 use version_manager::{
@@ -150,7 +150,7 @@ pub fn show_tables(
     shapes: &mut [u32],
     lengths: &mut [u32],
     names: &mut [u8],
-) -> ShowAnswer
+) -> Result<usize, Refusal>
     ensures { port.show_tables manager book epoch ids.old shapes.old lengths.old names.old result ids.new shapes.new lengths.new names.new }
 {
     manager.show_tables(book, epoch, ids, shapes, lengths, names)
@@ -162,7 +162,7 @@ pub fn show_pairs(
     epoch: u32,
     tables: &mut [u32],
     rowsets: &mut [u32],
-) -> ShowAnswer
+) -> Result<usize, Refusal>
     ensures { port.show_pairs manager book epoch tables.old rowsets.old result tables.new rowsets.new }
 {
     manager.show_pairs(book, epoch, tables, rowsets)
@@ -175,7 +175,7 @@ pub fn show_vectors(
     tables: &mut [u32],
     rowsets: &mut [u32],
     vectors: &mut [u64],
-) -> ShowAnswer
+) -> Result<usize, Refusal>
     ensures { port.show_vectors manager book epoch tables.old rowsets.old vectors.old result tables.new rowsets.new vectors.new }
 {
     manager.show_vectors(book, epoch, tables, rowsets, vectors)

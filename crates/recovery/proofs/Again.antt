@@ -7,13 +7,13 @@ use native.Mathlib.Omega.{arith}
 use lib.Dec.{leb}
 use lib.ListN.{length, take, length-append, length-map}
 use borrow.Author.Tests.{le-ltb}
+use Rattle.std.specs.Prelude.{Ok}
 use Rattle.lists.specs.Keyed.{keep, all_of, is_at, has}
 use Rattle.lists.proofs.Keyed.{All, all_map, all_any, all-mapped, all_of-all, any_of-map, keep_all}
 use Rattle.columns.specs.Rows.{plain}
 use Rattle.manifest.specs.Operations.{Operation, Line, well_formed}
 use Rattle.manifest.specs.Split.{lines}
 use Rattle.ids.specs.Limits.{most_operations, most_tables, most_held}
-use Rattle.ids.specs.Results.{given}
 use Rattle.frames.specs.Frames.{frame_of}
 use Rattle.snapshot.specs.Entries.{Entry, added_at, by_ids, gone_at, shown_at, shown_by, shown}
 use Rattle.snapshot.specs.Tables.{TableEntry, by_table}
@@ -39,14 +39,14 @@ use Rattle.operations.specs.Effect.{applied_all}
 
 -- a frame that leads to a state which rests
 frame-read : (os : List Operation) (s : State) → all_of well_formed os ≡ true → length os ≤ most_operations → Leads os (with_epoch start reopened 0) s → settled s ≡ s → over_limit s ≡ false
-    → lines_read (lines (frame_of os)) at_start ≡ given (carried s none (1 + 1 + length os + 1))
+    → lines_read (lines (frame_of os)) at_start ≡ Ok (carried s none (1 + 1 + length os + 1))
 frame-read os s w few h q o =
     let fresh = with_epoch start reopened 0 in
     let e : settled (applied_all reopened os fresh) ≡ s = ap settled h.1 ∙ q in
     said-read (lines (frame_of os)) at_start
     ∙ ap (λ (ls : List Line). said_read ls at_start) (frame-lines os w)
     ∙ whole_append os fresh none 1 few h.0 (ap over_limit e ∙ o)
-    ∙ ap (λ (u : State). given (carried u none (1 + 1 + length os + 1))) e
+    ∙ ap (λ (u : State). Ok (carried u none (1 + 1 + length os + 1))) e
 
 -- what is made stands, and is shown
 all-stands : (l : List (List ℕ)) → keep stands (map (added_at reopened) l) ≡ map (added_at reopened) l
@@ -175,11 +175,11 @@ module _ (s : State) (w : Whole s) where
       ∙ ap₂ (λ (ps vs : List Entry). with_vectors (with_pairs (with_epoch s reopened 0) ps) vs) pairs-again vectors-again
       ∙ ap₂ (λ (e n : ℕ). with_epoch s e n) (sym w.rests.kept.epoch) (sym w.rests.kept.manifest)
 
-pub replay-rewritable : (src : List ℕ) (s : State) → replay_of src ≡ given s → Rewritable (next_of s) (sets_of s)
+pub replay-rewritable : (src : List ℕ) (s : State) → replay_of src ≡ Ok s → Rewritable (next_of s) (sets_of s)
 replay-rewritable src s h = passes-rewritable s (whole-passes s (whole-replayed src s h))
 
-pub replay-room : (src : List ℕ) (s : State) → replay_of src ≡ given s → length (rewritten_of s) ≤ longest_rewritten
+pub replay-room : (src : List ℕ) (s : State) → replay_of src ≡ Ok s → length (rewritten_of s) ≤ longest_rewritten
 replay-room src s h = rewritten-room (next_of s) (sets_of s) (replay-rewritable src s h)
 
-pub replay-again : (src : List ℕ) (s : State) → replay_of src ≡ given s → Holds (rewritten_of s) s
+pub replay-again : (src : List ℕ) (s : State) → replay_of src ≡ Ok s → Holds (rewritten_of s) s
 replay-again src s h = subst (Holds (rewritten_of s)) (made_again s (whole-replayed src s h)) (rewritten-holds (next_of s) (sets_of s) (replay-rewritable src s h))

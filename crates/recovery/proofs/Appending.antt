@@ -6,12 +6,14 @@ use Prim.Native.Nat.{ℕ, ◌+◌, ◌≤◌, ◌<◌}
 use native.Mathlib.Omega.{arith}
 use lib.ListN.{length, take}
 use borrow.Author.Tests.{le-ltb}
+use Rattle.std.specs.Prelude.{Result, Ok}
 use Rattle.lists.specs.Keyed.{all_of}
 use Rattle.manifest.specs.Operations.{Operation, Line, well_formed}
 use Rattle.manifest.specs.Lines.{line_of}
 use Rattle.manifest.specs.Split.{rest_on, lines, lines_on}
 use Rattle.ids.specs.Limits.{most_operations, longest_manifest}
-use Rattle.ids.specs.Results.{Result, given, and_then}
+use Rattle.ids.specs.declared.refusal.Refusal.{Refusal}
+use Rattle.ids.specs.Results.{and_then}
 use Rattle.frames.specs.Frames.{frame_of}
 use Rattle.version_state.specs.declared.VersionManagerInner.{VersionManagerInner}
 use Rattle.version_state.specs.State.{State, start, with_epoch, state_of}
@@ -43,16 +45,16 @@ empty_holds = record { frame = none; line = 1; read = refl; tables = refl; rowse
 short-replayed : (src : List ℕ) → length src ≤ longest_manifest → replay_of src ≡ lines_replayed (lines src)
 short-replayed src h = rw (le-ltb longest_manifest (length src) h)
 
-holds-finished : (src : List ℕ) (s : State) → Holds src s → finished s ≡ given s
-holds-finished src s h = rw h.tables (ap given h.rowsets)
+holds-finished : (src : List ℕ) (s : State) → Holds src s → finished s ≡ Ok s
+holds-finished src s h = rw h.tables (ap Ok h.rowsets)
 
-pub holds-replayed : (src : List ℕ) (s : State) → Holds src s → length src ≤ longest_manifest → replay_of src ≡ given s
+pub holds-replayed : (src : List ℕ) (s : State) → Holds src s → length src ≤ longest_manifest → replay_of src ≡ Ok s
 holds-replayed src s h q =
     short-replayed src q
-    ∙ ap (λ (x : Result Carried). and_then x (λ c. finished c.state)) h.read
+    ∙ ap (λ (x : Result Carried Refusal). and_then x (λ c. finished c.state)) h.read
     ∙ holds-finished src s h
 
-pub rewritten-replayed : (n : Next) (z : Sets) → Rewritable n z → replay_of (written_of n z) ≡ given (made_of n z)
+pub rewritten-replayed : (n : Next) (z : Sets) → Rewritable n z → replay_of (written_of n z) ≡ Ok (made_of n z)
 rewritten-replayed n z r = holds-replayed (written_of n z) (made_of n z) (rewritten-holds n z r) (omega (arith, rewritten-room n z r))
 
 -- the manifest of a checkpoint by a manager that shows what its manifest holds
@@ -71,7 +73,7 @@ replaces src s m h k g n =
 -- an append after those lines, cut or whole
 module _ (src : List ℕ) (s : State) (h : Holds src s) where
   read-on : (more : List ℕ) → lines_read (lines (src ++ more)) at_start ≡ said_read (map line_of (lines_on (rest_on [] src) more)) (carried s h.frame h.line)
-  read-on more = read-over src more ∙ ap (λ (x : Result Carried). and_then x (said_read (map line_of (lines_on (rest_on [] src) more)))) h.read
+  read-on more = read-over src more ∙ ap (λ (x : Result Carried Refusal). and_then x (said_read (map line_of (lines_on (rest_on [] src) more)))) h.read
 
   pub cut_holds : (os : List Operation) (k : ℕ) → all_of well_formed os ≡ true → length os ≤ most_operations → k < length (append_of os) → Holds (src ++ take k (append_of os)) s
   cut_holds os k w few q =
@@ -79,7 +81,7 @@ module _ (src : List ℕ) (s : State) (h : Holds src s) where
       record { frame = r.0; line = r.1; read = read-on (take k (append_of os)) ∙ r.2; tables = h.tables; rowsets = h.rowsets }
 
 -- an accepted commit of a manager with the same sets
-module _ (src : List ℕ) (s : State) (m : VersionManagerInner) (n : ℕ) (os : List Operation) (room : ℕ) (u : State) (h : Holds src s) (k : sets_of (state_of m) ≡ sets_of s) (g : bad_inner m ≡ false) (few : length os ≤ n) (c : commit_of (state_of m) n os room ≡ given u) where
+module _ (src : List ℕ) (s : State) (m : VersionManagerInner) (n : ℕ) (os : List Operation) (room : ℕ) (u : State) (h : Holds src s) (k : sets_of (state_of m) ≡ sets_of s) (g : bad_inner m ≡ false) (few : length os ≤ n) (c : commit_of (state_of m) n os room ≡ Ok u) where
   a : Accepts (state_of m) n os room u
   a = accepts (state_of m) n os room u c
 
@@ -142,7 +144,7 @@ held _ _ (other src m n p q) =
     record { state = i.state; holds = i.holds; same = q ∙ i.same }
 
 pub made-replayed : (src : List ℕ) (m : VersionManagerInner) → Appended src m → length src ≤ longest_manifest
-    → (s : State) × (Holds src s × (sets_of (state_of m) ≡ sets_of s) × (replay_of src ≡ given s))
+    → (s : State) × (Holds src s × (sets_of (state_of m) ≡ sets_of s) × (replay_of src ≡ Ok s))
 made-replayed src m p q =
     let i = held src m p in
     (i.state, (i.holds, i.same, holds-replayed src i.state i.holds q))

@@ -6,15 +6,16 @@ use Prim.Native.Nat.{ℕ, ◌+◌, ◌≤◌}
 use native.Mathlib.Omega.{arith}
 use lib.ListN.{length}
 use borrow.Author.Tests.{le-leb, ltb-true, ne_eqb, not-false}
+use Rattle.std.specs.Prelude.{Result, Ok, Err}
 use Rattle.lists.specs.Order.{same}
 use Rattle.lists.specs.Keyed.{all_of, has, is_at}
 use Rattle.lists.proofs.Tests.{join}
 use Rattle.lists.proofs.Keyed.{All, all_map, all_of-all, none-any_of, any_of-map, keep_same}
 use Rattle.columns.specs.Rows.{rows}
 use Rattle.columns.proofs.Rows.{rows-length}
-use Rattle.ids.specs.declared.refusal.Verdict.TheVariants.{Accepted}
+use Rattle.ids.specs.declared.refusal.Refusal.{Refusal}
 use Rattle.ids.specs.Verdicts.{judged}
-use Rattle.ids.specs.Results.{Result, refused, given, and_then}
+use Rattle.ids.specs.Results.{and_then}
 use Rattle.ids.proofs.Verdicts.{none-judged}
 use Rattle.manifest.specs.Operations.{Operation, well_formed}
 use Rattle.manifest.specs.Edits.{Edit, leaves, adds, deletes, Table, edits_of}
@@ -72,13 +73,13 @@ module _ (e : ℕ) (t v : State) (b : Beside e t v) where
       rw (live_same (x.id ∷ []), dead, name-same x.name) f.1
   no-clash (deletes k) f = rw (live_same k, f)
 
-no-conflict : (i e : ℕ) (o : Operation) (t v : State) → Beside e t v → judged (op_rules i e o t) ≡ Accepted → conflicts o v ≡ false
+no-conflict : (i e : ℕ) (o : Operation) (t v : State) → Beside e t v → judged (op_rules i e o t) ≡ Ok tt → conflicts o v ≡ false
 no-conflict i e o t v b a = no-clash e t v b (edits_of o).tables (fits i e o t a).tables
 
-well-formed : (i e : ℕ) (o : Operation) (t : State) → judged (op_rules i e o t) ≡ Accepted → well_formed o ≡ true
+well-formed : (i e : ℕ) (o : Operation) (t : State) → judged (op_rules i e o t) ≡ Ok tt → well_formed o ≡ true
 well-formed i e o t a = not-false _ (none-judged (op_rules i e o t) a).0
 
-beside-applied : (i e : ℕ) (o : Operation) (t v : State) → 1 ≤ e → judged (op_rules i e o t) ≡ Accepted → Beside e t v → Beside e (applied e o t) (applied reopened o v)
+beside-applied : (i e : ℕ) (o : Operation) (t v : State) → 1 ≤ e → judged (op_rules i e o t) ≡ Ok tt → Beside e t v → Beside e (applied e o t) (applied reopened o v)
 beside-applied i e o t v h a b =
     record {
       ordered = ordered-applied e o t b.ordered;
@@ -97,19 +98,19 @@ pub record Went (e : ℕ) (os : List Operation) (w v : State) : Type 0 where
 went_on : (e : ℕ) (o : Operation) (os : List Operation) (w v : State) → well_formed o ≡ true → conflicts o v ≡ false → Went e os w (applied reopened o v) → Went e (o ∷ os) w v
 went_on e o os w v f c g = record { well = join f g.well; free = rw c g.free; beside = g.beside }
 
-pub beside-steps : (e i : ℕ) (os : List Operation) (t w v : State) → 1 ≤ e → Beside e t v → steps_of i e os t ≡ given w → Went e os w v
+pub beside-steps : (e i : ℕ) (os : List Operation) (t w v : State) → 1 ≤ e → Beside e t v → steps_of i e os t ≡ Ok w → Went e os w v
 beside-steps e i [] t w v p b h =
     let q : t ≡ w = cc in
     record { well = refl; free = refl; beside = subst (λ (u : State). Beside e u v) q b }
 beside-steps e i (o ∷ os) t w v p b h = go (step_of i e o t) refl h (λ u c. beside-steps e (i + 1) os u w (applied reopened o v) p c)
   where
-    go : (x : Result State) → step_of i e o t ≡ x → and_then x (λ u. steps_of (i + 1) e os u) ≡ given w
-        → ((u : State) → Beside e u (applied reopened o v) → steps_of (i + 1) e os u ≡ given w → Went e os w (applied reopened o v)) → Went e (o ∷ os) w v
-    go (given u) a h ih =
+    go : (x : Result State Refusal) → step_of i e o t ≡ x → and_then x (λ u. steps_of (i + 1) e os u) ≡ Ok w
+        → ((u : State) → Beside e u (applied reopened o v) → steps_of (i + 1) e os u ≡ Ok w → Went e os w (applied reopened o v)) → Went e (o ∷ os) w v
+    go (Ok u) a h ih =
         let d = step_given i e o t u a in
         let c : Beside e u (applied reopened o v) = subst (λ (y : State). Beside e y (applied reopened o v)) d.1 (beside-applied i e o t v p d.0 b) in
         went_on e o os w v (well-formed i e o t d.0) (no-conflict i e o t v b d.0) (ih u c h)
-    go (refused r) a h ih = absurd (halt h)
+    go (Err r) a h ih = absurd (halt h)
 
 -- Before the first of them: an epoch that nothing reaches shows what the one before it shows.
 next-shown : (e : ℕ) (ns : List ℕ) (x : Entry) → Within e ns x → shown_by (e + 1) x ≡ shown_by e x

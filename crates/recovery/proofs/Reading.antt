@@ -7,8 +7,10 @@ use native.Mathlib.Omega.{arith}
 use native.Mathlib.Nat.{add-zero, not-suc-le-zero, le_of_suc-le-suc}
 use borrow.Author.Tests.{lt-leb}
 use lib.ListN.{length, take, length-append, length-take}
+use Rattle.std.specs.Prelude.{Result, Ok, Err}
 use Rattle.ids.specs.Limits.{most_operations}
-use Rattle.ids.specs.Results.{Result, refused, given, and_then}
+use Rattle.ids.specs.declared.refusal.Refusal.{Refusal}
+use Rattle.ids.specs.Results.{and_then}
 use Rattle.lists.proofs.Tests.{by_cases, clash}
 use Rattle.manifest.specs.Operations.{Operation, Line, begin, end, operation}
 use Rattle.manifest.specs.Lines.{line_of}
@@ -17,17 +19,17 @@ use Rattle.operations.specs.Effect.{applied, applied_all}
 use Rattle.replay.specs.Replay.{Frame, none, opened, Carried, carried, reopened, conflicts, framed, settled, over_limit, line_read, lines_read}
 
 -- what lines say, one after another
-abbrev pub said_read : List Line → Carried → Result Carried
-said_read [] c = given c
+abbrev pub said_read : List Line → Carried → Result Carried Refusal
+said_read [] c = Ok c
 said_read (l ∷ ls) c = and_then (line_read l c) (said_read ls)
 
-then_same : {A B : Type 0} (x : Result A) (f g : A → Result B) → ((a : A) → f a ≡ g a) → and_then x f ≡ and_then x g
-then_same (refused k) f g h = refl
-then_same (given a) f g h = h a
+then_same : {A B : Type 0} (x : Result A Refusal) (f g : A → Result B Refusal) → ((a : A) → f a ≡ g a) → and_then x f ≡ and_then x g
+then_same (Err k) f g h = refl
+then_same (Ok a) f g h = h a
 
-then-then : {A B C : Type 0} (x : Result A) (f : A → Result B) (g : B → Result C) → and_then (and_then x f) g ≡ and_then x (λ a. and_then (f a) g)
-then-then (refused k) f g = refl
-then-then (given a) f g = refl
+then-then : {A B C : Type 0} (x : Result A Refusal) (f : A → Result B Refusal) (g : B → Result C Refusal) → and_then (and_then x f) g ≡ and_then x (λ a. and_then (f a) g)
+then-then (Err k) f g = refl
+then-then (Ok a) f g = refl
 
 pub said-read : (ls : List (List ℕ)) (c : Carried) → lines_read ls c ≡ said_read (map line_of ls) c
 said-read [] c = refl
@@ -51,7 +53,7 @@ abbrev pub conflict_free : List Operation → State → Bool
 conflict_free [] s = true
 conflict_free (o ∷ os) s = cond (conflicts o s) false (conflict_free os (applied reopened o s))
 
-framed-all : (n : ℕ) (os : List Operation) (s : State) → conflict_free os s ≡ true → framed n os s ≡ given (applied_all reopened os s)
+framed-all : (n : ℕ) (os : List Operation) (s : State) → conflict_free os s ≡ true → framed n os s ≡ Ok (applied_all reopened os s)
 framed-all n [] s h = refl
 framed-all n (o ∷ os) s h =
     by_cases (conflicts o s)
@@ -59,7 +61,7 @@ framed-all n (o ∷ os) s h =
     (λ t. rw t (framed-all (n + 1) os (applied reopened o s) (rw t at h)))
 
 ops-noted : (os done : List Operation) (s : State) (m n : ℕ) → length done + length os ≤ most_operations
-    → said_read (map operation os) (carried s (opened m done) n) ≡ given (carried s (opened m (done ++ os)) (n + length os))
+    → said_read (map operation os) (carried s (opened m done) n) ≡ Ok (carried s (opened m (done ++ os)) (n + length os))
 ops-noted [] done s m n h = rw (append-nil, add-zero)
 ops-noted (o ∷ os) done s m n h =
     let few : length done < most_operations = omega arith in
@@ -69,10 +71,10 @@ ops-noted (o ∷ os) done s m n h =
 
 -- (2) a whole append; its `B` drops what an open frame held
 pub whole_append : (os : List Operation) (s : State) (f : Frame) (n : ℕ) → length os ≤ most_operations → conflict_free os s ≡ true → over_limit (settled (applied_all reopened os s)) ≡ false
-    → said_read (begin ∷ (map operation os ++ (end ∷ []))) (carried s f n) ≡ given (carried (settled (applied_all reopened os s)) none (n + 1 + length os + 1))
+    → said_read (begin ∷ (map operation os ++ (end ∷ []))) (carried s f n) ≡ Ok (carried (settled (applied_all reopened os s)) none (n + 1 + length os + 1))
 whole_append os s f n h c o =
     said-append (map operation os) (end ∷ []) (carried s (opened (n + 1) []) (n + 1))
-    ∙ ap (λ (x : Result Carried). and_then x (said_read (end ∷ []))) (ops-noted os [] s (n + 1) (n + 1) (omega arith))
+    ∙ ap (λ (x : Result Carried Refusal). and_then x (said_read (end ∷ []))) (ops-noted os [] s (n + 1) (n + 1) (omega arith))
     ∙ rw (framed-all (n + 1) os s c, o)
 
 take-ops : (k : ℕ) (os : List Operation) (l : List Line) → k ≤ length os → take k (map operation os ++ l) ≡ map operation (take k os)
@@ -82,7 +84,7 @@ take-ops (suc k) (o ∷ os) l h = ap (λ (t : List Line). operation o ∷ t) (ta
 
 -- (3) a proper first part of it leaves the state
 pub torn-append : (os : List Operation) (k : ℕ) (s : State) (f : Frame) (n : ℕ) → length os ≤ most_operations → k ≤ length os + 1
-    → (g : Frame) × (m : ℕ) × (said_read (take k (begin ∷ (map operation os ++ (end ∷ [])))) (carried s f n) ≡ given (carried s g m))
+    → (g : Frame) × (m : ℕ) × (said_read (take k (begin ∷ (map operation os ++ (end ∷ [])))) (carried s f n) ≡ Ok (carried s g m))
 torn-append os zero s f n h q = (f, n, refl)
 torn-append os (suc k) s f n h q =
     let short : k ≤ length os = omega arith in

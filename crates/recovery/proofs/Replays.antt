@@ -6,10 +6,12 @@ use Prim.Native.Nat.{ℕ, ◌+◌, ◌≤◌}
 use native.Mathlib.Omega.{arith}
 use lib.Dec.{eqb}
 use borrow.Author.Tests.{le-leb}
+use Rattle.std.specs.Prelude.{Result, Ok, Err}
 use Rattle.lists.specs.Keyed.{keep}
 use Rattle.lists.proofs.Tests.{by_cases}
 use Rattle.lists.proofs.Keyed.{All, all_map, all_keep, keep-keep, keep_same, ascend-to, ascend-from, ascending-keep}
-use Rattle.ids.specs.Results.{Result, refused, given, and_then}
+use Rattle.ids.specs.declared.refusal.Refusal.{Refusal}
+use Rattle.ids.specs.Results.{and_then}
 use Rattle.manifest.specs.Operations.{Operation, Line, begin, end, torn, operation, bad}
 use Rattle.manifest.specs.Edits.{Edit, edits_of}
 use Rattle.manifest.specs.Lines.{line_of}
@@ -61,13 +63,13 @@ read-settled s r =
     }
 
 -- what is given, if anything, has the property
-abbrev Given : {A : Type 0} → (A → Type 0) → Result A → Type 0
-Given P (refused k) = Unit {0}
-Given P (given a) = P a
+abbrev Given : {A : Type 0} → (A → Type 0) → Result A Refusal → Type 0
+Given P (Err k) = Unit {0}
+Given P (Ok a) = P a
 
-given-then : {A B : Type 0} (P : A → Type 0) (Q : B → Type 0) (x : Result A) (f : A → Result B) → Given P x → ((a : A) → P a → Given Q (f a)) → Given Q (and_then x f)
-given-then P Q (refused k) f p g = tt
-given-then P Q (given a) f p g = g a p
+given-then : {A B : Type 0} (P : A → Type 0) (Q : B → Type 0) (x : Result A Refusal) (f : A → Result B Refusal) → Given P x → ((a : A) → P a → Given Q (f a)) → Given Q (and_then x f)
+given-then P Q (Err k) f p g = tt
+given-then P Q (Ok a) f p g = g a p
 
 framed-read : (n : ℕ) (os : List Operation) (s : State) → Read s → Given Read (framed n os s)
 framed-read n [] s r = r
@@ -86,12 +88,12 @@ Carries c = Read c.state
 
 line-read : (l : Line) (c : Carried) → Carries c → Given Carries (line_read l c)
 line-read begin c r = r
-line-read end c r = given-then Read Carries (ended c.line c.frame c.state) (λ s. given (carried s none (c.line + 1))) (ended-read c.line c.frame c.state r) (λ s q. q)
+line-read end c r = given-then Read Carries (ended c.line c.frame c.state) (λ s. Ok (carried s none (c.line + 1))) (ended-read c.line c.frame c.state r) (λ s q. q)
 line-read (operation o) c r = go (noted c.line o c.frame)
   where
-    go : (x : Result Frame) → Given Carries (and_then x (λ f. given (carried c.state f (c.line + 1))))
-    go (refused k) = tt
-    go (given f) = r
+    go : (x : Result Frame Refusal) → Given Carries (and_then x (λ f. Ok (carried c.state f (c.line + 1))))
+    go (Err k) = tt
+    go (Ok f) = r
 line-read torn c r = r
 line-read bad c r = tt
 

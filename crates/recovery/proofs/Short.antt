@@ -6,11 +6,13 @@ use Prim.Native.Nat.{ℕ, zero, suc, ◌+◌, ◌≤◌, ◌<◌}
 use native.Mathlib.Nat.{le_of_suc-le-suc}
 use lib.Dec.{leb}
 use lib.ListN.{length, take}
+use Rattle.std.specs.Prelude.{Result, Ok, Err}
 use Rattle.lists.specs.Keyed.{all_of}
 use Rattle.lists.proofs.Tests.{by_cases}
 use Rattle.lists.proofs.Views.{map-append}
 use Rattle.ids.specs.Limits.{most_operations}
-use Rattle.ids.specs.Results.{Result, refused, given, and_then}
+use Rattle.ids.specs.declared.refusal.Refusal.{Refusal}
+use Rattle.ids.specs.Results.{and_then}
 use Rattle.manifest.specs.Operations.{Operation, Line, begin, end, torn, operation, bad, well_formed}
 use Rattle.manifest.specs.Lines.{line_of}
 use Rattle.manifest.specs.Split.{lines_on, rest_on, lines}
@@ -37,9 +39,9 @@ read-over src more =
     ∙ read-append (lines_on [] src) (lines_on (rest_on [] src) more) at_start
     ∙ then-said (lines_read (lines_on [] src) at_start)
   where
-    then-said : (x : Result Carried) → and_then x (lines_read (lines_on (rest_on [] src) more)) ≡ and_then x (said_read (said_on (rest_on [] src) more))
-    then-said (refused k) = refl
-    then-said (given c) = said-read (lines_on (rest_on [] src) more) c
+    then-said : (x : Result Carried Refusal) → and_then x (lines_read (lines_on (rest_on [] src) more)) ≡ and_then x (said_read (said_on (rest_on [] src) more))
+    then-said (Err k) = refl
+    then-said (Ok c) = said-read (lines_on (rest_on [] src) more) c
 
 -- whatever line was begun, `!` ends it, and no frame is open after it
 pub marked-read : (so text : List ℕ) (c : Carried) → said_read (said_on so (33 ∷ 10 ∷ text)) c ≡ said_read (map line_of (lines text)) (carried c.state none (c.line + 1))
@@ -58,7 +60,7 @@ nothing-on so = refl
 -- a proper first part of an append is read to the same state
 module _ (os : List Operation) (w : all_of well_formed os ≡ true) (few : length os ≤ most_operations) where
   pub cut-read : (k : ℕ) → k < length (append_of os) → (so : List ℕ) (s : State) (f : Frame) (n : ℕ)
-      → (g : Frame) × (m : ℕ) × (said_read (said_on so (take k (append_of os))) (carried s f n) ≡ given (carried s g m))
+      → (g : Frame) × (m : ℕ) × (said_read (said_on so (take k (append_of os))) (carried s f n) ≡ Ok (carried s g m))
   cut-read zero h so s f n = (f, n, ap (λ (ls : List Line). said_read ls (carried s f n)) (nothing-on so))
   cut-read (suc zero) h so s f n = (f, n, ap (λ (ls : List Line). said_read ls (carried s f n)) (unmarked so))
   cut-read (suc (suc k)) h so s f n =
@@ -68,16 +70,16 @@ module _ (os : List Operation) (w : all_of well_formed os ≡ true) (few : lengt
 
 -- Two readings that differ in the numbers of lines.
 
-then-alike : {A B : Type 0} (R : A → A → Type 0) (Q : B → B → Type 0) (x y : Result A) (f g : A → Result B) → Alike R x y → ((a b : A) → R a b → Alike Q (f a) (g b))
+then-alike : {A B : Type 0} (R : A → A → Type 0) (Q : B → B → Type 0) (x y : Result A Refusal) (f g : A → Result B Refusal) → Alike R x y → ((a b : A) → R a b → Alike Q (f a) (g b))
     → Alike Q (and_then x f) (and_then y g)
-then-alike R Q (given a) (given b) f g r h = h a b r
-then-alike R Q (given a) (refused k) f g r h = absurd r
-then-alike R Q (refused k) (given b) f g r h = absurd r
-then-alike R Q (refused j) (refused k) f g r h = r
+then-alike R Q (Ok a) (Ok b) f g r h = h a b r
+then-alike R Q (Ok a) (Err k) f g r h = absurd r
+then-alike R Q (Err k) (Ok b) f g r h = absurd r
+then-alike R Q (Err j) (Err k) f g r h = r
 
-alike_same : (x : Result State) → Alike ◌≡◌ x x
-alike_same (given s) = refl
-alike_same (refused k) = refl
+alike_same : (x : Result State Refusal) → Alike ◌≡◌ x x
+alike_same (Ok s) = refl
+alike_same (Err k) = refl
 
 abbrev FramesAlike : Frame → Frame → Type 0
 FramesAlike none none = Unit {0}
@@ -114,12 +116,12 @@ noted-alike m n o (opened a os) (opened b bs) r = rw r (by_cases (leb most_opera
 line-alike : (l : Line) (c d : Carried) → CarriedAlike c d → Alike CarriedAlike (line_read l c) (line_read l d)
 line-alike begin c d i = record { state = i.state; frame = refl }
 line-alike end c d i =
-    then-alike ◌≡◌ CarriedAlike (ended c.line c.frame c.state) (ended d.line d.frame d.state) (λ s. given (carried s none (c.line + 1))) (λ s. given (carried s none (d.line + 1)))
+    then-alike ◌≡◌ CarriedAlike (ended c.line c.frame c.state) (ended d.line d.frame d.state) (λ s. Ok (carried s none (c.line + 1))) (λ s. Ok (carried s none (d.line + 1)))
     (rw i.state (ended-alike c.line d.line c.frame d.frame d.state i.frame))
     (λ s t q. record { state = q; frame = tt })
 line-alike torn c d i = record { state = i.state; frame = tt }
 line-alike (operation o) c d i =
-    then-alike FramesAlike CarriedAlike (noted c.line o c.frame) (noted d.line o d.frame) (λ f. given (carried c.state f (c.line + 1))) (λ f. given (carried d.state f (d.line + 1)))
+    then-alike FramesAlike CarriedAlike (noted c.line o c.frame) (noted d.line o d.frame) (λ f. Ok (carried c.state f (c.line + 1))) (λ f. Ok (carried d.state f (d.line + 1)))
     (noted-alike c.line d.line o c.frame d.frame i.frame)
     (λ f g q. record { state = i.state; frame = q })
 line-alike bad c d i = refl
@@ -128,10 +130,10 @@ said-alike : (ls : List Line) (c d : Carried) → CarriedAlike c d → Alike Car
 said-alike [] c d i = i
 said-alike (l ∷ ls) c d i = then-alike CarriedAlike CarriedAlike (line_read l c) (line_read l d) (said_read ls) (said_read ls) (line-alike l c d i) (said-alike ls)
 
-abbrev at_end : Carried → Result State
+abbrev at_end : Carried → Result State Refusal
 at_end c = finished c.state
 
-ends-alike : (x y : Result Carried) → Alike CarriedAlike x y → Alike ◌≡◌ (and_then x at_end) (and_then y at_end)
+ends-alike : (x y : Result Carried Refusal) → Alike CarriedAlike x y → Alike ◌≡◌ (and_then x at_end) (and_then y at_end)
 ends-alike x y r = then-alike CarriedAlike ◌≡◌ x y at_end at_end r (λ c d i. rw i.state (alike_same (finished d.state)))
 
 -- an append, whole or cut, after two readings of the same state
@@ -159,9 +161,9 @@ module _ (src : List ℕ) (os : List Operation) (k : ℕ) (bs : List Operation) 
   both-said : said_on so (p ++ a) ≡ said_on so p ++ said_on (rest_on so p) a
   both-said = ap (map line_of) (lines-on-append so p a) ∙ map-append line_of (lines_on so p) (lines_on (rest_on so p) a)
 
-  over : (x : Result Carried) → Alike ◌≡◌ (and_then (and_then x (said_read (said_on so (p ++ a)))) at_end) (and_then (and_then x (said_read (said_on so a))) at_end)
-  over (refused r) = refl
-  over (given c) =
+  over : (x : Result Carried Refusal) → Alike ◌≡◌ (and_then (and_then x (said_read (said_on so (p ++ a)))) at_end) (and_then (and_then x (said_read (said_on so a))) at_end)
+  over (Err r) = refl
+  over (Ok c) =
       let r = cut-read os w few k h so c.state c.frame c.line in
       rw (both-said, said-append (said_on so p) (said_on (rest_on so p) a) c, r.2)
       (append-alike bs j (rest_on so p) so c.state r.0 c.frame r.1 c.line)

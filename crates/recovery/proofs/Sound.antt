@@ -7,6 +7,7 @@ use native.Mathlib.Omega.{arith}
 use lib.Dec.{ltb, eqb}
 use lib.ListN.{length, get_or, take}
 use borrow.Author.Tests.{eqb-true, lt-ltb, le-leb, not-false}
+use Rattle.std.specs.Prelude.{Ok}
 use Rattle.lists.specs.Order.{same}
 use Rattle.lists.specs.Keyed.{keep, all_of, has}
 use Rattle.lists.proofs.Tests.{by_cases, clash, both}
@@ -18,7 +19,6 @@ use Rattle.snapshot.specs.Entries.{Entry, by_ids, gone_at, shown_at, shown_by, b
 use Rattle.snapshot.specs.Tables.{TableEntry, by_table}
 use Rattle.version_state.specs.declared.VersionManagerInner.{VersionManagerInner}
 use Rattle.ids.specs.Limits.{longest_manifest}
-use Rattle.ids.specs.Results.{given}
 use Rattle.version_state.specs.State.{State, with_epoch, Hands}
 use Rattle.version_state.specs.Sound.{left_behind, bad_inner}
 use Rattle.version_state.proofs.Within.{of-within}
@@ -136,5 +136,5 @@ module _ (s : State) (w : Whole s) where
         whole = subst (λ (u : State). left_behind u.epoch u ≡ false) q p.whole;
       })
 
-pub replay-sound : (src : List ℕ) (s : State) (m : VersionManagerInner) (n : ℕ) → replay_of src ≡ given s → n ≤ longest_manifest → Hands m (with_epoch s s.epoch n) → bad_inner m ≡ false
+pub replay-sound : (src : List ℕ) (s : State) (m : VersionManagerInner) (n : ℕ) → replay_of src ≡ Ok s → n ≤ longest_manifest → Hands m (with_epoch s s.epoch n) → bad_inner m ≡ false
 replay-sound src s m n h = whole-sound s (whole-replayed src s h) m n

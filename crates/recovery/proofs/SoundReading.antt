@@ -7,6 +7,7 @@ use native.Mathlib.Omega.{arith}
 use lib.Dec.{leb, ltb}
 use lib.ListN.{length, take}
 use borrow.Author.Tests.{ltb-false}
+use Rattle.std.specs.Prelude.{Result, Ok, Err}
 use Rattle.lists.specs.Keyed.{keep, has}
 use Rattle.lists.proofs.Tests.{neither}
 use Rattle.lists.proofs.Keyed.{All, all_append, all_keep, kept-all, keep_all, length-keep, ascend-to, ascend-from, ascending-keep}
@@ -17,7 +18,7 @@ use Rattle.manifest.specs.Lines.{line_of}
 use Rattle.manifest.specs.Split.{lines}
 use Rattle.manifest.proofs.Lines.{text-parse}
 use Rattle.ids.specs.Limits.{most_operations, most_tables, most_held, longest_manifest}
-use Rattle.ids.specs.Results.{Result, refused, given, and_then}
+use Rattle.ids.specs.Results.{and_then}
 use Rattle.snapshot.specs.Entries.{Entry, by_ids}
 use Rattle.version_state.specs.State.{State, start, with_pairs, with_vectors, with_epoch}
 use Rattle.operations.specs.Effect.{applied}
@@ -66,22 +67,22 @@ kept-vectors q s k =
     }
 
 -- Results taken apart.
-not-given : {A : Type 0} {k : Refusal} {a : A} → refused k ≡ given a → ⊥
+not-given : {A : Type 0} {k : Refusal} {a : A} → Err k ≡ Ok a → ⊥
 not-given h = let z : ◌≡◌ {A = ℕ} 0 1 = cc in omega arith
 
-same-given : {A : Type 0} {a b : A} → given a ≡ given b → a ≡ b
+same-given : {A : Type 0} {a b : A} → Ok a ≡ Ok b → a ≡ b
 same-given h = cc
 
-then-given : {A B : Type 0} (x : Result A) (f : A → Result B) (b : B) → and_then x f ≡ given b → (a : A) × (x ≡ given a) × (f a ≡ given b)
-then-given (refused k) f b h = absurd (not-given h)
-then-given (given a) f b h = (a, refl, h)
+then-given : {A B : Type 0} (x : Result A Refusal) (f : A → Result B Refusal) (b : B) → and_then x f ≡ Ok b → (a : A) × (x ≡ Ok a) × (f a ≡ Ok b)
+then-given (Err k) f b h = absurd (not-given h)
+then-given (Ok a) f b h = (a, refl, h)
 
 -- a test that refuses
-cond-given : {A : Type 0} (t : Bool) (k : Refusal) (x : Result A) (a : A) → cond t (refused k) x ≡ given a → (t ≡ false) × (x ≡ given a)
+cond-given : {A : Type 0} (t : Bool) (k : Refusal) (x : Result A Refusal) (a : A) → cond t (Err k) x ≡ Ok a → (t ≡ false) × (x ≡ Ok a)
 cond-given true k x a h = absurd (not-given h)
 cond-given false k x a h = (refl, h)
 
-kept-framed : (n : ℕ) (os : List Operation) (s u : State) → Kept s → All (λ o. well_formed o ≡ true) os → framed n os s ≡ given u → Kept u
+kept-framed : (n : ℕ) (os : List Operation) (s u : State) → Kept s → All (λ o. well_formed o ≡ true) os → framed n os s ≡ Ok u → Kept u
 kept-framed n [] s u k w h = subst Kept (same-given h) k
 kept-framed n (o ∷ os) s u k w h =
     let c = cond-given (conflicts o s) (TableConflict n) (framed (n + 1) os (applied reopened o s)) u h in
@@ -105,36 +106,36 @@ abbrev Read : Frame → Type 0
 Read none = Unit {0}
 Read (opened n os) = All (λ o. well_formed o ≡ true) os
 
-rests-ended : (n : ℕ) (f : Frame) (s t : State) → Rests s → Read f → ended n f s ≡ given t → Rests t
+rests-ended : (n : ℕ) (f : Frame) (s t : State) → Rests s → Read f → ended n f s ≡ Ok t → Rests t
 rests-ended n none s t r w h = subst Rests (same-given h) r
 rests-ended n (opened m os) s t r w h =
     let x = then-given (framed m os s) (λ u. limited n (settled u)) t h in
     let u = x.0 in
-    let c = cond-given (over_limit (settled u)) (OverLimit n) (given (settled u)) t x.2 in
+    let c = cond-given (over_limit (settled u)) (OverLimit n) (Ok (settled u)) t x.2 in
     subst Rests (same-given c.1) (rests-settled u (kept-framed m os s u r.kept w x.1) c.0)
 
-read-noted : (n : ℕ) (o : Operation) (f g : Frame) → well_formed o ≡ true → Read f → noted n o f ≡ given g → Read g
+read-noted : (n : ℕ) (o : Operation) (f g : Frame) → well_formed o ≡ true → Read f → noted n o f ≡ Ok g → Read g
 read-noted n o none g v w h = subst Read (same-given h) tt
 read-noted n o (opened m os) g v w h =
-    let c = cond-given (leb most_operations (length os)) (TooManyOperations n) (given (opened m (os ++ (o ∷ [])))) g h in
+    let c = cond-given (leb most_operations (length os)) (TooManyOperations n) (Ok (opened m (os ++ (o ∷ [])))) g h in
     subst Read (same-given c.1) (all_append (λ p. well_formed p ≡ true) os (o ∷ []) w (v, tt))
 
 record Runs (c : Carried) : Type 0 where
   state : Rests c.state
   frame : Read c.frame
 
-runs-line : (l : Line) (c d : Carried) → ((o : Operation) → l ≡ operation o → well_formed o ≡ true) → Runs c → line_read l c ≡ given d → Runs d
+runs-line : (l : Line) (c d : Carried) → ((o : Operation) → l ≡ operation o → well_formed o ≡ true) → Runs c → line_read l c ≡ Ok d → Runs d
 runs-line begin c d w r h = subst Runs (same-given h) (record { state = r.state; frame = tt })
 runs-line end c d w r h =
-    let x = then-given (ended c.line c.frame c.state) (λ s. given (carried s none (c.line + 1))) d h in
+    let x = then-given (ended c.line c.frame c.state) (λ s. Ok (carried s none (c.line + 1))) d h in
     subst Runs (same-given x.2) (record { state = rests-ended c.line c.frame c.state x.0 r.state r.frame x.1; frame = tt })
 runs-line (operation o) c d w r h =
-    let x = then-given (noted c.line o c.frame) (λ f. given (carried c.state f (c.line + 1))) d h in
+    let x = then-given (noted c.line o c.frame) (λ f. Ok (carried c.state f (c.line + 1))) d h in
     subst Runs (same-given x.2) (record { state = r.state; frame = read-noted c.line o c.frame x.0 (w o refl) r.frame x.1 })
 runs-line torn c d w r h = subst Runs (same-given h) (record { state = r.state; frame = tt })
 runs-line bad c d w r h = absurd (not-given h)
 
-runs-lines : (ls : List (List ℕ)) (c d : Carried) → Runs c → lines_read ls c ≡ given d → Runs d
+runs-lines : (ls : List (List ℕ)) (c d : Carried) → Runs c → lines_read ls c ≡ Ok d → Runs d
 runs-lines [] c d r h = subst Runs (same-given h) r
 runs-lines (l ∷ ls) c d r h =
     let x = then-given (line_read (line_of l) c) (lines_read ls) d h in
@@ -192,11 +193,11 @@ whole-held src s h =
     let r = runs-lines (lines src) at_start (carried s h.frame h.line) (record { state = rests-start; frame = tt }) h.read in
     record { rests = r.state; tables = h.tables; rowsets = h.rowsets }
 
-pub whole-replayed : (src : List ℕ) (s : State) → replay_of src ≡ given s → Whole s
+pub whole-replayed : (src : List ℕ) (s : State) → replay_of src ≡ Ok s → Whole s
 whole-replayed src s h =
     let a = cond-given (ltb longest_manifest (length src)) ManifestTooLong (lines_replayed (lines src)) s h in
     let x = then-given (lines_read (lines src) at_start) (λ c. finished c.state) s a.1 in
     let c = x.0 in
     let r = runs-lines (lines src) at_start c (record { state = rests-start; frame = tt }) x.1 in
-    let b = cond-given (tableless c.state) RowsetWithoutTable (given (without_orphans c.state)) s x.2 in
+    let b = cond-given (tableless c.state) RowsetWithoutTable (Ok (without_orphans c.state)) s x.2 in
     subst Whole (same-given b.1) (whole-finished c.state r.state b.0)

@@ -1,6 +1,5 @@
 -- The manifest that goes with a state. Assumes nothing.
-use Rattle.std.specs.Prelude.{◌≡◌, false, List, [], ◌++◌, ℕ, ◌≤◌, ◌<◌, length, take}
-use Rattle.ids.specs.Results.{given}
+use Rattle.std.specs.Prelude.{◌≡◌, false, List, [], ◌++◌, ℕ, ◌≤◌, ◌<◌, length, take, Ok}
 use Rattle.manifest.specs.Operations.{Operation}
 use Rattle.manifest.specs.Split.{lines}
 use Rattle.version_state.specs.declared.VersionManagerInner.{VersionManagerInner}
@@ -17,7 +16,7 @@ use Rattle.replay.specs.Replay.{Frame, carried, reopened, at_start, settled, lin
 pub record Holds (src : List ℕ) (s : State) : Type 0 where
   pub frame : Frame
   pub line : ℕ
-  pub read : lines_read (lines src) at_start ≡ given (carried s frame line)
+  pub read : lines_read (lines src) at_start ≡ Ok (carried s frame line)
   pub tables : tableless s ≡ false
   pub rowsets : without_orphans s ≡ s
 
@@ -30,10 +29,10 @@ followed os s = settled (applied_all reopened os s)
 -- manager that shows the same.
 pub data Appended : List ℕ → VersionManagerInner → Type 0 where
   first : (m : VersionManagerInner) → Hands m start → Appended [] m
-  rewritten : (src : List ℕ) (s : State) (m : VersionManagerInner) → replay_of src ≡ given s → sets_of (state_of m) ≡ sets_of s → Appended (rewritten_of s) m
+  rewritten : (src : List ℕ) (s : State) (m : VersionManagerInner) → replay_of src ≡ Ok s → sets_of (state_of m) ≡ sets_of s → Appended (rewritten_of s) m
   checkpointed : (src : List ℕ) (m n : VersionManagerInner) → Appended src m → bad_inner m ≡ false → Narrow (state_of m) → sets_of (state_of n) ≡ sets_of (state_of m) → Appended (rewritten_of (state_of m)) n
   committed : (src : List ℕ) (m n : VersionManagerInner) (k : ℕ) (os : List Operation) (room : ℕ) (u : State)
-      → Appended src m → bad_inner m ≡ false → length os ≤ k → commit_of (state_of m) k os room ≡ given u → Hands n u → Appended (src ++ append_of os) n
+      → Appended src m → bad_inner m ≡ false → length os ≤ k → commit_of (state_of m) k os room ≡ Ok u → Hands n u → Appended (src ++ append_of os) n
   short : (src : List ℕ) (m n : VersionManagerInner) (k : ℕ) (os : List Operation) (room : ℕ) (u : State) (landed : ℕ)
-      → Appended src m → bad_inner m ≡ false → length os ≤ k → commit_of (state_of m) k os room ≡ given u → landed < length (append_of os) → sets_of (state_of n) ≡ sets_of (state_of m) → Appended (src ++ take landed (append_of os)) n
+      → Appended src m → bad_inner m ≡ false → length os ≤ k → commit_of (state_of m) k os room ≡ Ok u → landed < length (append_of os) → sets_of (state_of n) ≡ sets_of (state_of m) → Appended (src ++ take landed (append_of os)) n
   other : (src : List ℕ) (m n : VersionManagerInner) → Appended src m → sets_of (state_of n) ≡ sets_of (state_of m) → Appended src n

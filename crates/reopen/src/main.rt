@@ -7,7 +7,6 @@ use status::Status;
 use std::io;
 use std::io::Input;
 use std::process::ExitCode;
-use storage::ReopenAnswer;
 
 fn say(rt: &impl Print, refusal: Refusal) -> io::Result<()> {
     let number = refusal.number();
@@ -26,8 +25,8 @@ fn written(rt: &impl Eprint, all: io::Result<()>, status: Status) -> Status {
 fn reopen(rt: &(impl Print + Eprint), src: &[u8], out: &mut [u8]) -> Status {
     let opened = storage::bootstrap(src, out);
     match opened.answer {
-        ReopenAnswer::Rewritten(n) => written(rt, rt.write_all(&out[..n]), Status::Done),
-        ReopenAnswer::Refused(refusal) => written(rt, say(rt, refusal), Status::Refused),
+        Ok(n) => written(rt, rt.write_all(&out[..n]), Status::Done),
+        Err(refusal) => written(rt, say(rt, refusal), Status::Refused),
     }
 }
 

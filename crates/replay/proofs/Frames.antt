@@ -8,15 +8,14 @@ use borrow.Author.Tests.{leb-false, ltb-false}
 use lib.Dec.{ltb, leb}
 use lib.ListN.{length, take, drop, length-map, length-append}
 use lib.Seq.{take-length}
+use Rattle.std.specs.Prelude.{Result, Ok, Err, is_ok}
 use Rattle.lists.specs.Order.{less}
 use Rattle.lists.specs.Keyed.{keep}
 use Rattle.lists.proofs.Tests.{by_cases, clash, neither}
 use Rattle.lists.proofs.Keyed.{Ascending, ascend-to}
 use Rattle.lists.proofs.Views.{map-append}
-use Rattle.ids.specs.Verdicts.{is_accepted}
 use Rattle.ids.specs.declared.refusal.Refusal.{Refusal}
 use Rattle.ids.specs.declared.refusal.Refusal.TheVariants.{OverLimit}
-use Rattle.ids.specs.declared.refusal.Verdict.TheVariants.{Accepted, Refused}
 use Rattle.manifest.specs.Operations.{Operation, Line, begin, end, torn, operation, bad}
 use Rattle.manifest.specs.Lines.{line_of}
 use Rattle.manifest.specs.Split.{lines, lines_from, line_at}
@@ -24,7 +23,7 @@ use Rattle.manifest.specs.declared.reader.LineAt.TheVariants as found
 use Rattle.manifest.proofs.Split.{lines_at, lines_none, lines-from-start, line-placed, line-further}
 use Rattle.snapshot.specs.Entries.{Entry, by_ids}
 use Rattle.ids.specs.Limits.{longest_manifest, most_operations}
-use Rattle.ids.specs.Results.{Result, refused, given, and_then}
+use Rattle.ids.specs.Results.{and_then}
 use Rattle.version_state.specs.State.{State, with_pairs, with_vectors}
 use Rattle.replay_lists.specs.Rows.{rows, by_both, by_first}
 use Rattle.replay_lists.proofs.Rows.{rows-length, firsts-length, seconds-length}
@@ -64,7 +63,7 @@ pub turn-as : (src : List ℕ) (next : ℕ) (m : Slices) (r : Turn) (c : Carried
 turn-as src next m r c a b e t = subst (λ (l : Line). TurnIs (line_read l c) src next m r) e t
 
 -- A frame's operations, one after another.
-pub record Going (src : List ℕ) (whole : Result State) (l : Slices) (at n left : ℕ) (z : Sets) : Type 0 where
+pub record Going (src : List ℕ) (whole : Result State Refusal) (l : Slices) (at n left : ℕ) (z : Sets) : Type 0 where
   pub same : whole ≡ framed_lightly n (take left (leading (said_from src at))) (state_in src l z)
   pub good : Good l z
   pub tables : z.tables + left ≤ table_room
@@ -83,28 +82,28 @@ unrolled src at n left next o s h e =
     ap (λ (os : List Operation). framed_lightly n os s) t
 
 module _ (src : List ℕ) (l : Slices) (y : Sets) (r : Applied) where
-  stop : (X : Result State) (f : State → Result State) → AppliedIs X src l y r → is_accepted r.verdict ≡ false → FrameIs (and_then X f) src l r
+  stop : (X : Result State Refusal) (f : State → Result State Refusal) → AppliedIs X src l y r → is_ok r.verdict ≡ false → FrameIs (and_then X f) src l r
   unfolding AppliedIs FrameIs
-  stop (refused k) f a v = a
-  stop (given s) f a v = clash (ap is_accepted a.0) v
+  stop (Err k) f a v = a
+  stop (Ok s) f a v = clash (ap is_ok a.0) v
 
-  record Onward (X : Result State) (f : State → Result State) : Type 0 where
+  record Onward (X : Result State Refusal) (f : State → Result State Refusal) : Type 0 where
     on : and_then X f ≡ f (state_in src l r.sets)
     good : Good l r.sets
     grown : Grown y r.sets
 
-  onward : (X : Result State) (f : State → Result State) → AppliedIs X src l y r → is_accepted r.verdict ≡ true → Onward X f
+  onward : (X : Result State Refusal) (f : State → Result State Refusal) → AppliedIs X src l y r → is_ok r.verdict ≡ true → Onward X f
   unfolding AppliedIs
-  onward (refused k) f a v = clash v (ap is_accepted a)
-  onward (given s) f a v = record { on = ap f (sym a.1.state); good = a.1.good; grown = a.1.grown }
+  onward (Err k) f a v = clash v (ap is_ok a)
+  onward (Ok s) f a v = record { on = ap f (sym a.1.state); good = a.1.good; grown = a.1.grown }
 
-module _ (src : List ℕ) (whole : Result State) (l m : Slices) (at n left next : ℕ) (z : Sets) (o : Operation) (r : Applied)
+module _ (src : List ℕ) (whole : Result State Refusal) (l m : Slices) (at n left next : ℕ) (z : Sets) (o : Operation) (r : Applied)
     (g : Going src whole l at n left z) (h : 0 < left) (e : said_from src at ≡ operation o ∷ said_from src next)
     (a : AppliedIs (one_of n o (state_in src l z)) src m z r) where
-  pub going-stop : is_accepted r.verdict ≡ false → FrameIs whole src m r
+  pub going-stop : is_ok r.verdict ≡ false → FrameIs whole src m r
   going-stop v = rw (g.same ∙ unrolled src at n left next o (state_in src l z) h e) (stop src m z r (one_of n o (state_in src l z)) _ a v)
 
-  pub going_on : is_accepted r.verdict ≡ true → at < next → next ≤ length src → Going src whole m next (n + 1) (left - 1) r.sets
+  pub going_on : is_ok r.verdict ≡ true → at < next → next ≤ length src → Going src whole m next (n + 1) (left - 1) r.sets
   going_on v p q =
       let w = onward src m z r (one_of n o (state_in src l z)) (framed_lightly (n + 1) (take (left - 1) (leading (said_from src next)))) a v in
       let wt = w.grown.tables in
@@ -125,8 +124,8 @@ module _ (src : List ℕ) (whole : Result State) (l m : Slices) (at n left next 
         short = g.short;
       }
 
-module _ (src : List ℕ) (whole : Result State) (l : Slices) (at n left : ℕ) (z : Sets) (r : Applied) (g : Going src whole l at n left z) (v : r.verdict ≡ Accepted) (e : r.sets ≡ z) where
-  going_done : framed_lightly n (take left (leading (said_from src at))) (state_in src l z) ≡ given (state_in src l z) → FrameIs whole src l r
+module _ (src : List ℕ) (whole : Result State Refusal) (l : Slices) (at n left : ℕ) (z : Sets) (r : Applied) (g : Going src whole l at n left z) (v : r.verdict ≡ Ok tt) (e : r.sets ≡ z) where
+  going_done : framed_lightly n (take left (leading (said_from src at))) (state_in src l z) ≡ Ok (state_in src l z) → FrameIs whole src l r
   unfolding FrameIs
   going_done t = rw (g.same ∙ t) (v, record { state = rw e; good = rw e g.good })
 
@@ -164,24 +163,24 @@ module _ (src : List ℕ) (l : Slices) (z : Sets) (g : Good l z) where
 
 -- An `E` where a frame is open.
 module _ (src : List ℕ) (l : Slices) (r : Applied) (n : ℕ) where
-  pub end-stop : (X : Result State) → FrameIs X src l r → is_accepted r.verdict ≡ false → EndIs (and_then X (limited n)) src l r
+  pub end-stop : (X : Result State Refusal) → FrameIs X src l r → is_ok r.verdict ≡ false → EndIs (and_then X (limited n)) src l r
   unfolding FrameIs EndIs
-  end-stop (refused k) a v = a
-  end-stop (given s) a v = clash (ap is_accepted a.0) v
+  end-stop (Err k) a v = a
+  end-stop (Ok s) a v = clash (ap is_ok a.0) v
 
-  pub end-over : (X : Result State) (q : Applied) → FrameIs X src l r → is_accepted r.verdict ≡ true
-      → ltb 16 r.sets.tables || (ltb 256 r.sets.pairs || ltb 256 r.sets.vectors) ≡ true → q.verdict ≡ Refused (OverLimit n) → EndIs (and_then X (limited n)) src l q
+  pub end-over : (X : Result State Refusal) (q : Applied) → FrameIs X src l r → is_ok r.verdict ≡ true
+      → ltb 16 r.sets.tables || (ltb 256 r.sets.pairs || ltb 256 r.sets.vectors) ≡ true → q.verdict ≡ Err (OverLimit n) → EndIs (and_then X (limited n)) src l q
   unfolding FrameIs EndIs
-  end-over (refused k) q a v o w = clash v (ap is_accepted a)
-  end-over (given s) q a v o w =
+  end-over (Err k) q a v o w = clash v (ap is_ok a)
+  end-over (Ok s) q a v o w =
       let e : over_limit s ≡ true = ap over_limit (sym a.1.state) ∙ limit-counts src l r.sets a.1.good ∙ o in
       rw e w
 
-  pub end-within : (X : Result State) → FrameIs X src l r → is_accepted r.verdict ≡ true
+  pub end-within : (X : Result State Refusal) → FrameIs X src l r → is_ok r.verdict ≡ true
       → ltb 16 r.sets.tables || (ltb 256 r.sets.pairs || ltb 256 r.sets.vectors) ≡ false → EndIs (and_then X (limited n)) src l r
   unfolding FrameIs EndIs
-  end-within (refused k) a v o = clash v (ap is_accepted a)
-  end-within (given s) a v o =
+  end-within (Err k) a v o = clash v (ap is_ok a)
+  end-within (Ok s) a v o =
       let e : over_limit s ≡ false = ap over_limit (sym a.1.state) ∙ limit-counts src l r.sets a.1.good ∙ o in
       let t = neither (ltb 16 r.sets.tables) (ltb 256 r.sets.pairs || ltb 256 r.sets.vectors) o in
       let u = neither (ltb 256 r.sets.pairs) (ltb 256 r.sets.vectors) t.1 in
@@ -210,7 +209,7 @@ module _ (src : List ℕ) (l : Slices) (z : Sets) (g : Good l z) where
       ∙ ap (λ (m : List Entry). with_pairs (state_in src l z) m) p
 
   -- a frame of the definition is one of the code
-  frame-in : (n : ℕ) (os : List Operation) (f : State → Result State) → and_then (framed n os (state_in src l z)) (λ u. f (settled u)) ≡ and_then (framed_lightly n os (state_in src l z)) f
+  frame-in : (n : ℕ) (os : List Operation) (f : State → Result State Refusal) → and_then (framed n os (state_in src l z)) (λ u. f (settled u)) ≡ and_then (framed_lightly n os (state_in src l z)) f
   frame-in n os f = frame-light f n os (state_in src l z) rising-in ∙ ap (λ (s : State). and_then (framed_lightly n os s) f) settled-in
 
 leading-ops : (os : List Operation) (m : List Line) → leading (map operation os ++ (end ∷ m)) ≡ os
@@ -231,7 +230,7 @@ module _ (src : List ℕ) (l : Slices) (z : Sets) (o : Begun) (n at next : ℕ) 
         begun = record { running = λ t. clash t (rw d c); closed = λ _. refl };
       }
 
-  pub end_none : (r : Turn) → r.verdict ≡ Accepted → r.sets ≡ z → r.begun ≡ o → o.running ≡ false → TurnIs (line_read end (carried (state_in src l z) f n)) src next l r
+  pub end_none : (r : Turn) → r.verdict ≡ Ok tt → r.sets ≡ z → r.begun ≡ o → o.running ≡ false → TurnIs (line_read end (carried (state_in src l z) f n)) src next l r
   unfolding TurnIs
   end_none r v e d c = rw (b.closed c) (v, same_turn r e d c)
 
@@ -247,9 +246,9 @@ module _ (src : List ℕ) (l : Slices) (z : Sets) (o : Begun) (n at next : ℕ) 
       let h2 : EndIs (and_then (framed_lightly o.line os (state_in src l z)) (limited n)) src m a = rw t at h in
       rw (w.frame, frame-in src l z g.good o.line os (limited n)) (turn (and_then (framed_lightly o.line os (state_in src l z)) (limited n)) h2)
     where
-      turn : (X : Result State) → EndIs X src m a → TurnIs (and_then X (λ s. given (carried s none (n + 1)))) src next m r
-      turn (refused q) x = v ∙ x
-      turn (given s) x = (
+      turn : (X : Result State Refusal) → EndIs X src m a → TurnIs (and_then X (λ s. Ok (carried s none (n + 1)))) src next m r
+      turn (Err q) x = v ∙ x
+      turn (Ok s) x = (
         v ∙ x.0,
         record {
           state = rw e x.1.state;
@@ -260,7 +259,7 @@ module _ (src : List ℕ) (l : Slices) (z : Sets) (o : Begun) (n at next : ℕ) 
         },
       )
 
-  pub begin-turn : (r : Turn) → r.verdict ≡ Accepted → r.sets ≡ z → r.begun.running ≡ true → r.begun.place ≡ next → r.begun.line ≡ n + 1 → r.begun.count ≡ 0 → n ≤ next → next ≤ length src
+  pub begin-turn : (r : Turn) → r.verdict ≡ Ok tt → r.sets ≡ z → r.begun.running ≡ true → r.begun.place ≡ next → r.begun.line ≡ n + 1 → r.begun.count ≡ 0 → n ≤ next → next ≤ length src
       → TurnIs (line_read begin (carried (state_in src l z) f n)) src next l r
   unfolding TurnIs
   begin-turn r v e c p d k w i = (
@@ -275,7 +274,7 @@ module _ (src : List ℕ) (l : Slices) (z : Sets) (o : Begun) (n at next : ℕ) 
   )
 
   -- no frame is open after a torn line
-  pub torn-turn : (r : Turn) → r.verdict ≡ Accepted → r.sets ≡ z → r.begun.running ≡ false → BegunOk src r.begun → TurnIs (line_read torn (carried (state_in src l z) f n)) src next l r
+  pub torn-turn : (r : Turn) → r.verdict ≡ Ok tt → r.sets ≡ z → r.begun.running ≡ false → BegunOk src r.begun → TurnIs (line_read torn (carried (state_in src l z) f n)) src next l r
   unfolding TurnIs
   torn-turn r v e d k = (v, record { state = rw e; good = rw e g.good; small = rw e g.small; ok = k; begun = record { running = λ t. clash t d; closed = λ _. refl } })
 
@@ -309,7 +308,7 @@ module _ (src : List ℕ) (l : Slices) (z : Sets) (o : Begun) (n at next : ℕ) 
       )))
       (λ c. let y = q.outside c in rw (b.closed c) (y.0, same_turn r y.1 y.2 c))
     where
-      more : (r.verdict ≡ Accepted) × (r.sets ≡ z) × (r.begun.running ≡ true) × (r.begun.place ≡ o.place) × (r.begun.line ≡ o.line) × (r.begun.count ≡ o.count + 1) → o.count < 600 → BegunOk src r.begun
+      more : (r.verdict ≡ Ok tt) × (r.sets ≡ z) × (r.begun.running ≡ true) × (r.begun.place ≡ o.place) × (r.begun.line ≡ o.line) × (r.begun.count ≡ o.count + 1) → o.count < 600 → BegunOk src r.begun
       more y t =
           let a = g.ok.line in
           let e = g.ok.inside in
@@ -318,25 +317,25 @@ module _ (src : List ℕ) (l : Slices) (z : Sets) (o : Begun) (n at next : ℕ) 
           let y5 = y.5 in
           record { most = omega arith; line = omega arith; inside = omega arith }
 
-differ : {A : Type 0} {k : Refusal} {a : A} → refused k ≡ given a → ⊥
+differ : {A : Type 0} {k : Refusal} {a : A} → Err k ≡ Ok a → ⊥
 differ h = let z : ◌≡◌ {A = ℕ} 0 1 = cc in omega arith
 
-same-given : {c d : Carried} → ◌≡◌ {A = Result Carried} (given c) (given d) → c.line ≡ d.line
+same-given : {c d : Carried} → ◌≡◌ {A = Result Carried Refusal} (Ok c) (Ok d) → c.line ≡ d.line
 same-given {c} {d} h = let e : c ≡ d = cc in ap (λ (x : Carried). x.line) e
 
 -- each line has its number
-line-on : (l : Line) (c d : Carried) → line_read l c ≡ given d → d.line ≡ c.line + 1
+line-on : (l : Line) (c d : Carried) → line_read l c ≡ Ok d → d.line ≡ c.line + 1
 line-on begin c d h = sym (same-given h)
 line-on end c d h = go (ended c.line c.frame c.state) h
   where
-    go : (X : Result State) → and_then X (λ s. given (carried s none (c.line + 1))) ≡ given d → d.line ≡ c.line + 1
-    go (refused k) h = absurd (differ h)
-    go (given s) h = sym (same-given h)
+    go : (X : Result State Refusal) → and_then X (λ s. Ok (carried s none (c.line + 1))) ≡ Ok d → d.line ≡ c.line + 1
+    go (Err k) h = absurd (differ h)
+    go (Ok s) h = sym (same-given h)
 line-on (operation o) c d h = go (noted c.line o c.frame) h
   where
-    go : (X : Result Frame) → and_then X (λ f. given (carried c.state f (c.line + 1))) ≡ given d → d.line ≡ c.line + 1
-    go (refused k) h = absurd (differ h)
-    go (given s) h = sym (same-given h)
+    go : (X : Result Frame Refusal) → and_then X (λ f. Ok (carried c.state f (c.line + 1))) ≡ Ok d → d.line ≡ c.line + 1
+    go (Err k) h = absurd (differ h)
+    go (Ok s) h = sym (same-given h)
 line-on torn c d h = sym (same-given h)
 line-on bad c d h = absurd (differ h)
 
@@ -378,7 +377,7 @@ module _ (src : List ℕ) (l : Slices) (z : Sets) (o : Begun) where
       }
 
   module _ (at n : ℕ) (g : Reading src l z o at n) where
-    pub reading-end : (r : Applied) → line_at src at ≡ found.None → r.verdict ≡ Accepted → r.sets ≡ z → RunIs (lines_read (lines src) at_start) src l r
+    pub reading-end : (r : Applied) → line_at src at ≡ found.None → r.verdict ≡ Ok tt → r.sets ≡ z → RunIs (lines_read (lines src) at_start) src l r
     unfolding RunIs
     reading-end r h v e =
         let s = g.same ∙ ap (λ (ls : List (List ℕ)). lines_read ls (carried (state_in src l z) g.frame n)) (lines_none src at h) in
@@ -389,33 +388,33 @@ module _ (src : List ℕ) (l : Slices) (z : Sets) (o : Begun) where
       onto : lines_read (lines src) at_start ≡ and_then (line_read (line_of (take (e - start) (drop start src))) (carried (state_in src l z) g.frame n)) (lines_read (lines_from src next))
       onto = g.same ∙ ap (λ (ls : List (List ℕ)). lines_read ls (carried (state_in src l z) g.frame n)) (lines_at src at start e next h)
 
-      pub reading-stop : (q : Applied) → is_accepted r.verdict ≡ false → q.verdict ≡ r.verdict → RunIs (lines_read (lines src) at_start) src m q
+      pub reading-stop : (q : Applied) → is_ok r.verdict ≡ false → q.verdict ≡ r.verdict → RunIs (lines_read (lines src) at_start) src m q
       unfolding TurnIs RunIs
       reading-stop q v w = rw onto (go (line_read (line_of (take (e - start) (drop start src))) (carried (state_in src l z) g.frame n)) t)
         where
-          go : (X : Result Carried) → TurnIs X src next m r → RunIs (and_then X (lines_read (lines_from src next))) src m q
-          go (refused k) x = w ∙ x
-          go (given c) x = clash (ap is_accepted x.0) v
+          go : (X : Result Carried Refusal) → TurnIs X src next m r → RunIs (and_then X (lines_read (lines_from src next))) src m q
+          go (Err k) x = w ∙ x
+          go (Ok c) x = clash (ap is_ok x.0) v
 
-      pub reading-on : is_accepted r.verdict ≡ true → Reading src m r.sets r.begun next (n + 1)
+      pub reading-on : is_ok r.verdict ≡ true → Reading src m r.sets r.begun next (n + 1)
       unfolding TurnIs
       reading-on v = go (line_read (line_of (take (e - start) (drop start src))) (carried (state_in src l z) g.frame n)) refl t
         where
           further : (at < next) × (next ≤ length src)
           further = line-further src at start e next h
 
-          numbered : (X : Result Carried) → line_read (line_of (take (e - start) (drop start src))) (carried (state_in src l z) g.frame n) ≡ X → (c : Carried) → X ≡ given c → c.line ≡ n + 1
+          numbered : (X : Result Carried Refusal) → line_read (line_of (take (e - start) (drop start src))) (carried (state_in src l z) g.frame n) ≡ X → (c : Carried) → X ≡ Ok c → c.line ≡ n + 1
           numbered X p c q = line-on (line_of (take (e - start) (drop start src))) (carried (state_in src l z) g.frame n) c (p ∙ q)
 
-          go : (X : Result Carried) → line_read (line_of (take (e - start) (drop start src))) (carried (state_in src l z) g.frame n) ≡ X → TurnIs X src next m r → Reading src m r.sets r.begun next (n + 1)
-          go (refused k) p x = clash v (ap is_accepted x)
-          go (given c) p x =
+          go : (X : Result Carried Refusal) → line_read (line_of (take (e - start) (drop start src))) (carried (state_in src l z) g.frame n) ≡ X → TurnIs X src next m r → Reading src m r.sets r.begun next (n + 1)
+          go (Err k) p x = clash v (ap is_ok x)
+          go (Ok c) p x =
               let u = x.1 in
               let w = g.line in
               let y = further in
               record {
                 frame = c.frame;
-                same = onto ∙ rw p (ap (lines_read (lines_from src next)) (ap (λ (s : State). carried s c.frame c.line) (sym u.state) ∙ ap (λ (j : ℕ). carried (state_in src m r.sets) c.frame j) (numbered (given c) p c refl)));
+                same = onto ∙ rw p (ap (lines_read (lines_from src next)) (ap (λ (s : State). carried s c.frame c.line) (sym u.state) ∙ ap (λ (j : ℕ). carried (state_in src m r.sets) c.frame j) (numbered (Ok c) p c refl)));
                 ready = record { good = u.good; small = u.small; ok = u.ok; short = g.ready.short };
                 begun = u.begun;
                 line = omega arith;
@@ -424,17 +423,17 @@ module _ (src : List ℕ) (l : Slices) (z : Sets) (o : Begun) where
 
 -- What a run hands on.
 module _ (src : List ℕ) (l : Slices) (r : Applied) where
-  pub run-stop : (X : Result Carried) (q : Replayed) → RunIs X src l r → is_accepted r.verdict ≡ false → q.verdict ≡ r.verdict → ReplayIs (and_then X (λ c. finished c.state)) q
+  pub run-stop : (X : Result Carried Refusal) (q : Replayed) → RunIs X src l r → is_ok r.verdict ≡ false → q.verdict ≡ r.verdict → ReplayIs (and_then X (λ c. finished c.state)) q
   unfolding RunIs ReplayIs
-  run-stop (refused k) q a v e = e ∙ a
-  run-stop (given c) q a v e = clash (ap is_accepted a.0) v
+  run-stop (Err k) q a v e = e ∙ a
+  run-stop (Ok c) q a v e = clash (ap is_ok a.0) v
 
-  pub record Ran (X : Result Carried) : Type 0 where
+  pub record Ran (X : Result Carried Refusal) : Type 0 where
     pub good : Good l r.sets
     pub small : Small r.sets
     pub on : (q : Replayed) → ReplayIs (finished (state_in src l r.sets)) q → ReplayIs (and_then X (λ c. finished c.state)) q
 
-  pub ran : (X : Result Carried) → RunIs X src l r → is_accepted r.verdict ≡ true → Ran X
+  pub ran : (X : Result Carried Refusal) → RunIs X src l r → is_ok r.verdict ≡ true → Ran X
   unfolding RunIs
-  ran (refused k) a v = clash v (ap is_accepted a)
-  ran (given c) a v = record { good = a.1.good; small = a.2; on = λ q h. rw (← a.1.state) h }
+  ran (Err k) a v = clash v (ap is_ok a)
+  ran (Ok c) a v = record { good = a.1.good; small = a.2; on = λ q h. rw (← a.1.state) h }

@@ -2,11 +2,13 @@
 use mathlib.Core.Path.{◌≡◌, refl, ap₂, ◌∙◌}
 use mathlib.Core.List.{List, [], ◌∷◌}
 use Prim.Native.Nat.{ℕ, ◌+◌}
+use Rattle.std.specs.Prelude.{Result}
 use Rattle.lists.specs.Keyed.{keep}
 use Rattle.lists.proofs.Tests.{by_cases}
 use Rattle.lists.proofs.Keyed.{Ascending}
 use Rattle.lists.proofs.Kept.{keep-put, keep-changed}
-use Rattle.ids.specs.Results.{Result, and_then}
+use Rattle.ids.specs.declared.refusal.Refusal.{Refusal}
+use Rattle.ids.specs.Results.{and_then}
 use Rattle.manifest.specs.Operations.{Operation}
 use Rattle.manifest.specs.Edits.{Edit, leaves, adds, deletes, edits_of}
 use Rattle.snapshot.specs.Entries.{Entry, added_at, deleted_at, by_ids}
@@ -36,7 +38,7 @@ light-one o s r =
     (light-edit (edits_of o).pairs s.pairs r.pairs) (light-edit (edits_of o).vectors s.vectors r.vectors)
 
 -- a frame, and what is done with what stands after it
-pub frame-light : (g : State → Result State) (n : ℕ) (os : List Operation) (s : State) → Rising s
+pub frame-light : (g : State → Result State Refusal) (n : ℕ) (os : List Operation) (s : State) → Rising s
     → and_then (framed n os s) (λ u. g (settled u)) ≡ and_then (framed_lightly n os (settled s)) g
 frame-light g n [] s r = refl
 frame-light g n (o ∷ os) s r =

@@ -8,12 +8,13 @@ use borrow.Author.Tests.{le-leb, ltb-true}
 use lib.Dec.{leb}
 use lib.ListN.{length, take, drop, length-drop}
 use lib.Seq.{length-take-le}
+use Rattle.std.specs.Prelude.{Result}
 use Rattle.lists.specs.Order.{less, same}
 use Rattle.lists.specs.Keyed.{all_of, any_of, is_at, has, put, without, ascending}
 use Rattle.lists.proofs.Tests.{both}
 use Rattle.lists.proofs.Keyed.{ascend-to, ascend-from, ascending-put, ascending-keep, all-put, all_keep, all_of-all, all-all_of, any_of-map}
+use Rattle.ids.specs.declared.refusal.Refusal.{Refusal}
 use Rattle.ids.specs.Ids.{largest32, largest64, is_id32, is_id64}
-use Rattle.ids.specs.Results.{Result}
 use Rattle.text.specs.Name.{is_name}
 use Rattle.manifest.specs.Operations.{create_table, add_rowset, add_vector, operation}
 use Rattle.manifest.specs.Lines.{line_of}
@@ -238,14 +239,14 @@ module _ (w : List ℕ) (whole : length w ≡ work_room) where
   vectors-whole = sym (length-take-le (work_room - pairs_end) (drop pairs_end w) (omega (arith, length-drop pairs_end w)))
 
 -- A part was lent and came back changed: what the others hold is as it was.
-module _ (X : Result State) (src : List ℕ) (y : Sets) (r : Applied) where
+module _ (X : Result State Refusal) (src : List ℕ) (y : Sets) (r : Applied) where
   as-cut : (t t' p p' v v' : List ℕ) → t ≡ t' → p ≡ p' → v ≡ v' → AppliedIs X src (lists_of t' p' v') y r → AppliedIs X src (lists_of t p v) y r
   as-cut t t' p p' v v' et ep ev a =
       subst⁻¹ (λ (z : List ℕ). AppliedIs X src (lists_of z p v) y r) et
       (subst⁻¹ (λ (z : List ℕ). AppliedIs X src (lists_of t' z v) y r) ep
       (subst⁻¹ (λ (z : List ℕ). AppliedIs X src (lists_of t' p' z) y r) ev a))
 
-module _ (w u : List ℕ) (whole : length w ≡ work_room) (X : Result State) (src : List ℕ) (y : Sets) (r : Applied) where
+module _ (w u : List ℕ) (whole : length w ≡ work_room) (X : Result State Refusal) (src : List ℕ) (y : Sets) (r : Applied) where
   pub cut-tables : length u ≡ tables_end → AppliedIs X src (lists_of u (pairs_part w) (vectors_part w)) y r → AppliedIs X src (cut (back 0 tables_end w u)) y r
   cut-tables h a =
       let t : tables_part (back 0 tables_end w u) ≡ u = back_in 0 tables_end w u h (omega arith) in

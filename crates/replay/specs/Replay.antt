@@ -1,9 +1,9 @@
 -- Replay: from the bytes of a manifest to the state at its end, line by line as the specification reads them. Assumes nothing.
-use Rattle.std.specs.Prelude.{◌≡◌, Bool, false, cond, not, ◌||◌, List, [], ◌∷◌, ◌++◌, ℕ, ◌+◌, leb, ltb, length}
+use Rattle.std.specs.Prelude.{◌≡◌, Bool, false, cond, not, ◌||◌, List, [], ◌∷◌, ◌++◌, ℕ, ◌+◌, leb, ltb, length, Result, Ok, Err}
 use Rattle.lists.specs.Keyed.{keep, all_of, has}
+use Rattle.ids.specs.declared.refusal.Refusal.{Refusal}
 use Rattle.ids.specs.declared.refusal.Refusal.TheVariants.{ManifestTooLong, Malformed, TableConflict, OverLimit, RowsetWithoutTable, TooManyOperations}
-use Rattle.ids.specs.declared.refusal.Verdict.TheVariants.{Accepted, Refused}
-use Rattle.ids.specs.Results.{Result, refused, given, and_then}
+use Rattle.ids.specs.Results.{and_then}
 use Rattle.manifest.specs.Operations.{Operation, Line, begin, end, torn, operation, bad}
 use Rattle.manifest.specs.Edits.{Edit, leaves, adds, deletes, Table, edits_of}
 use Rattle.manifest.specs.Lines.{line_of}
@@ -48,9 +48,9 @@ abbrev pub conflicts : Operation → State → Bool
 conflicts o s = clashes (edits_of o).tables s.tables
 
 -- the operations of a frame in order, the first on line n
-abbrev pub framed : ℕ → List Operation → State → Result State
-framed n [] s = given s
-framed n (o ∷ os) s = cond (conflicts o s) (refused (TableConflict n)) (framed (n + 1) os (applied reopened o s))
+abbrev pub framed : ℕ → List Operation → State → Result State Refusal
+framed n [] s = Ok s
+framed n (o ∷ os) s = cond (conflicts o s) (Err (TableConflict n)) (framed (n + 1) os (applied reopened o s))
 
 abbrev pub stands : Entry → Bool
 stands x = not (waits x)
@@ -64,29 +64,29 @@ abbrev pub over_limit : State → Bool
 over_limit s = ltb most_tables (length s.tables) || (ltb most_held (length s.pairs) || ltb most_held (length s.vectors))
 
 -- what stands after an `E` on line n, where a frame is
-abbrev pub limited : ℕ → State → Result State
-limited n s = cond (over_limit s) (refused (OverLimit n)) (given s)
+abbrev pub limited : ℕ → State → Result State Refusal
+limited n s = cond (over_limit s) (Err (OverLimit n)) (Ok s)
 
-abbrev pub ended : ℕ → Frame → State → Result State
-ended n none s = given s
+abbrev pub ended : ℕ → Frame → State → Result State Refusal
+ended n none s = Ok s
 ended n (opened m os) s = and_then (framed m os s) (λ u. limited n (settled u))
 
 -- an operation on line n: outside a frame it is ignored
-abbrev pub noted : ℕ → Operation → Frame → Result Frame
-noted n o none = given none
-noted n o (opened m os) = cond (leb most_operations (length os)) (refused (TooManyOperations n)) (given (opened m (os ++ (o ∷ []))))
+abbrev pub noted : ℕ → Operation → Frame → Result Frame Refusal
+noted n o none = Ok none
+noted n o (opened m os) = cond (leb most_operations (length os)) (Err (TooManyOperations n)) (Ok (opened m (os ++ (o ∷ []))))
 
 -- one line; a `B` drops what an open frame held, and so does a torn line, which opens none
-abbrev pub line_read : Line → Carried → Result Carried
-line_read begin c = given (carried c.state (opened (c.line + 1) []) (c.line + 1))
-line_read end c = and_then (ended c.line c.frame c.state) (λ s. given (carried s none (c.line + 1)))
-line_read torn c = given (carried c.state none (c.line + 1))
-line_read (operation o) c = and_then (noted c.line o c.frame) (λ f. given (carried c.state f (c.line + 1)))
-line_read bad c = refused (Malformed c.line)
+abbrev pub line_read : Line → Carried → Result Carried Refusal
+line_read begin c = Ok (carried c.state (opened (c.line + 1) []) (c.line + 1))
+line_read end c = and_then (ended c.line c.frame c.state) (λ s. Ok (carried s none (c.line + 1)))
+line_read torn c = Ok (carried c.state none (c.line + 1))
+line_read (operation o) c = and_then (noted c.line o c.frame) (λ f. Ok (carried c.state f (c.line + 1)))
+line_read bad c = Err (Malformed c.line)
 
 -- one line after another
-abbrev pub lines_read : List (List ℕ) → Carried → Result Carried
-lines_read [] c = given c
+abbrev pub lines_read : List (List ℕ) → Carried → Result Carried Refusal
+lines_read [] c = Ok c
 lines_read (l ∷ ls) c = and_then (line_read (line_of l) c) (lines_read ls)
 
 -- 5: a live rowset without its table
@@ -98,17 +98,17 @@ abbrev pub without_orphans : State → State
 without_orphans s = with_vectors s (keep (has_rowset s.pairs) s.vectors)
 
 -- at the end; a frame still open is dropped
-abbrev pub finished : State → Result State
-finished s = cond (tableless s) (refused RowsetWithoutTable) (given (without_orphans s))
+abbrev pub finished : State → Result State Refusal
+finished s = cond (tableless s) (Err RowsetWithoutTable) (Ok (without_orphans s))
 
 -- the state at the end of a manifest's complete lines
-abbrev pub lines_replayed : List (List ℕ) → Result State
+abbrev pub lines_replayed : List (List ℕ) → Result State Refusal
 lines_replayed ls = and_then (lines_read ls at_start) (λ c. finished c.state)
 
-abbrev pub replay_of : List ℕ → Result State
-replay_of s = cond (ltb longest_manifest (length s)) (refused ManifestTooLong) (lines_replayed (lines s))
+abbrev pub replay_of : List ℕ → Result State Refusal
+replay_of s = cond (ltb longest_manifest (length s)) (Err ManifestTooLong) (lines_replayed (lines s))
 
 -- refused, or what is handed out stands for the state
-unfoldable pub ReplayIs : Result State → Replayed → Type 0
-ReplayIs (refused k) r = r.verdict ≡ Refused k
-ReplayIs (given s) r = (r.verdict ≡ Accepted) × Hands r.inner s
+unfoldable pub ReplayIs : Result State Refusal → Replayed → Type 0
+ReplayIs (Err k) r = r.verdict ≡ Err k
+ReplayIs (Ok s) r = (r.verdict ≡ Ok tt) × Hands r.inner s

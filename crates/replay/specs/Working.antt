@@ -1,17 +1,17 @@
 -- How a replay holds a state while it reads: rows in a lent slice, and counts. Internal: the contract of a replay is in `Replay`. Assumes nothing.
-use Rattle.std.specs.Prelude.{◌≡◌, Bool, true, false, cond, List, [], ◌∷◌, ◌++◌, map, ℕ, ◌+◌, ◌-◌, ◌*◌, ◌/◌, ◌%◌, ◌≤◌, ◌<◌, leb, length, take, drop}
+use Rattle.std.specs.Prelude.{◌≡◌, Bool, true, false, cond, List, [], ◌∷◌, ◌++◌, map, ℕ, ◌+◌, ◌-◌, ◌*◌, ◌/◌, ◌%◌, ◌≤◌, ◌<◌, leb, length, take, drop, Result, Ok, Err}
 use Rattle.lists.specs.Keyed.{all_of, ascending}
 use Rattle.ids.specs.Ids.{largest32}
 use Rattle.ids.specs.Names.{longest_name}
+use Rattle.ids.specs.declared.refusal.Refusal.{Refusal}
 use Rattle.ids.specs.declared.refusal.Refusal.TheVariants.{TableConflict, TooManyOperations}
-use Rattle.ids.specs.declared.refusal.Verdict.TheVariants.{Accepted, Refused}
 use Rattle.manifest.specs.Operations.{Operation, Line, begin, end, torn, operation, bad, operation_of}
 use Rattle.manifest.specs.Lines.{line_of}
 use Rattle.manifest.specs.Split.{lines_from}
 use Rattle.snapshot.specs.Entries.{Entry, added_at, by_ids}
 use Rattle.snapshot.specs.Tables.{TableEntry, created}
 use Rattle.ids.specs.Limits.{most_tables, most_held, longest_manifest, most_operations}
-use Rattle.ids.specs.Results.{Result, refused, given, and_then}
+use Rattle.ids.specs.Results.{and_then}
 use Rattle.version_state.specs.State.{State}
 use Rattle.operations.specs.Effect.{edited, edited_by, raise}
 use Rattle.replay_lists.specs.Rows.{rows, firsts, seconds, by_both, by_first}
@@ -154,8 +154,8 @@ pub record Grown (y z : Sets) : Type 0 where
 abbrev pub lightly : Operation → State → State
 lightly o s = raise o (edited_by (edited by_ids (added_at reopened)) o s)
 
-abbrev pub one_of : ℕ → Operation → State → Result State
-one_of n o s = cond (conflicts o s) (refused (TableConflict n)) (given (lightly o s))
+abbrev pub one_of : ℕ → Operation → State → Result State Refusal
+one_of n o s = cond (conflicts o s) (Err (TableConflict n)) (Ok (lightly o s))
 
 pub record Stands (src : List ℕ) (l : Slices) (y z : Sets) (s : State) : Type 0 where
   pub state : state_in src l z ≡ s
@@ -163,9 +163,9 @@ pub record Stands (src : List ℕ) (l : Slices) (y z : Sets) (s : State) : Type 
   pub grown : Grown y z
 
 -- refused, or what the slice now holds is the state
-unfoldable pub AppliedIs : Result State → List ℕ → Slices → Sets → Applied → Type 0
-AppliedIs (refused k) src l y r = r.verdict ≡ Refused k
-AppliedIs (given s) src l y r = (r.verdict ≡ Accepted) × Stands src l y r.sets s
+unfoldable pub AppliedIs : Result State Refusal → List ℕ → Slices → Sets → Applied → Type 0
+AppliedIs (Err k) src l y r = r.verdict ≡ Err k
+AppliedIs (Ok s) src l y r = (r.verdict ≡ Ok tt) × Stands src l y r.sets s
 
 -- what the lines from a place on say, and the operations that come first among them
 abbrev pub said_from : List ℕ → ℕ → List Line
@@ -196,17 +196,17 @@ pub record HereOf (l : Line) (e next : ℕ) (r : Here) : Type 0 where
   pub none : r.found ≡ false → (m : List Line) → leading (l ∷ m) ≡ []
 
 -- the operations of a frame, each of which takes out at once what it deletes
-abbrev pub framed_lightly : ℕ → List Operation → State → Result State
-framed_lightly n [] s = given s
+abbrev pub framed_lightly : ℕ → List Operation → State → Result State Refusal
+framed_lightly n [] s = Ok s
 framed_lightly n (o ∷ os) s = and_then (one_of n o s) (framed_lightly (n + 1) os)
 
 pub record Held (src : List ℕ) (l : Slices) (z : Sets) (s : State) : Type 0 where
   pub state : state_in src l z ≡ s
   pub good : Good l z
 
-unfoldable pub FrameIs : Result State → List ℕ → Slices → Applied → Type 0
-FrameIs (refused k) src l r = r.verdict ≡ Refused k
-FrameIs (given s) src l r = (r.verdict ≡ Accepted) × Held src l r.sets s
+unfoldable pub FrameIs : Result State Refusal → List ℕ → Slices → Applied → Type 0
+FrameIs (Err k) src l r = r.verdict ≡ Err k
+FrameIs (Ok s) src l r = (r.verdict ≡ Ok tt) × Held src l r.sets s
 
 -- within the specification's limits
 pub record Small (z : Sets) : Type 0 where
@@ -214,9 +214,9 @@ pub record Small (z : Sets) : Type 0 where
   pub pairs : z.pairs ≤ most_held
   pub vectors : z.vectors ≤ most_held
 
-unfoldable pub EndIs : Result State → List ℕ → Slices → Applied → Type 0
-EndIs (refused k) src l r = r.verdict ≡ Refused k
-EndIs (given s) src l r = (r.verdict ≡ Accepted) × Held src l r.sets s × Small r.sets
+unfoldable pub EndIs : Result State Refusal → List ℕ → Slices → Applied → Type 0
+EndIs (Err k) src l r = r.verdict ≡ Err k
+EndIs (Ok s) src l r = (r.verdict ≡ Ok tt) × Held src l r.sets s × Small r.sets
 
 -- an open frame is known by the place and the number of the line after its `B`, and by how many operations follow
 pub record BegunOk (src : List ℕ) (o : Begun) : Type 0 where
@@ -241,16 +241,16 @@ pub record Turned (src : List ℕ) (next : ℕ) (l : Slices) (r : Turn) (c : Car
   pub ok : BegunOk src r.begun
   pub begun : BegunIs src next r.begun c.frame
 
-unfoldable pub TurnIs : Result Carried → List ℕ → ℕ → Slices → Turn → Type 0
-TurnIs (refused k) src next l r = r.verdict ≡ Refused k
-TurnIs (given c) src next l r = (r.verdict ≡ Accepted) × Turned src next l r c
+unfoldable pub TurnIs : Result Carried Refusal → List ℕ → ℕ → Slices → Turn → Type 0
+TurnIs (Err k) src next l r = r.verdict ≡ Err k
+TurnIs (Ok c) src next l r = (r.verdict ≡ Ok tt) × Turned src next l r c
 
 -- an operation is counted in an open frame, up to the most that there may be
 pub record OperationSays (n : ℕ) (z : Sets) (o : Begun) (r : Turn) : Type 0 where
-  pub outside : o.running ≡ false → (r.verdict ≡ Accepted) × (r.sets ≡ z) × (r.begun ≡ o)
-  pub full : o.running ≡ true → leb most_operations o.count ≡ true → r.verdict ≡ Refused (TooManyOperations n)
+  pub outside : o.running ≡ false → (r.verdict ≡ Ok tt) × (r.sets ≡ z) × (r.begun ≡ o)
+  pub full : o.running ≡ true → leb most_operations o.count ≡ true → r.verdict ≡ Err (TooManyOperations n)
   pub counted : o.running ≡ true → leb most_operations o.count ≡ false
-      → (r.verdict ≡ Accepted) × (r.sets ≡ z) × (r.begun.running ≡ true) × (r.begun.place ≡ o.place) × (r.begun.line ≡ o.line) × (r.begun.count ≡ o.count + 1)
+      → (r.verdict ≡ Ok tt) × (r.sets ≡ z) × (r.begun.running ≡ true) × (r.begun.place ≡ o.place) × (r.begun.line ≡ o.line) × (r.begun.count ≡ o.count + 1)
 
 -- what a line may be read on
 pub record Ready (src : List ℕ) (l : Slices) (z : Sets) (o : Begun) : Type 0 where
@@ -260,6 +260,6 @@ pub record Ready (src : List ℕ) (l : Slices) (z : Sets) (o : Begun) : Type 0 w
   pub ok : BegunOk src o
 
 -- refused, or all lines are read
-unfoldable pub RunIs : Result Carried → List ℕ → Slices → Applied → Type 0
-RunIs (refused k) src l r = r.verdict ≡ Refused k
-RunIs (given c) src l r = (r.verdict ≡ Accepted) × Held src l r.sets c.state × Small r.sets
+unfoldable pub RunIs : Result Carried Refusal → List ℕ → Slices → Applied → Type 0
+RunIs (Err k) src l r = r.verdict ≡ Err k
+RunIs (Ok c) src l r = (r.verdict ≡ Ok tt) × Held src l r.sets c.state × Small r.sets

@@ -1,5 +1,5 @@
 // What one operation does to the lists of the working slice and to the next ids.
-ghost use Rattle.std.specs.Prelude.{◌≡◌, ◌||◌, List, [], ◌∷◌, ℕ, ◌+◌, ◌*◌, ◌-◌, ◌≤◌, ◌<◌, max, length};
+ghost use Rattle.std.specs.Prelude.{◌≡◌, ◌||◌, List, [], ◌∷◌, ℕ, ◌+◌, ◌*◌, ◌-◌, ◌≤◌, ◌<◌, max, length, Ok, Err};
 ghost use Rattle.lists.specs.Keyed.{has};
 ghost use Rattle.ids.specs.Ids.{largest32, largest64};
 ghost use Rattle.ids.specs.Names.{name_of};
@@ -11,7 +11,7 @@ ghost use Rattle.replay.specs.Working.{shape_noted, name_noted, lists_of, cut, t
 
 use crate::{Applied, HELD_ROOM, PAIRS_END, Sets, TABLE_ROOM, TABLES_END, WIDE, WORK_ROOM};
 use ids::name::Name;
-use ids::refusal::{Refusal, Verdict};
+use ids::refusal::Refusal;
 use ids::{RowsetNo, TableNo, VectorNo};
 use manifest::operation::{Change, EpochOp};
 use version_state::NextIds;
@@ -42,19 +42,19 @@ fn larger64(x: u64, y: u64) -> u64
 }
 
 pub fn refused(sets: Sets, refusal: Refusal) -> Applied
-    ensures { result.verdict ≡ Verdict.Refused refusal }
+    ensures { result.verdict ≡ Err refusal }
 {
     Applied {
-        verdict: Verdict::Refused(refusal),
+        verdict: Err(refusal),
         sets,
     }
 }
 
 pub fn accepted(sets: Sets) -> Applied
-    ensures { (result.verdict ≡ Verdict.Accepted) × (result.sets ≡ sets) }
+    ensures { (result.verdict ≡ Ok tt) × (result.sets ≡ sets) }
 {
     Applied {
-        verdict: Verdict::Accepted,
+        verdict: Ok(()),
         sets,
     }
 }

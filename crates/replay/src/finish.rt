@@ -12,7 +12,7 @@ ghost use Rattle.replay.specs.Working.{cut, work_room, tables_in, pairs_in, vect
 use crate::{HELD_ROOM, PAIRS_END, Replayed, Sets, TABLE_ROOM, TABLES_END, WIDE, WORK_ROOM};
 use ids::TableNo;
 use ids::limits::{MOST_HELD, MOST_TABLES, NAME_BYTES};
-use ids::refusal::{Refusal, Verdict};
+use ids::refusal::Refusal;
 use snapshot::rowsets::Rowsets;
 use snapshot::tables::Tables;
 use snapshot::vectors::Vectors;
@@ -227,7 +227,7 @@ pub fn finish(src: &[u8], sets: Sets, work: &[u64]) -> Replayed
         manifest: 0,
     };
     Replayed {
-        verdict: Verdict::Accepted,
+        verdict: Ok(()),
         inner,
     }
 }

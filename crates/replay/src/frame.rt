@@ -86,7 +86,7 @@ fn apply_frame(
         }
         let done = crate::changes::apply(src, here.end, n, here.change, held, work);
         let verdict = done.verdict;
-        if !verdict.accepted() {
+        if verdict.is_err() {
             return done;
         }
         held = done.sets;
@@ -124,7 +124,7 @@ pub fn end_frame(
 {
     let done = apply_frame(classes, src, begun, sets, work);
     let verdict = done.verdict;
-    if !verdict.accepted() {
+    if verdict.is_err() {
         return done;
     }
     let held = done.sets;

@@ -1,12 +1,12 @@
 // Replay: from the bytes of a manifest to the state at its end.
 #![tactic(auto)]
 
-ghost use Rattle.std.specs.Prelude.{◌≡◌};
+ghost use Rattle.std.specs.Prelude.{◌≡◌, Err};
 ghost use Rattle.replay.specs.Replay.{replay_of, ReplayIs};
 
 use ids::limits::{LONGEST_MANIFEST, MOST_HELD, MOST_OPERATIONS, MOST_TABLES};
 use ids::name::Name;
-use ids::refusal::{Refusal, Verdict};
+use ids::refusal::Refusal;
 use manifest::operation::Change;
 use version_state::{NextIds, VersionManagerInner};
 
@@ -42,7 +42,7 @@ pub struct Sets {
 
 #[derive(Clone, Copy)]
 pub struct Applied {
-    pub verdict: Verdict,
+    pub verdict: Result<(), Refusal>,
     pub sets: Sets,
 }
 
@@ -80,14 +80,14 @@ pub struct Spot {
 
 #[derive(Clone, Copy)]
 pub struct Turn {
-    pub verdict: Verdict,
+    pub verdict: Result<(), Refusal>,
     pub sets: Sets,
     pub begun: Begun,
 }
 
 #[derive(Clone, Copy)]
 pub struct Replayed {
-    pub verdict: Verdict,
+    pub verdict: Result<(), Refusal>,
     pub inner: VersionManagerInner,
 }
 
@@ -98,10 +98,10 @@ fn wide(x: u32) -> u64
 }
 
 fn no(refusal: Refusal) -> Replayed
-    ensures { result.verdict ≡ Verdict.Refused refusal }
+    ensures { result.verdict ≡ Err refusal }
 {
     Replayed {
-        verdict: Verdict::Refused(refusal),
+        verdict: Err(refusal),
         inner: VersionManagerInner::fresh(),
     }
 }
@@ -118,7 +118,7 @@ pub fn replay(src: &[u8]) -> Replayed
     let mut work = [0u64; WORK_ROOM];
     let done = lines::run(&classes, src, &mut work);
     let verdict = done.verdict;
-    if !verdict.accepted() {
+    if verdict.is_err() {
         return Replayed {
             verdict,
             inner: VersionManagerInner::fresh(),

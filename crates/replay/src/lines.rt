@@ -1,5 +1,5 @@
 // The lines of a manifest, one after another.
-ghost use Rattle.std.specs.Prelude.{◌≡◌, true, false, List, ◌∷◌, ℕ, ◌+◌, ◌≤◌, ◌<◌, length};
+ghost use Rattle.std.specs.Prelude.{◌≡◌, true, false, List, ◌∷◌, ℕ, ◌+◌, ◌≤◌, ◌<◌, length, Ok, Err};
 ghost use Rattle.ids.specs.Ids.{largest64};
 ghost use Rattle.text.specs.Class.{Classes};
 ghost use Rattle.manifest.specs.Operations.{end, line_said};
@@ -10,27 +10,27 @@ ghost use Rattle.replay.specs.Working.{said_from, OperationSays, BegunOk, BegunI
 
 use crate::{Applied, Begun, Sets, Spot, Turn};
 use ids::limits::MOST_OPERATIONS;
-use ids::refusal::{Refusal, Verdict};
+use ids::refusal::Refusal;
 use ids::{RowsetNo, TableNo, VectorNo};
 use manifest::operation::{ManifestOperation, Parsed, ParsedLine};
 use manifest::reader::LineAt;
 use version_state::NextIds;
 
 fn stopped(sets: Sets, begun: Begun, refusal: Refusal) -> Turn
-    ensures { result.verdict ≡ Verdict.Refused refusal }
+    ensures { result.verdict ≡ Err refusal }
 {
     Turn {
-        verdict: Verdict::Refused(refusal),
+        verdict: Err(refusal),
         sets,
         begun,
     }
 }
 
 fn turned(sets: Sets, begun: Begun) -> Turn
-    ensures { (result.verdict ≡ Verdict.Accepted) × (result.sets ≡ sets) × (result.begun ≡ begun) }
+    ensures { (result.verdict ≡ Ok tt) × (result.sets ≡ sets) × (result.begun ≡ begun) }
 {
     Turn {
-        verdict: Verdict::Accepted,
+        verdict: Ok(()),
         sets,
         begun,
     }
@@ -65,7 +65,7 @@ fn no_sets() -> Sets
 // Internal, as is all that follows: `B` on a line.
 fn begin_line(spot: Spot, sets: Sets) -> Turn
     requires { (spot.line ≤ spot.next) × (spot.next < largest64) }
-    ensures { (result.verdict ≡ Verdict.Accepted) × (result.sets ≡ sets) × (result.begun.running ≡ true) × (result.begun.place ≡ spot.next) × (result.begun.line ≡ spot.line + 1) × (result.begun.count ≡ 0) }
+    ensures { (result.verdict ≡ Ok tt) × (result.sets ≡ sets) × (result.begun.running ≡ true) × (result.begun.place ≡ spot.next) × (result.begun.line ≡ spot.line + 1) × (result.begun.count ≡ 0) }
 {
     turned(
         sets,
@@ -159,7 +159,7 @@ pub fn run(classes: &[u8; 256], src: &[u8], work: &mut [u64]) -> Applied
                 let turn = read_line(classes, src, Spot { line: n, next }, p, sets, begun, work);
                 let verdict = turn.verdict;
                 let held = turn.sets;
-                if !verdict.accepted() {
+                if verdict.is_err() {
                     return Applied {
                         verdict,
                         sets: held,

@@ -1,8 +1,7 @@
 -- The rewritten manifest handed out: what it says of the lent buffer and of the state whose manifest it is from then on. Assumes nothing.
-use Rattle.std.specs.Prelude.{◌≡◌, List, [], ◌∷◌, ℕ, ◌≤◌, ltb, length}
+use Rattle.std.specs.Prelude.{◌≡◌, List, [], ◌∷◌, ℕ, ◌≤◌, ltb, length, Ok}
 use Rattle.lists.specs.Written.{over}
 use Rattle.ids.specs.declared.refusal.Refusal.TheVariants.{OutputTooShort}
-use Rattle.ids.specs.declared.refusal.Verdict.TheVariants.{Accepted}
 use Rattle.ids.specs.Verdicts.{Rule, ◌⇒◌, judged}
 use Rattle.ids.specs.Answers.{after}
 use Rattle.version_state.specs.State.{State, with_epoch, Hands}
@@ -22,4 +21,4 @@ pub record RewriteIs (s : State) (out : List ℕ) (r : Rewrote) (out' : List ℕ
   pub counted : r.length ≡ length (rewritten_of s)
   pub within : length (rewritten_of s) ≤ longest_rewritten
   pub bytes : out' ≡ after (judged (rewrite_rules (length out) s)) (over (rewritten_of s) out) out
-  pub inner : r.verdict ≡ Accepted → Hands r.inner (with_rewritten s)
+  pub inner : r.verdict ≡ Ok tt → Hands r.inner (with_rewritten s)

@@ -16,7 +16,7 @@ ghost use Rattle.rewrite.specs.Rewritten.{create_of, add_of, add_vector_of, long
 
 use ids::limits::{LONGEST_REWRITTEN, MOST_HELD, MOST_TABLES, NAME_BYTES};
 use ids::name::Name;
-use ids::refusal::{Refusal, Verdict};
+use ids::refusal::Refusal;
 use ids::{RowsetNo, TableNo, VectorNo};
 use manifest::operation::{Change, EpochOp};
 use version_state::{NextIds, VersionManagerInner};
@@ -24,7 +24,7 @@ use version_state::{NextIds, VersionManagerInner};
 // After the rewritten manifest was handed out: its length, and the state whose manifest it is.
 #[derive(Drop)]
 pub struct Rewrote {
-    pub verdict: Verdict,
+    pub verdict: Result<(), Refusal>,
     pub length: usize,
     pub inner: VersionManagerInner,
 }
@@ -205,7 +205,7 @@ pub fn rewrite_into(inner: VersionManagerInner, out: &mut [u8]) -> Rewrote
     let n = put_rewritten(inner, &mut printed);
     if out.len() < n {
         return Rewrote {
-            verdict: Verdict::Refused(Refusal::OutputTooShort),
+            verdict: Err(Refusal::OutputTooShort),
             length: n,
             inner,
         };
@@ -214,7 +214,7 @@ pub fn rewrite_into(inner: VersionManagerInner, out: &mut [u8]) -> Rewrote
     let mut rewritten = inner;
     rewritten.manifest = n;
     Rewrote {
-        verdict: Verdict::Accepted,
+        verdict: Ok(()),
         length: n,
         inner: rewritten,
     }

@@ -7,16 +7,15 @@ use native.Mathlib.Omega.{arith}
 use lib.Dec.{eqb, ltb, leb}
 use lib.ListN.{take}
 use borrow.Author.Tests.{eqb-true, ltb-true, leb-true, not-false}
+use Rattle.std.specs.Prelude.{Ok, Err}
 use Rattle.lists.specs.Order.{same}
 use Rattle.lists.specs.Keyed.{keep, all_of, has, is_at}
 use Rattle.lists.proofs.Tests.{by_cases, clash, both}
 use Rattle.lists.proofs.Order.{same_true}
 use Rattle.lists.proofs.Keyed.{all_map, all_of-all, any_of-map}
 use Rattle.ids.specs.declared.refusal.Refusal.{Refusal}
-use Rattle.ids.specs.declared.refusal.Verdict.{Verdict}
-use Rattle.ids.specs.declared.refusal.Verdict.TheVariants.{Accepted, Refused}
+use Rattle.ids.specs.Verdicts.{Verdict}
 use Rattle.ids.specs.Answers.{Told, told}
-use Rattle.ids.specs.Results.{given}
 use Rattle.manifest.specs.Operations.{Operation}
 use Rattle.snapshot.specs.Entries.{Entry, shown_by}
 use Rattle.snapshot.specs.Tables.{TableEntry, by_table}
@@ -41,15 +40,15 @@ use Rattle.risinglight.proofs.Starts.{Whole}
 
 -- What an accepted call tells.
 
-pub refused-told : (k : Refusal) (vs : List ℕ) (t : Told) → t ≡ told (Refused k) vs → is_accepted t ≡ true → ⊥
+pub refused-told : (k : Refusal) (vs : List ℕ) (t : Told) → t ≡ told (Err k) vs → is_accepted t ≡ true → ⊥
 refused-told k vs t e a = clash (ap is_accepted (sym e) ∙ a) (refused-number k)
 
-pub passed : (v : Verdict) (vs : List ℕ) (t : Told) → t ≡ told v vs → is_accepted t ≡ true → v ≡ Accepted
-passed Accepted vs t e a = refl
-passed (Refused k) vs t e a = absurd (refused-told k vs t e a)
+pub passed : (v : Verdict) (vs : List ℕ) (t : Told) → t ≡ told v vs → is_accepted t ≡ true → v ≡ Ok tt
+passed (Ok _) vs t e a = refl
+passed (Err k) vs t e a = absurd (refused-told k vs t e a)
 
 -- the operations of an accepted commit find what they ask for
-pub commit-found : (w : World) (r : Record) (z : ℕ) (os : List Operation) (room : ℕ) (s : State) → Inv w r → commit_of (held_by w.manager) z os room ≡ given s → Found os r.whole.now
+pub commit-found : (w : World) (r : Record) (z : ℕ) (os : List Operation) (room : ℕ) (s : State) → Inv w r → commit_of (held_by w.manager) z os room ≡ Ok s → Found os r.whole.now
 commit-found w r z os room s i h =
     let m = w.manager.inner in
     let a = accepts (held_by w.manager) z os room s h in

@@ -7,9 +7,9 @@ use native.Mathlib.Omega.{arith}
 use lib.Dec.{ltb}
 use lib.ListN.{length}
 use borrow.Author.Tests.{ltb-true, lt-ltb}
+use Rattle.std.specs.Prelude.{Err}
 use Rattle.lists.proofs.Keyed.{All, all_map, all_of-all, all-all_of}
 use Rattle.ids.specs.declared.refusal.Refusal.TheVariants.{WrongCount}
-use Rattle.ids.specs.declared.refusal.Verdict.TheVariants.{Refused}
 use Rattle.ids.specs.Verdicts.{judged}
 use Rattle.delete_vector.specs.Encoding.{varint_by, varint, uint_field, delimited}
 use Rattle.delete_vector.specs.Records.{row_limit, record_of, records_of, is_record, size_in, Records, Rows, Bad, records_by, records_at, records_in, is_bad}
@@ -87,7 +87,7 @@ examples = record {
 }
 
 over : (rows out : List ℕ) → are_rows rows ≡ true → most_records < length rows
-    → (judged (read_rules (records_of rows) out) ≡ Refused WrongCount) × («open» (records_of rows) ≡ ok (in_memory rows))
+    → (judged (read_rules (records_of rows) out) ≡ Err WrongCount) × («open» (records_of rows) ≡ ok (in_memory rows))
 over rows out h n = (rw (laws-hold.reads_back rows h, lt-ltb most_records (length rows) n), opened rows h)
 
 pub delete-vectors : DeleteVectorLaws

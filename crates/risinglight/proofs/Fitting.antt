@@ -5,12 +5,13 @@ use mathlib.Core.List.{List, [], ◌∷◌, map}
 use Prim.Native.Nat.{ℕ, ◌+◌, ◌≤◌}
 use native.Mathlib.Omega.{arith}
 use borrow.Author.Tests.{ltb-true, ne_eqb}
+use Rattle.std.specs.Prelude.{Result, Ok, Err}
 use Rattle.lists.specs.Order.{same}
 use Rattle.lists.specs.Keyed.{keep, any_of, has, is_at}
 use Rattle.lists.proofs.Keyed.{all_map, none-any_of, any_of-map}
-use Rattle.ids.specs.declared.refusal.Verdict.TheVariants.{Accepted}
+use Rattle.ids.specs.declared.refusal.Refusal.{Refusal}
 use Rattle.ids.specs.Verdicts.{judged}
-use Rattle.ids.specs.Results.{Result, refused, given, and_then}
+use Rattle.ids.specs.Results.{and_then}
 use Rattle.manifest.specs.Operations.{Operation}
 use Rattle.manifest.specs.Edits.{Edit, leaves, adds, deletes, Table, edits_of}
 use Rattle.snapshot.specs.Entries.{Entry, shown_by}
@@ -75,7 +76,7 @@ pub record Found (os : List Operation) (x : Sets) : Type 0 where
   pub ids : FindsAll os x
   pub tables : TablesFind os x.tables
 
-found-one : (i e : ℕ) (o : Operation) (os : List Operation) (s : State) → Below s.next_table s.tables → judged (op_rules i e o s) ≡ Accepted
+found-one : (i e : ℕ) (o : Operation) (os : List Operation) (s : State) → Below s.next_table s.tables → judged (op_rules i e o s) ≡ Ok tt
     → Found os (apply o (plain_at e s)) → Found (o ∷ os) (plain_at e s)
 found-one i e o os s b a g =
     let f = fits i e o s a in
@@ -84,15 +85,15 @@ found-one i e o os s b a g =
       tables = (tables-find (edits_of o).tables s b f.tables, g.tables);
     }
 
-pub found : (i e : ℕ) (os : List Operation) (s t : State) → 1 ≤ e → Ordered s → Below s.next_table s.tables → steps_of i e os s ≡ given t → Found os (plain_at e s)
+pub found : (i e : ℕ) (os : List Operation) (s t : State) → 1 ≤ e → Ordered s → Below s.next_table s.tables → steps_of i e os s ≡ Ok t → Found os (plain_at e s)
 found i e [] s t p r b h = record { ids = tt; tables = tt }
 found i e (o ∷ os) s t p r b h =
     go (step_of i e o s) refl h (found (i + 1) e os (applied e o s) t p (ordered-applied e o s r) (below-applied e o s b))
   where
-    go : (x : Result State) → step_of i e o s ≡ x → and_then x (λ u. steps_of (i + 1) e os u) ≡ given t
-        → (steps_of (i + 1) e os (applied e o s) ≡ given t → Found os (plain_at e (applied e o s))) → Found (o ∷ os) (plain_at e s)
-    go (given u) a h ih =
+    go : (x : Result State Refusal) → step_of i e o s ≡ x → and_then x (λ u. steps_of (i + 1) e os u) ≡ Ok t
+        → (steps_of (i + 1) e os (applied e o s) ≡ Ok t → Found os (plain_at e (applied e o s))) → Found (o ∷ os) (plain_at e s)
+    go (Ok u) a h ih =
         let w = step_given i e o s u a in
-        let g : steps_of (i + 1) e os (applied e o s) ≡ given t = subst (λ (v : State). steps_of (i + 1) e os v ≡ given t) (sym w.1) h in
+        let g : steps_of (i + 1) e os (applied e o s) ≡ Ok t = subst (λ (v : State). steps_of (i + 1) e os v ≡ Ok t) (sym w.1) h in
         found-one i e o os s b w.0 (subst (Found os) (apply_at e o s p r) (ih g))
-    go (refused k) a h ih = absurd (halt h)
+    go (Err k) a h ih = absurd (halt h)

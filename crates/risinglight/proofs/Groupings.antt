@@ -8,6 +8,7 @@ use native.Mathlib.Omega.{arith}
 use lib.Dec.{eqb}
 use lib.ListN.{length, length-map}
 use borrow.Author.Tests.{eq-eqb, ne_eqb, eqb-true, eqb-false, ltb-false}
+use Rattle.std.specs.Prelude.{Ok}
 use Rattle.lists.specs.Keyed.{placed, arranged, ascending}
 use Rattle.lists.proofs.Tests.{by_cases, clash}
 use Rattle.lists.proofs.Keyed.{All, all_map, all_any, any_of-none, any_of-map, keep-map, ascend-to, ascending-sorted, put-new, length-arranged}
@@ -21,7 +22,6 @@ use Rattle.transaction.specs.Groups.{Handle, handles_of, rows_of, rowsets_of, Ve
 use Rattle.transaction.specs.Says.{used_up, group_rules}
 use Rattle.ids.specs.Ids.{largest64}
 use Rattle.ids.specs.declared.refusal.Refusal.TheVariants.{BadManager}
-use Rattle.ids.specs.declared.refusal.Verdict.TheVariants.{Accepted}
 use Rattle.ids.specs.Verdicts.{◌⇒◌}
 use Rattle.ids.proofs.Verdicts.{none-judged}
 use Rattle.version_manager.specs.declared.VersionManager.{VersionManager}
@@ -172,7 +172,7 @@ module _ (hs : List Handle) (m : List (Binding (List ℕ))) (next : ℕ) (w : Wa
       ∙ ap (map made) (sym (arranged-sorted by_key m (ascending-sorted by_key m (ascend-to by_key m up))))
       ∙ made-walked
 
-accepted-ids : (m : VersionManager) (h : Handles) (rs ls cs fs ms : List ℕ) (b : List (Binding (List ℕ))) → group_verdict m h rs ls cs fs ms ≡ Accepted → Walks (handles_of h) b
+accepted-ids : (m : VersionManager) (h : Handles) (rs ls cs fs ms : List ℕ) (b : List (Binding (List ℕ))) → group_verdict m h rs ls cs fs ms ≡ Ok tt → Walks (handles_of h) b
     → map (λ (v : DeleteVector). v.dv_id) (dvs (held_by m).next_vector b) ≡ following (held_by m).next_vector (length (grouped_by h))
 accepted-ids m h rs ls cs fs ms b a w =
     let next = (held_by m).next_vector in

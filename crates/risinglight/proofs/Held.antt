@@ -8,10 +8,10 @@ use lib.Dec.{eqb}
 use lib.ListN.{length, take}
 use lib.Seq.{take_all}
 use borrow.Author.Tests.{ne_eqb}
+use Rattle.std.specs.Prelude.{Ok}
 use Rattle.lists.specs.Keyed.{keep, all_of, is_at, has, arranged}
 use Rattle.lists.proofs.Tests.{by_cases, clash, both, join}
 use Rattle.lists.proofs.Keyed.{any_of-map, Ascending}
-use Rattle.ids.specs.Results.{given}
 use Rattle.manifest.specs.Operations.{Operation}
 use Rattle.snapshot.specs.Entries.{by_ids, gone_by, by_deletion}
 use Rattle.version_state.specs.State.{State}
@@ -65,7 +65,7 @@ module _ (g : Engine) (m : State) (r : Record) (k : Pool g m r) where
 
   -- a commit
   module _ (cut : ℕ) (os : List Operation) (missing : ℕ) (rel : Rel g r) (c : Committing cut g r os missing) (done s : State)
-      (steps : steps_of 0 (m.epoch + 1) os m ≡ given done) (pairs : s.pairs ≡ done.pairs) (vectors : s.vectors ≡ done.vectors)
+      (steps : steps_of 0 (m.epoch + 1) os m ≡ Ok done) (pairs : s.pairs ≡ done.pairs) (vectors : s.vectors ≡ done.vectors)
       (rowset : s.next_rowset ≡ done.next_rowset) (vector : s.next_vector ≡ done.next_vector) where
     abbrev file : List Value
     file = g.running.manifest

@@ -7,14 +7,13 @@ use native.Mathlib.Omega.{arith}
 use native.Mathlib.Nat.{mod-le}
 use lib.Dec.{eqb, ltb}
 use borrow.Author.Tests.{leb-false, ltb-true}
+use Rattle.std.specs.Prelude.{Ok}
 use Rattle.lists.specs.Order.{same}
 use Rattle.lists.specs.Keyed.{keep, all_of, is_at, has, without, arranged}
 use Rattle.lists.proofs.Tests.{by_cases, clash, both, join}
 use Rattle.lists.proofs.Order.{same_true}
 use Rattle.lists.proofs.Keyed.{All, Ascending, after-absent, has-put}
-use Rattle.ids.specs.declared.refusal.Verdict.TheVariants.{Accepted}
 use Rattle.ids.specs.Verdicts.{judged}
-use Rattle.ids.specs.Results.{given}
 use Rattle.ids.proofs.Verdicts.{none-judged}
 use Rattle.manifest.specs.Operations.{Operation, create_table, drop_table, add_rowset, delete_rowset, add_vector, delete_vector, next_ids}
 use Rattle.manifest.specs.Edits.{Edit, leaves, adds, deletes, edits_of}
@@ -54,22 +53,22 @@ module _ (e : ℕ) where
     adding o j = adds_it (f o) j
 
     held_on : (z : Bool) (i : ℕ) (o : Operation) (os : List Operation) (s : State) → adds_any adding (o ∷ os) k || has by_ids k (g s) ≡ z
-        → judged (op_rules i e o s) ≡ Accepted → adds_any adding os k || has by_ids k (g (applied e o s)) ≡ z
+        → judged (op_rules i e o s) ≡ Ok tt → adds_any adding os k || has by_ids k (g (applied e o s)) ≡ z
     held_on z i o os s h a =
         ap (λ l. adds_any adding os k || has by_ids k l) (step o s)
         ∙ ap (λ b. adds_any adding os k || b) (has-marked e (f o) k (g s))
         ∙ shuffle (adding o k) (adds_any adding os k) (has by_ids k (g s))
         ∙ h
 
-    held_after : (os : List Operation) (s t : State) → steps_of 0 e os s ≡ given t → has by_ids k (g t) ≡ adds_any adding os k || has by_ids k (g s)
+    held_after : (os : List Operation) (s t : State) → steps_of 0 e os s ≡ Ok t → has by_ids k (g t) ≡ adds_any adding os k || has by_ids k (g s)
     held_after os s t h =
         let z = adds_any adding os k || has by_ids k (g s) in
         (steps_on (λ i ps u. adds_any adding ps k || has by_ids k (g u) ≡ z) e (held_on z) 0 os s t refl h).1
 
-  pub pairs-after : (k : List ℕ) (os : List Operation) (s t : State) → steps_of 0 e os s ≡ given t → has by_ids k t.pairs ≡ adds_any of_pairs os k || has by_ids k s.pairs
+  pub pairs-after : (k : List ℕ) (os : List Operation) (s t : State) → steps_of 0 e os s ≡ Ok t → has by_ids k t.pairs ≡ adds_any of_pairs os k || has by_ids k s.pairs
   pairs-after k = held_after (λ o. (edits_of o).pairs) (λ s. s.pairs) (λ o s. refl) k
 
-  pub vectors-after : (k : List ℕ) (os : List Operation) (s t : State) → steps_of 0 e os s ≡ given t
+  pub vectors-after : (k : List ℕ) (os : List Operation) (s t : State) → steps_of 0 e os s ≡ Ok t
       → has by_ids k t.vectors ≡ adds_any of_triples os k || has by_ids k s.vectors
   vectors-after k = held_after (λ o. (edits_of o).vectors) (λ s. s.vectors) (λ o s. refl) k
 
@@ -101,7 +100,7 @@ record Drawn (s t : State) : Type 0 where
 max-left : (n r : ℕ) → r < n → max n (r + 1) ≡ n
 max-left n r h = omega arith
 
-drawn-step : (i e : ℕ) (o : Operation) (s : State) → judged (op_rules i e o s) ≡ Accepted → Drawn s (applied e o s)
+drawn-step : (i e : ℕ) (o : Operation) (s : State) → judged (op_rules i e o s) ≡ Ok tt → Drawn s (applied e o s)
 drawn-step i e (create_table t h n) s a = record { rowset = refl; vector = refl }
 drawn-step i e (drop_table t) s a = record { rowset = refl; vector = refl }
 drawn-step i e (add_rowset t r) s a =
@@ -112,7 +111,7 @@ drawn-step i e (add_vector t r v) s a =
 drawn-step i e (delete_vector t r v) s a = record { rowset = refl; vector = refl }
 drawn-step i e (next_ids t r v) s a = clash refl (none-judged (op_rules i e (next_ids t r v) s) a).1.0
 
-pub drawn-after : (e : ℕ) (os : List Operation) (s t : State) → steps_of 0 e os s ≡ given t → (t.next_rowset ≡ s.next_rowset) × (t.next_vector ≡ s.next_vector)
+pub drawn-after : (e : ℕ) (os : List Operation) (s t : State) → steps_of 0 e os s ≡ Ok t → (t.next_rowset ≡ s.next_rowset) × (t.next_vector ≡ s.next_vector)
 drawn-after e os s t h =
     (steps_on (λ i ps u. (u.next_rowset ≡ s.next_rowset) × (u.next_vector ≡ s.next_vector)) e
     (λ i o ps u k a. let d = drawn-step i e o u a in (d.rowset ∙ k.0, d.vector ∙ k.1)) 0 os s t (refl, refl) h).1

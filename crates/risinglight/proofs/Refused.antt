@@ -4,11 +4,11 @@ use mathlib.Core.Bool.{Bool, true, false, cond}
 use mathlib.Core.List.{List, [], ◌∷◌}
 use Prim.Native.Nat.{ℕ, ◌+◌}
 use lib.ListN.{length, take}
+use Rattle.std.specs.Prelude.{Result, Ok, Err}
 use Rattle.lists.proofs.Tests.{clash}
-use Rattle.ids.specs.declared.refusal.Verdict.{Verdict}
-use Rattle.ids.specs.declared.refusal.Verdict.TheVariants.{Accepted, Refused}
+use Rattle.ids.specs.declared.refusal.Refusal.{Refusal}
+use Rattle.ids.specs.Verdicts.{Verdict}
 use Rattle.ids.specs.Answers.{Told, told}
-use Rattle.ids.specs.Results.{Result, refused, given}
 use Rattle.version_state.specs.State.{State}
 use Rattle.transaction_manager.specs.Locks.{relocked}
 use Rattle.commit.specs.Commit.{append_of}
@@ -37,12 +37,12 @@ use Rattle.plain_record.specs.Calls.{Call, draw_rowset, draw_vector, group, lock
 use Rattle.plain_record.specs.Run.{World, world, Event, is_accepted, value, port, LinkBy, replaced}
 
 accepted-told : (v : Verdict) (vs : List ℕ) (t : Told) (m n : VersionManager) (s : State) → t ≡ told v vs → is_accepted t ≡ false → HandsBack v m s n → n ≡ m
-accepted-told Accepted vs t m n s e a h = clash (ap is_accepted e) a
-accepted-told (Refused k) vs t m n s e a h = h
+accepted-told (Ok _) vs t m n s e a h = clash (ap is_accepted e) a
+accepted-told (Err k) vs t m n s e a h = h
 
 made_told : (v : Verdict) (vs : List ℕ) (t : Told) (m n : VersionManager) (s : State) (k : ℕ) → t ≡ told v vs → is_accepted t ≡ false → HandsOn v m s k n → n ≡ m
-made_told Accepted vs t m n s k e a h = clash (ap is_accepted e) a
-made_told (Refused j) vs t m n s k e a h = h
+made_told (Ok _) vs t m n s k e a h = clash (ap is_accepted e) a
+made_told (Err j) vs t m n s k e a h = h
 
 pub refused-manager : (c : Call) (e : Event) → LinkBy port e.before e.told e.listed e.after c → is_accepted e.told ≡ false → e.after.manager ≡ e.before.manager
 refused-manager draw_rowset e d a =
@@ -62,9 +62,9 @@ refused-manager (unlock n) e d a =
     ap (λ (x : World). x.manager) d.after ∙ accepted-told (lock_verdict m n.0 false) [] e.told m d.result.manager (relocked n.0 false (held_by m)) (d.told ∙ d.says.answer) a d.says.manager
 refused-manager (commit os out missing) e d a = ap (λ (x : World). x.manager) d.after ∙ go (outcome_of e.before.manager d.count os (length out)) d.says
   where
-    go : (x : Result State) → CommitEnds x e.before.manager os out d.result d.left → d.result.manager ≡ e.before.manager
-    go (given s) h = clash (ap is_accepted (d.told ∙ h.0)) a
-    go (refused k) h = h.1
+    go : (x : Result State Refusal) → CommitEnds x e.before.manager os out d.result d.left → d.result.manager ≡ e.before.manager
+    go (Ok s) h = clash (ap is_accepted (d.told ∙ h.0)) a
+    go (Err k) h = h.1
 refused-manager (create shape name out missing) e d a =
     let m = e.before.manager in
     ap (λ (x : World). x.manager) d.after ∙ made_told (create_verdict m shape name (length out)) ((held_by m).next_table ∷ ((held_by m).epoch + 1) ∷ length (append_of (created_by (held_by m) shape name)) ∷ []) e.told m d.result.manager (committed (created_by (held_by m) shape name) (held_by m)) (length (append_of (created_by (held_by m) shape name))) (d.told ∙ d.says.answer) a d.says.manager

@@ -7,16 +7,17 @@ use native.Mathlib.Omega.{arith}
 use lib.Dec.{eqb, ltb}
 use lib.ListN.{length, take}
 use borrow.Author.Tests.{eqb-false, not-false}
+use Rattle.std.specs.Prelude.{Result, Ok, Err}
+use Rattle.std.specs.Result.{result_and}
 use Rattle.lists.specs.Keyed.{has, is_at, arranged}
 use Rattle.lists.proofs.Tests.{clash}
 use Rattle.lists.proofs.Keyed.{All, any_of-map, ascend-to}
-use Rattle.ids.specs.declared.refusal.Verdict.{Verdict}
-use Rattle.ids.specs.declared.refusal.Verdict.TheVariants.{Accepted, Refused}
+use Rattle.ids.specs.declared.refusal.Refusal.{Refusal}
 use Rattle.ids.specs.Answers.{told}
-use Rattle.ids.specs.Results.{Result, refused, given, onward}
 use Rattle.ids.proofs.Verdicts.{none-judged}
 use Rattle.ids.specs.declared.TableNo.{TableNo}
 use Rattle.ids.specs.declared.refusal.Refusal.TheVariants.{OutputTooShort}
+use Rattle.ids.specs.Verdicts.{Verdict}
 use Rattle.manifest.specs.Operations.{Operation}
 use Rattle.snapshot.specs.Entries.{Entry, by_ids, shown}
 use Rattle.version_state.specs.State.{State}
@@ -41,7 +42,7 @@ use Rattle.rewrite.specs.Rewritten.{rewritten_of}
 use Rattle.rewrite.specs.Says.{with_rewritten}
 use Rattle.storage.specs.Reopen.{opened_of, ReopenIs}
 use Rattle.version_manager.specs.Managers.{held_by, HandsBack, HandsOn}
-use Rattle.version_manager.specs.declared.Committed.{Committed}
+use Rattle.version_manager.specs.Answered.{Committed}
 use Rattle.version_manager.specs.Commit.{commit_told, CommitEnds, outcome_of}
 use Rattle.version_manager.specs.Create.{create_verdict}
 use Rattle.version_manager.specs.Drop.{drop_verdict}
@@ -106,11 +107,11 @@ module _ (cut : ℕ) (g : Engine) (r : Record) (k : Rel g r) (e : Event) (i : In
           record { epoch = b.epoch; now = b.now; status = b.status; counts = b.counts; waiting = b.waiting; up_to = b.up_to; catalog = b.catalog; file = b.file }
 
   -- the state s that an accepted verdict hands back
-  back : (v : Verdict) (s : State) (o : VersionManager) → v ≡ Accepted → HandsBack v w.manager s o → held_by o ≡ s
+  back : (v : Verdict) (s : State) (o : VersionManager) → v ≡ Ok tt → HandsBack v w.manager s o → held_by o ≡ s
   back v s o q h = (subst (λ (x : Verdict). HandsBack x w.manager s o) q h).hands.state
 
   -- and of a commit
-  back_on : (v : Verdict) (s : State) (n : ℕ) (o : VersionManager) → v ≡ Accepted → HandsOn v w.manager s n o → held_by o ≡ s
+  back_on : (v : Verdict) (s : State) (n : ℕ) (o : VersionManager) → v ≡ Ok tt → HandsOn v w.manager s n o → held_by o ≡ s
   back_on v s n o q h = (subst (λ (x : Verdict). HandsOn x w.manager s n o) q h).hands.state
 
   more : (n : ℕ) (x y : ℕ) → NotAbove g.starts x y → NotAbove g.starts (x + n) (y + n)
@@ -150,7 +151,7 @@ module _ (cut : ℕ) (g : Engine) (r : Record) (k : Rel g r) (e : Event) (i : In
       rest-step s (ap (λ (x : World). held_by x.manager) d.after ∙ back (lock_verdict w.manager n.0 b) s d.result.manager q d.says.manager) refl refl refl refl
 
   -- one that counts as a commit of os, and hands back the state s
-  commit-step : (z : ℕ) (os : List Operation) (room missing : ℕ) (s : State) → commit_of m z os room ≡ given s → held_after ≡ s → held_after.epoch ≡ epoch_of (counts os missing r).whole
+  commit-step : (z : ℕ) (os : List Operation) (room missing : ℕ) (s : State) → commit_of m z os room ≡ Ok s → held_after ≡ s → held_after.epoch ≡ epoch_of (counts os missing r).whole
       → Stepped (λ h. Commits cut g h e os missing) held_after (counts os missing r)
   commit-step z os room missing s h b q =
       let d = commits cut g r os missing k (commit-found w r z os room s i h) in
@@ -170,10 +171,10 @@ module _ (cut : ℕ) (g : Engine) (r : Record) (k : Rel g r) (e : Event) (i : In
   made-step os ps out missing q h b c =
       subst (λ (l : List Operation). Stepped (λ h. Commits cut g h e os missing) held_after (counts l missing r)) q (commit-step (length os) os (length out) missing (committed os m) h b c)
 
-  given-of : (os : List Operation) (out : List ℕ) (c : Committed) (lent : List ℕ) (x : Result State) → CommitEnds x w.manager os out c lent → e.told ≡ commit_told c.answer
-      → (s : State) × (x ≡ given s) × (held_by c.manager ≡ s)
-  given-of os out c lent (given s) h q = (s, refl, h.1.hands.state)
-  given-of os out c lent (refused j) h q = absurd (refused-told j [] e.told (q ∙ h.0) a)
+  given-of : (os : List Operation) (out : List ℕ) (c : Committed) (lent : List ℕ) (x : Result State Refusal) → CommitEnds x w.manager os out c lent → e.told ≡ commit_told c.answer
+      → (s : State) × (x ≡ Ok s) × (held_by c.manager ≡ s)
+  given-of os out c lent (Ok s) h q = (s, refl, h.1.hands.state)
+  given-of os out c lent (Err j) h q = absurd (refused-told j [] e.told (q ∙ h.0) a)
 
   -- the state before, as the record has it
   now-is : plain_sets m ≡ r.whole.now
@@ -212,14 +213,14 @@ module _ (cut : ℕ) (g : Engine) (r : Record) (k : Rel g r) (e : Event) (i : In
       after : e.after.manager ≡ d.result.manager
       after = ap (λ (x : World). x.manager) d.after ∙ ap (λ (b : Bool). (cond b (replaced d.result.manager d.result.book w.torn (take (value 0 e.told) d.left) stale) w).manager) a
 
-      go : (x : Result State) → opened_of (length out) i.torn.state ≡ x → ReopenIs x out d.result d.left → (held_after.pairs ≡ i.torn.state.pairs) × (held_after.vectors ≡ i.torn.state.vectors)
-      go (refused j) q h = absurd (refused-told j [] e.told (d.told ∙ h.0) a)
-      go (given s) q h =
+      go : (x : Result State Refusal) → opened_of (length out) i.torn.state ≡ x → ReopenIs x out d.result d.left → (held_after.pairs ≡ i.torn.state.pairs) × (held_after.vectors ≡ i.torn.state.vectors)
+      go (Err j) q h = absurd (refused-told j [] e.told (d.told ∙ h.0) a)
+      go (Ok s) q h =
           let z : held_after ≡ s = ap held_by after ∙ h.1.hands.state in
           let y = opened-lists (ltb (length out) (length (rewritten_of i.torn.state))) q in
           (ap (λ (u : State). u.pairs) z ∙ y.0, ap (λ (u : State). u.vectors) z ∙ y.1)
         where
-          opened-lists : (b : Bool) → onward (cond b (Refused OutputTooShort) Accepted) (given (with_rewritten i.torn.state)) ≡ given s
+          opened-lists : (b : Bool) → result_and (cond b (Err OutputTooShort) (Ok tt)) (Ok (with_rewritten i.torn.state)) ≡ Ok s
               → (s.pairs ≡ i.torn.state.pairs) × (s.vectors ≡ i.torn.state.vectors)
           opened-lists true h = absurd (halt h)
           opened-lists false h =
@@ -260,7 +261,7 @@ module _ (cut : ℕ) (g : Engine) (r : Record) (k : Rel g r) (e : Event) (i : In
   step (unlock n) u d j s = lock-step false n d
   step (commit os out missing) u d j s =
       let same_outcome : outcome_of w.manager d.count os (length out) ≡ commit_of m d.count os (length out) = rw i.sound in
-      let says = subst (λ (y : Result State). CommitEnds y w.manager os out d.result d.left) same_outcome d.says in
+      let says = subst (λ (y : Result State Refusal). CommitEnds y w.manager os out d.result d.left) same_outcome d.says in
       let x = given-of os out d.result d.left (commit_of m d.count os (length out)) says d.told in
       commit-step d.count os (length out) missing x.0 x.1 (ap (λ (y : World). held_by y.manager) d.after ∙ x.2) j.epoch
   step (create shape name out missing) u d j s =

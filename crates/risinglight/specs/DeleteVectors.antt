@@ -1,8 +1,7 @@
 -- Delete vectors: what the port writes, keeps in memory and clears is what the Rust does, and where their readers differ. Assumes nothing.
-use Rattle.std.specs.Prelude.{◌≡◌, Bool, true, cond, not, List, [], ◌∷◌, map, ℕ, ◌<◌, ltb, eqb, length}
+use Rattle.std.specs.Prelude.{◌≡◌, Bool, true, cond, not, List, [], ◌∷◌, map, ℕ, ◌<◌, ltb, eqb, length, Err}
 use Rattle.lists.specs.Keyed.{ascending}
 use Rattle.ids.specs.declared.refusal.Refusal.TheVariants.{WrongCount}
-use Rattle.ids.specs.declared.refusal.Verdict.TheVariants.{Refused}
 use Rattle.ids.specs.Verdicts.{judged}
 use Rattle.delete_vector.specs.Records.{records_of, Rows, Bad, records_in, is_bad}
 use Rattle.delete_vector.specs.Memory.{row_key, is_in, in_memory}
@@ -79,7 +78,7 @@ pub record DeleteVectorLaws : Type 0 where
   pub examples : Examples
   -- and for more than 4,096 records, which the port refuses whatever is lent
   pub over : (rows out : List ℕ) → are_rows rows ≡ true → most_records < length rows
-      → (judged (read_rules (records_of rows) out) ≡ Refused WrongCount) × («open» (records_of rows) ≡ ok (in_memory rows))
+      → (judged (read_rules (records_of rows) out) ≡ Err WrongCount) × («open» (records_of rows) ≡ ok (in_memory rows))
   -- where the readers differ, the bytes are none that the writer makes
   pub never_written : (file rows : List ℕ) → ReaderDiffers file → are_rows rows ≡ true → file ≡ records_of rows → ⊥
   -- and of those that it does not make, they differ on all that the Rust opens

@@ -1,8 +1,9 @@
 -- Where the Rust and the port differ, each by name, with the smallest case of it. docs/DIFFERENCES.md has the entries. Assumes nothing.
-use Rattle.std.specs.Prelude.{◌≡◌, Bool, true, false, not, ◌||◌, List, [], ◌∷◌, ◌++◌, map, ℕ, zero, suc, ◌<◌, eqb, ltb, length}
+use Rattle.std.specs.Prelude.{◌≡◌, Bool, true, false, not, ◌||◌, List, [], ◌∷◌, ◌++◌, map, ℕ, zero, suc, ◌<◌, eqb, ltb, length, Result, Ok, Err}
 use Rattle.lists.specs.Keyed.{keep, all_of, any_of, has, sorted}
 use Rattle.ids.specs.Limits.{most_tables, most_held, most_operations, longest_manifest}
-use Rattle.ids.specs.Results.{Result, refused, given, and_then}
+use Rattle.ids.specs.declared.refusal.Refusal.{Refusal}
+use Rattle.ids.specs.Results.{and_then}
 use Rattle.ids.specs.declared.refusal.Refusal.TheVariants.{ManifestTooLong, Malformed, TableConflict, OverLimit, RowsetWithoutTable, TooManyOperations, TableNotLive, PairNotShown, VectorNotShown, IdNotDrawn, StillHeld, LeftBehind}
 use Rattle.manifest.specs.Operations.{Operation, create_table, drop_table, add_rowset, delete_rowset, add_vector, delete_vector, next_ids, Line, begin, end, operation, well_line}
 use Rattle.manifest.specs.Lines.{line_text}
@@ -31,7 +32,7 @@ line_in (entry o) = operation o
 abbrev pub as_lines : List Value → List ℕ
 as_lines file = joined (map (λ v. line_text (line_in v)) file)
 
-abbrev pub port_opens : List Value → Result State
+abbrev pub port_opens : List Value → Result State Refusal
 port_opens file = replay_of (as_lines file)
 
 -- second-begin: a `B` comes while operations are buffered
@@ -94,9 +95,9 @@ has_table_a s = has by_id (0 ∷ []) s.catalog
 abbrev pub has_vector : Storage → Bool
 has_vector s = has_dv 0 0 0 (latest s.version)
 
-abbrev pub state_in : Result State → (State → Bool) → Bool
-state_in (refused k) f = false
-state_in (given s) f = f s
+abbrev pub state_in : Result State Refusal → (State → Bool) → Bool
+state_in (Err k) f = false
+state_in (Ok s) f = f s
 
 -- tables with one to n letters, as many as n
 abbrev pub letters : ℕ → List ℕ
@@ -123,30 +124,30 @@ pub record OpeningDiffers : Type 0 where
   -- rowset-without-table: both refuse, the Rust by a panic
   pub rowset_without_table :
       let file = frame (add_rowset 5 0 ∷ []) in
-      (bootstrap file ≡ fails) × (port_opens file ≡ refused RowsetWithoutTable)
+      (bootstrap file ≡ fails) × (port_opens file ≡ Err RowsetWithoutTable)
   -- duplicate-in-manifest: a live name and an unknown table are refused by both
   pub live_name :
       let file = frame (create_a ∷ create_table 1 7 name_a ∷ []) in
-      (bootstrap file ≡ fails) × (port_opens file ≡ refused (TableConflict 3))
+      (bootstrap file ≡ fails) × (port_opens file ≡ Err (TableConflict 3))
   pub unknown_table :
       let file = frame (drop_table 3 ∷ []) in
-      (bootstrap file ≡ fails) × (port_opens file ≡ refused (TableConflict 2))
+      (bootstrap file ≡ fails) × (port_opens file ≡ Err (TableConflict 2))
   -- a live id the port alone refuses: the Rust's creates have none
   pub live_id :
       let file = frame (create_a ∷ create_table 0 7 name_b ∷ []) in
-      (takes_live_id file ≡ true) × (shown_in (bootstrap file) has_table_a ≡ true) × (port_opens file ≡ refused (TableConflict 3))
+      (takes_live_id file ≡ true) × (shown_in (bootstrap file) has_table_a ≡ true) × (port_opens file ≡ Err (TableConflict 3))
   -- limits: 17 tables; more than 65,536 bytes; more than 600 operations in a frame
   pub tables :
       let file = frame (creates 17) in
-      (is_over_limits file ≡ true) × (shown_in (bootstrap file) has_table_a ≡ true) × (port_opens file ≡ refused (OverLimit 19))
-  pub bytes : (src : List ℕ) → longest_manifest < length src → replay_of src ≡ refused ManifestTooLong
+      (is_over_limits file ≡ true) × (shown_in (bootstrap file) has_table_a ≡ true) × (port_opens file ≡ Err (OverLimit 19))
+  pub bytes : (src : List ℕ) → longest_manifest < length src → replay_of src ≡ Err ManifestTooLong
   pub operations : (s : State) (m n : ℕ) (os : List Operation) (o : Operation) → length os ≡ most_operations
-      → (line_read (operation o) (carried s (opened m os) n) ≡ refused (TooManyOperations n))
+      → (line_read (operation o) (carried s (opened m os) n) ≡ Err (TooManyOperations n))
       × (next (entry o) (replaying [] os true) ≡ replaying [] (os ++ (o ∷ [])) true)
   -- last-id: the port's line is none, and the Rust's next id wraps
   pub last_id :
       let file = frame (create_a ∷ add_rowset 0 4294967295 ∷ []) in
-      (has_last_id file ≡ true) × (shown_in (bootstrap file) (λ s. eqb s.next.rowset 0) ≡ true) × (port_opens file ≡ refused (Malformed 3))
+      (has_last_id file ≡ true) × (shown_in (bootstrap file) (λ s. eqb s.next.rowset 0) ≡ true) × (port_opens file ≡ Err (Malformed 3))
   -- torn-tail: part of a value is an error; of the port's bytes what no newline ends does not count
   pub torn_tail : (then (read [] true) bootstrap ≡ fails) × (state_in (replay_of (66 ∷ [])) (λ s. is_empty s.tables) ≡ true)
   -- first-epoch: opening nothing is a commit
@@ -156,7 +157,7 @@ pub record OpeningDiffers : Type 0 where
 abbrev pub twice : List Value → Outcome Storage
 twice file = then (bootstrap file) (λ s. bootstrap s.manifest)
 
-abbrev pub port_twice : List Value → Result State
+abbrev pub port_twice : List Value → Result State Refusal
 port_twice file = and_then (port_opens file) (λ s. replay_of (rewritten_of s))
 
 -- two pairs that one commit deleted, the higher first; a vector that was deleted
@@ -196,7 +197,7 @@ pub record ListsDiffer : Type 0 where
   pub rewritten :
       let file = frame (create_a ∷ create_table 1 7 name_b ∷ add_rowset 0 0 ∷ drop_table 1 ∷ []) in
       (then (bootstrap file) (λ s. ok s.manifest) ≡ ok (frame (add_rowset 0 0 ∷ create_a ∷ create_table 1 7 name_b ∷ drop_table 1 ∷ [])))
-      × (and_then (port_opens file) (λ s. given (rewritten_of s)) ≡ given (joined (line_text begin ∷ line_text (operation (next_ids 2 1 0)) ∷ line_text (operation create_a) ∷ line_text (operation (add_rowset 0 0)) ∷ line_text end ∷ [])))
+      × (and_then (port_opens file) (λ s. Ok (rewritten_of s)) ≡ Ok (joined (line_text begin ∷ line_text (operation (next_ids 2 1 0)) ∷ line_text (operation create_a) ∷ line_text (operation (add_rowset 0 0)) ∷ line_text end ∷ [])))
 
 -- What the port refuses, and the Rust takes or panics at.
 abbrev pub commits : Outcome Inner → Bool
@@ -220,25 +221,25 @@ one_held =
       manifest = 0;
     }
 
-abbrev pub port_commits : List Operation → Result State
+abbrev pub port_commits : List Operation → Result State Refusal
 port_commits os = commit_of one_held (length os) os 1000
 
 pub record CommitsDiffer : Type 0 where
   -- absent-rowset: not there beside another; and where the table has none, the Rust panics
-  pub absent_rowset : (commits (commit_changes (delete_rowset 0 9 ∷ []) one_rowset) ≡ true) × (port_commits (delete_rowset 0 9 ∷ []) ≡ refused (PairNotShown 0))
-  pub absent_table : (commits (commit_changes (delete_rowset 1 9 ∷ []) one_rowset) ≡ false) × (port_commits (delete_rowset 1 9 ∷ []) ≡ refused (PairNotShown 0))
+  pub absent_rowset : (commits (commit_changes (delete_rowset 0 9 ∷ []) one_rowset) ≡ true) × (port_commits (delete_rowset 0 9 ∷ []) ≡ Err (PairNotShown 0))
+  pub absent_table : (commits (commit_changes (delete_rowset 1 9 ∷ []) one_rowset) ≡ false) × (port_commits (delete_rowset 1 9 ∷ []) ≡ Err (PairNotShown 0))
   -- absent-vector
-  pub absent_vector : (commits (commit_changes (delete_vector 0 0 5 ∷ []) one_rowset) ≡ false) × (port_commits (delete_vector 0 0 5 ∷ []) ≡ refused (VectorNotShown 0))
+  pub absent_vector : (commits (commit_changes (delete_vector 0 0 5 ∷ []) one_rowset) ≡ false) × (port_commits (delete_vector 0 0 5 ∷ []) ≡ Err (VectorNotShown 0))
   -- not-drawn
-  pub not_drawn : (commits (commit_changes (add_rowset 0 9 ∷ []) one_rowset) ≡ true) × (port_commits (add_rowset 0 9 ∷ []) ≡ refused (IdNotDrawn 0))
+  pub not_drawn : (commits (commit_changes (add_rowset 0 9 ∷ []) one_rowset) ≡ true) × (port_commits (add_rowset 0 9 ∷ []) ≡ Err (IdNotDrawn 0))
   -- waiting-again: what is deleted is held until a vacuum
   pub waiting_again :
       (commits (commit_changes (delete_rowset 0 0 ∷ add_rowset 0 0 ∷ []) one_rowset) ≡ true)
-      × (port_commits (delete_rowset 0 0 ∷ add_rowset 0 0 ∷ []) ≡ refused (StillHeld 1))
+      × (port_commits (delete_rowset 0 0 ∷ add_rowset 0 0 ∷ []) ≡ Err (StillHeld 1))
   -- left-behind
-  pub left_behind : (commits (commit_changes (drop_table 0 ∷ []) one_rowset) ≡ true) × (port_commits (drop_table 0 ∷ []) ≡ refused LeftBehind)
+  pub left_behind : (commits (commit_changes (drop_table 0 ∷ []) one_rowset) ≡ true) × (port_commits (drop_table 0 ∷ []) ≡ Err LeftBehind)
   -- unknown-table
-  pub unknown_table : (commits (commit_changes (add_rowset 5 0 ∷ []) one_rowset) ≡ true) × (port_commits (add_rowset 5 0 ∷ []) ≡ refused (TableNotLive 0))
+  pub unknown_table : (commits (commit_changes (add_rowset 5 0 ∷ []) one_rowset) ≡ true) × (port_commits (add_rowset 5 0 ∷ []) ≡ Err (TableNotLive 0))
   -- pin-at-0
   pub pin_at_zero : pin fresh ≡ fails
 

@@ -1,9 +1,8 @@
 -- Where the Rust groups a transaction's deletes as the port does, and where not. Assumes nothing.
-use Rattle.std.specs.Prelude.{◌≡◌, Bool, true, false, not, List, [], ◌∷◌, map, ℕ, zero, suc, ◌+◌, length}
+use Rattle.std.specs.Prelude.{◌≡◌, Bool, true, false, not, List, [], ◌∷◌, map, ℕ, zero, suc, ◌+◌, length, Ok}
 use Rattle.lists.specs.Keyed.{arranged, ascending}
 use Rattle.delete_vector.specs.Records.{records_of}
 use Rattle.delete_vector.specs.Memory.{row_key}
-use Rattle.ids.specs.declared.refusal.Verdict.TheVariants.{Accepted}
 use Rattle.transaction.specs.declared.Handles.{Handles}
 use Rattle.transaction.specs.Groups.{Handle, handles_of, rows_of, rowsets_of, Vector, vectors_of}
 use Rattle.transaction.specs.Says.{used_up}
@@ -64,7 +63,7 @@ pub record GroupingLaws : Type 0 where
   pub ids : (hs : List Handle) (m : List (Binding (List ℕ))) (next : ℕ) → Walks hs m → used_up next (vectors_of hs) ≡ false
       → map (λ (v : DeleteVector). v.dv_id) (dvs next m) ≡ following next (length (vectors_of hs))
   -- which it has for a grouping that it accepts
-  pub accepted : (m : VersionManager) (h : Handles) (rs ls cs fs ms : List ℕ) (b : List (Binding (List ℕ))) → group_verdict m h rs ls cs fs ms ≡ Accepted → Walks (handles_of h) b
+  pub accepted : (m : VersionManager) (h : Handles) (rs ls cs fs ms : List ℕ) (b : List (Binding (List ℕ))) → group_verdict m h rs ls cs fs ms ≡ Ok tt → Walks (handles_of h) b
       → map (λ (v : DeleteVector). v.dv_id) (dvs (held_by m).next_vector b) ≡ following (held_by m).next_vector (length (grouped_by h))
   -- and upwards in the same order, so that each has the same id
   pub upwards : (hs : List Handle) (m : List (Binding (List ℕ))) (next : ℕ) → Walks hs m → grouping_order m ≡ false → map vector_in (dvs next m) ≡ vectors_of hs

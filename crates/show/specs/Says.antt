@@ -1,25 +1,26 @@
 -- What each show of a state that 29 let pass is: its verdict, its answer and the lent slices. Assumes nothing.
-use Rattle.std.specs.Prelude.{◌≡◌, Bool, not, ◌||◌, List, [], ◌∷◌, map, ℕ, ◌*◌, ltb, eqb, length, get_or}
+use Rattle.std.specs.Prelude.{◌≡◌, Bool, not, ◌||◌, List, [], ◌∷◌, map, ℕ, ◌*◌, ltb, eqb, length, get_or, Ok, Err, Result}
 use Rattle.lists.specs.Written.{over}
+use Rattle.ids.specs.declared.refusal.Refusal.{Refusal}
 use Rattle.ids.specs.declared.refusal.Refusal.TheVariants.{BadPinBook, EpochNotPinned, OutputTooShort}
-use Rattle.ids.specs.declared.refusal.Verdict.{Verdict}
-use Rattle.ids.specs.declared.refusal.Verdict.TheVariants.{Accepted, Refused}
 use Rattle.ids.specs.Names.{longest_name}
-use Rattle.ids.specs.Verdicts.{Rule, ◌⇒◌, judged}
+use Rattle.ids.specs.Verdicts.{Rule, ◌⇒◌, judged, Verdict}
 use Rattle.ids.specs.Answers.{Told, told, after}
 use Rattle.snapshot.specs.Tables.{TableEntry}
 use Rattle.version_state.specs.State.{State, pairs_at, vectors_at}
 use Rattle.pins.specs.declared.PinBook.{PinBook}
 use Rattle.pins.specs.Book.{bad_book}
 use Rattle.pins.specs.Guards.{guards_of, may_show}
-use Rattle.show.specs.declared.ShowAnswer.{ShowAnswer}
-use Rattle.show.specs.declared.ShowAnswer.TheVariants.{Shown, Refused as NotShown}
 use Rattle.show.specs.Names.{names_run}
+
+-- how many are shown
+abbrev pub ShowAnswer : Type 0
+ShowAnswer = Result ℕ Refusal
 
 -- the answer's number, place and values
 abbrev pub show_told : ShowAnswer → Told
-show_told (Shown n) = told Accepted (n ∷ [])
-show_told (NotShown q) = told (Refused q) []
+show_told (Ok n) = told (Ok tt) (n ∷ [])
+show_told (Err q) = told (Err q) []
 
 -- one field of each of the ids that are shown
 abbrev pub shown_field : ℕ → List (List ℕ) → List ℕ

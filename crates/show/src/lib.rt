@@ -17,30 +17,23 @@ use pins::PinBook;
 use snapshot::held;
 use version_state::VersionManagerInner;
 
-#[derive(Clone, Copy)]
-pub enum ShowAnswer {
-    // How many are shown.
-    Shown(usize),
-    Refused(Refusal),
-}
-
-// Internal, as are all that follow: the state has passed 29.
+// Internal, as are all that follow: the state has passed 29. Each answers how many are shown.
 pub fn show_pairs(
     inner: VersionManagerInner,
     book: PinBook,
     epoch: u32,
     tables: &mut [u32],
     rowsets: &mut [u32],
-) -> ShowAnswer
+) -> Result<usize, Refusal>
     requires { bad_inner inner ≡ false }
     ensures { ShowPairsIs (state_of inner) book epoch tables.old rowsets.old result tables.new rowsets.new }
 {
     let current = inner.epoch;
     if book.bad(current) {
-        return ShowAnswer::Refused(Refusal::BadPinBook);
+        return Err(Refusal::BadPinBook);
     }
     if !book.may_show(current, epoch) {
-        return ShowAnswer::Refused(Refusal::EpochNotPinned);
+        return Err(Refusal::EpochNotPinned);
     }
     let n = inner.rowsets.count;
     let mut places = [0; MOST_HELD];
@@ -52,14 +45,14 @@ pub fn show_pairs(
         &mut places,
     );
     if tables.len() < count {
-        return ShowAnswer::Refused(Refusal::OutputTooShort);
+        return Err(Refusal::OutputTooShort);
     }
     if rowsets.len() < count {
-        return ShowAnswer::Refused(Refusal::OutputTooShort);
+        return Err(Refusal::OutputTooShort);
     }
     held::write(&inner.rowsets.tables, &places, count, tables);
     held::write(&inner.rowsets.rowsets, &places, count, rowsets);
-    ShowAnswer::Shown(count)
+    Ok(count)
 }
 
 pub fn show_vectors(
@@ -69,16 +62,16 @@ pub fn show_vectors(
     tables: &mut [u32],
     rowsets: &mut [u32],
     vectors: &mut [u64],
-) -> ShowAnswer
+) -> Result<usize, Refusal>
     requires { bad_inner inner ≡ false }
     ensures { ShowVectorsIs (state_of inner) book epoch tables.old rowsets.old vectors.old result tables.new rowsets.new vectors.new }
 {
     let current = inner.epoch;
     if book.bad(current) {
-        return ShowAnswer::Refused(Refusal::BadPinBook);
+        return Err(Refusal::BadPinBook);
     }
     if !book.may_show(current, epoch) {
-        return ShowAnswer::Refused(Refusal::EpochNotPinned);
+        return Err(Refusal::EpochNotPinned);
     }
     let n = inner.vectors.count;
     let mut places = [0; MOST_HELD];
@@ -90,18 +83,18 @@ pub fn show_vectors(
         &mut places,
     );
     if tables.len() < count {
-        return ShowAnswer::Refused(Refusal::OutputTooShort);
+        return Err(Refusal::OutputTooShort);
     }
     if rowsets.len() < count {
-        return ShowAnswer::Refused(Refusal::OutputTooShort);
+        return Err(Refusal::OutputTooShort);
     }
     if vectors.len() < count {
-        return ShowAnswer::Refused(Refusal::OutputTooShort);
+        return Err(Refusal::OutputTooShort);
     }
     held::write(&inner.vectors.tables, &places, count, tables);
     held::write(&inner.vectors.rowsets, &places, count, rowsets);
     held::write_wide(&inner.vectors.vectors, &places, count, vectors);
-    ShowAnswer::Shown(count)
+    Ok(count)
 }
 
 // The first `count` numbers of a column, written to the front of a slice.
@@ -160,33 +153,33 @@ pub fn show_tables(
     shapes: &mut [u32],
     lengths: &mut [u32],
     names: &mut [u8],
-) -> ShowAnswer
+) -> Result<usize, Refusal>
     requires { bad_inner inner ≡ false }
     ensures { ShowTablesIs (state_of inner) book epoch ids.old shapes.old lengths.old names.old result ids.new shapes.new lengths.new names.new }
 {
     let current = inner.epoch;
     if book.bad(current) {
-        return ShowAnswer::Refused(Refusal::BadPinBook);
+        return Err(Refusal::BadPinBook);
     }
     if epoch != current {
-        return ShowAnswer::Refused(Refusal::EpochNotPinned);
+        return Err(Refusal::EpochNotPinned);
     }
     let count = inner.tables.count;
     if ids.len() < count {
-        return ShowAnswer::Refused(Refusal::OutputTooShort);
+        return Err(Refusal::OutputTooShort);
     }
     if shapes.len() < count {
-        return ShowAnswer::Refused(Refusal::OutputTooShort);
+        return Err(Refusal::OutputTooShort);
     }
     if lengths.len() < count {
-        return ShowAnswer::Refused(Refusal::OutputTooShort);
+        return Err(Refusal::OutputTooShort);
     }
     if names.len() < LONGEST_NAME * count {
-        return ShowAnswer::Refused(Refusal::OutputTooShort);
+        return Err(Refusal::OutputTooShort);
     }
     write_first(&inner.tables.ids, count, ids);
     write_first(&inner.tables.shapes, count, shapes);
     write_first(&inner.tables.lengths, count, lengths);
     write_names(&inner.tables.lengths, &inner.tables.names, count, names);
-    ShowAnswer::Shown(count)
+    Ok(count)
 }

@@ -1,34 +1,28 @@
 // Reopen: a manifest is replayed, and what it holds is handed out with a manifest written anew.
 #![tactic(auto)]
 
-ghost use Rattle.std.specs.Prelude.{◌≡◌, [], length};
+ghost use Rattle.std.specs.Prelude.{◌≡◌, [], length, Err};
 ghost use Rattle.ids.specs.Answers.{told};
 ghost use Rattle.version_state.specs.State.{start, state_of, Fit};
 ghost use Rattle.version_manager.specs.Managers.{Manages};
 ghost use Rattle.pins.specs.Book.{Keeps};
 ghost use Rattle.storage.specs.Reopen.{opened_of, reopen_told, ReopenIs, ReopenSays};
 
-use ids::refusal::{Refusal, Verdict};
+use ids::refusal::Refusal;
 use pins::PinBook;
 use version_manager::VersionManager;
 use version_state::VersionManagerInner;
-
-#[derive(Clone, Copy)]
-pub enum ReopenAnswer {
-    // How many bytes the rewritten manifest has.
-    Rewritten(usize),
-    Refused(Refusal),
-}
 
 #[derive(Drop)]
 pub struct Reopened {
     pub manager: VersionManager,
     pub book: PinBook,
-    pub answer: ReopenAnswer,
+    // How many bytes the rewritten manifest has.
+    pub answer: Result<usize, Refusal>,
 }
 
 fn refused(refusal: Refusal) -> Reopened
-    ensures { (reopen_told result.answer ≡ told (Verdict.Refused refusal) []) × Manages result.manager start × Keeps result.book [] }
+    ensures { (reopen_told result.answer ≡ told (Err refusal) []) × Manages result.manager start × Keeps result.book [] }
 {
     let opened = VersionManager::fresh();
     let manager = opened.manager;
@@ -36,7 +30,7 @@ fn refused(refusal: Refusal) -> Reopened
     Reopened {
         manager,
         book,
-        answer: ReopenAnswer::Refused(refusal),
+        answer: Err(refusal),
     }
 }
 
@@ -47,7 +41,7 @@ fn opened(inner: VersionManagerInner, out: &mut [u8]) -> Reopened
 {
     let done = rewrite::rewrite_into(inner, out);
     let verdict = done.verdict;
-    if let Verdict::Refused(refusal) = verdict {
+    if let Err(refusal) = verdict {
         return refused(refusal);
     }
     let inner = done.inner;
@@ -56,7 +50,7 @@ fn opened(inner: VersionManagerInner, out: &mut [u8]) -> Reopened
     Reopened {
         manager,
         book,
-        answer: ReopenAnswer::Rewritten(done.length),
+        answer: Ok(done.length),
     }
 }
 
@@ -65,7 +59,7 @@ pub fn bootstrap(src: &[u8], out: &mut [u8]) -> Reopened
 {
     let replayed = replay::replay(src);
     let verdict = replayed.verdict;
-    if let Verdict::Refused(refusal) = verdict {
+    if let Err(refusal) = verdict {
         return refused(refusal);
     }
     let inner = replayed.inner;

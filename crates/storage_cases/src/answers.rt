@@ -4,7 +4,6 @@ ghost use Rattle.std.specs.Prelude.{◌≤◌, length};
 use ids::limits::LONGEST_REWRITTEN;
 use ids::refusal::Refusal;
 use std::io;
-use storage::ReopenAnswer;
 
 pub fn say(rt: &impl Print, s: &[u8]) -> io::Result<()> {
     rt.write_all(s)
@@ -31,11 +30,11 @@ fn refused(refusal: Refusal) -> Told {
 fn reopened(src: &[u8], out: &mut [u8]) -> Told {
     let opened = storage::bootstrap(src, out);
     match opened.answer {
-        ReopenAnswer::Rewritten(n) => Told {
+        Ok(n) => Told {
             number: 0,
             value: n,
         },
-        ReopenAnswer::Refused(refusal) => refused(refusal),
+        Err(refusal) => refused(refusal),
     }
 }
 

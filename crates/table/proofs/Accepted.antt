@@ -7,11 +7,13 @@ use native.Mathlib.Omega.{arith}
 use lib.Dec.{ltb}
 use lib.ListN.{length, get_or}
 use borrow.Author.Tests.{ltb-true, lt-ltb, le-ltb, lt-leb}
+use Rattle.std.specs.Prelude.{Result, Ok, Err}
 use Rattle.lists.proofs.Tests.{both, join}
 use Rattle.lists.proofs.Keyed.{All, all_map, all_of-all, Ascending, ascend-to}
 use Rattle.ids.specs.Ids.{largest32, largest64}
 use Rattle.ids.specs.Limits.{most_operations, last_epoch, longest_manifest}
-use Rattle.ids.specs.Results.{Result, refused, given, and_then}
+use Rattle.ids.specs.declared.refusal.Refusal.{Refusal}
+use Rattle.ids.specs.Results.{and_then}
 use Rattle.manifest.specs.Operations.{Operation, well_formed}
 use Rattle.snapshot.specs.Entries.{by_ids, below_next, entry_at}
 use Rattle.version_state.specs.declared.VersionManagerInner.{VersionManagerInner}
@@ -37,11 +39,11 @@ abbrev pub three : List ℕ → List ℕ
 three k = get_or k 0 0 ∷ get_or k 1 0 ∷ get_or k 2 0 ∷ []
 
 module _ (e : ℕ) (late : 1 ≤ e) where
-  vector-accepted : (i : ℕ) (k : List ℕ) (s : State) → well_formed (delete_vector_of k) ≡ true → is_shown e (three k) s.vectors ≡ true → step_of i e (delete_vector_of k) s ≡ given (applied e (delete_vector_of k) s)
+  vector-accepted : (i : ℕ) (k : List ℕ) (s : State) → well_formed (delete_vector_of k) ≡ true → is_shown e (three k) s.vectors ≡ true → step_of i e (delete_vector_of k) s ≡ Ok (applied e (delete_vector_of k) s)
   unfolding step_of
   vector-accepted i k s w h = rw (w, h)
 
-  pair-accepted : (i : ℕ) (k : List ℕ) (s : State) → well_formed (delete_rowset_of k) ≡ true → is_shown e (two k) s.pairs ≡ true → step_of i e (delete_rowset_of k) s ≡ given (applied e (delete_rowset_of k) s)
+  pair-accepted : (i : ℕ) (k : List ℕ) (s : State) → well_formed (delete_rowset_of k) ≡ true → is_shown e (two k) s.pairs ≡ true → step_of i e (delete_rowset_of k) s ≡ Ok (applied e (delete_rowset_of k) s)
   unfolding step_of
   pair-accepted i k s w h = rw (w, h)
 
@@ -58,27 +60,27 @@ module _ (e : ℕ) (late : 1 ≤ e) where
       deletes e late two delete_rowset_of (λ s. s.pairs) with_pairs pair-accepted (λ k s. refl) (λ s l. refl) (λ s l m. refl) (λ s. refl)
 
 -- what accepted operations leave is what they do
-pub steps-applied : (i e : ℕ) (os : List Operation) (s t : State) → steps_of i e os s ≡ given t → t ≡ applied_all e os s
+pub steps-applied : (i e : ℕ) (os : List Operation) (s t : State) → steps_of i e os s ≡ Ok t → t ≡ applied_all e os s
 steps-applied i e [] s t h = let q : s ≡ t = cc in sym q
 steps-applied i e (o ∷ os) s t h = go (step_of i e o s) refl h (λ u. steps-applied (i + 1) e os u t)
   where
-    go : (x : Result State) → step_of i e o s ≡ x → and_then x (λ u. steps_of (i + 1) e os u) ≡ given t → ((u : State) → steps_of (i + 1) e os u ≡ given t → t ≡ applied_all e os u) → t ≡ applied_all e (o ∷ os) s
-    go (given u) a h ih = ih u h ∙ ap (applied_all e os) (sym (step_given i e o s u a).1)
-    go (refused k) a h ih = absurd (halt h)
+    go : (x : Result State Refusal) → step_of i e o s ≡ x → and_then x (λ u. steps_of (i + 1) e os u) ≡ Ok t → ((u : State) → steps_of (i + 1) e os u ≡ Ok t → t ≡ applied_all e os u) → t ≡ applied_all e (o ∷ os) s
+    go (Ok u) a h ih = ih u h ∙ ap (applied_all e os) (sym (step_given i e o s u a).1)
+    go (Err k) a h ih = absurd (halt h)
 
 -- all is judged before: the commit accepts
 module _ (s : State) (os : List Operation) (room : ℕ) (few : length os ≤ most_operations) (early : s.epoch < last_epoch) (t : State)
-    (steps : steps_of 0 (s.epoch + 1) os s ≡ given t) (whole : left_behind (s.epoch + 1) t ≡ false)
+    (steps : steps_of 0 (s.epoch + 1) os s ≡ Ok t) (whole : left_behind (s.epoch + 1) t ≡ false)
     (fits : s.manifest + length (append_of os) ≤ longest_manifest) (lent : length (append_of os) ≤ room) where
   stays : t.manifest ≡ s.manifest
   stays = steps-manifest (s.epoch + 1) os s t steps
 
-  finished : finish_of (s.epoch + 1) os room t ≡ given (committed os s)
+  finished : finish_of (s.epoch + 1) os room t ≡ Ok (committed os s)
   finished =
       rw (whole, stays, le-ltb longest_manifest (s.manifest + length (append_of os)) fits, le-ltb room (length (append_of os)) lent)
-      (ap (λ (u : State). given (with_epoch u (s.epoch + 1) (s.manifest + length (append_of os)))) (steps-applied 0 (s.epoch + 1) os s t steps))
+      (ap (λ (u : State). Ok (with_epoch u (s.epoch + 1) (s.manifest + length (append_of os)))) (steps-applied 0 (s.epoch + 1) os s t steps))
 
-  pub commit-accepts : commit_of s (length os) os room ≡ given (committed os s)
+  pub commit-accepts : commit_of s (length os) os room ≡ Ok (committed os s)
   commit-accepts = rw (le-ltb most_operations (length os) few, lt-leb last_epoch s.epoch early, steps) finished
 
 module _ (s : State) (w : Narrow s) where

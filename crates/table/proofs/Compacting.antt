@@ -7,6 +7,7 @@ use native.Mathlib.Omega.{arith}
 use lib.Dec.{eqb}
 use lib.ListN.{length, get_or, take, length-append, length-map}
 use borrow.Author.Tests.{le-leb, lt-leb, not-false}
+use Rattle.std.specs.Prelude.{Ok}
 use Rattle.lists.specs.Order.{less, same}
 use Rattle.lists.specs.Keyed.{keep, all_of, any_of, is_at, has, put}
 use Rattle.lists.proofs.Tests.{both, join, by_cases}
@@ -15,7 +16,6 @@ use Rattle.lists.proofs.Keyed.{All, Ascending, all_map, all-mapped, all-all_of, 
 use Rattle.lists.proofs.Kept.{has-keep, few-among, keep-put}
 use Rattle.ids.specs.Ids.{is_id32}
 use Rattle.ids.specs.Limits.{most_operations, most_held, last_epoch, longest_manifest}
-use Rattle.ids.specs.Results.{given}
 use Rattle.manifest.specs.Operations.{Operation, add_rowset, delete_rowset, well_formed}
 use Rattle.snapshot.specs.Entries.{Entry, by_ids, added_at, gone_at, shown_at, shown_by, shown}
 use Rattle.version_state.specs.declared.VersionManagerInner.{VersionManagerInner}
@@ -90,7 +90,7 @@ module _ (m : VersionManagerInner) (g : Sound m) (w : Narrow (state_of m)) (t : 
     left : State
     left = with_pairs unvectored (deleted_all e (pairs_with t rs) u.pairs)
 
-    delete-steps : (i : ℕ) → steps_of i e (map delete_vector_of vector_keys ++ map (delete_rowset t) rs) u ≡ given left
+    delete-steps : (i : ℕ) → steps_of i e (map delete_vector_of vector_keys ++ map (delete_rowset t) rs) u ≡ Ok left
     unfolding unvectored left
     delete-steps i =
         vectors-deleted e (omega arith) i vector_keys (map (delete_rowset t) rs) u
@@ -220,7 +220,7 @@ module _ (m : VersionManagerInner) (g : Sound m) (w : Narrow (state_of m)) (t : 
       pub one-compacts : (room : ℕ) → m.epoch < last_epoch → m.manifest + length (append_of (operations (r ∷ []))) ≤ longest_manifest → length (append_of (operations (r ∷ []))) ≤ room
           → Compacts s t (r ∷ []) rs room
       one-compacts room early fits lent =
-          let steps : steps_of 0 e (operations (r ∷ [])) s ≡ given (left added refl added_more taken added-tables) =
+          let steps : steps_of 0 e (operations (r ∷ [])) s ≡ Ok (left added refl added_more taken added-tables) =
           add_step (map delete_vector_of vector_keys ++ map (delete_rowset t) rs) ∙ delete-steps added refl added_more taken added-tables 1 in
           let is : left added refl added_more taken added-tables ≡ applied_all e (operations (r ∷ [])) s = steps-applied 0 e (operations (r ∷ [])) s (left added refl added_more taken added-tables) steps in
           record {

@@ -6,12 +6,12 @@ use Prim.Native.Nat.{ℕ, ◌+◌, ◌≤◌, ◌<◌}
 use native.Mathlib.Omega.{arith}
 use lib.ListN.{length, take}
 use borrow.Author.Tests.{lt-ltb, le-leb, lt-leb, eq-eqb, not-false}
+use Rattle.std.specs.Prelude.{Ok}
 use Rattle.lists.specs.Keyed.{keep, all_of, is_at, put}
 use Rattle.lists.proofs.Tests.{both}
 use Rattle.lists.proofs.Keyed.{all_map, all-all_of, all_of-all, has-put}
 use Rattle.ids.specs.Ids.{largest32}
 use Rattle.ids.specs.Limits.{most_tables, last_epoch, longest_manifest}
-use Rattle.ids.specs.Results.{given}
 use Rattle.text.specs.Name.{is_name}
 use Rattle.manifest.specs.Operations.{Operation, create_table}
 use Rattle.snapshot.specs.Entries.{Entry, by_ids, shown_by}
@@ -41,7 +41,7 @@ module _ (m : VersionManagerInner) (g : Sound m) (h : ℕ) (n : List ℕ) (shape
   abbrev left : State
   left = applied e (create_table s.next_table h n) s
 
-  create-steps : steps_of 0 e operations s ≡ given left
+  create-steps : steps_of 0 e operations s ≡ Ok left
   unfolding step_of
   create-steps = rw (lt-ltb s.next_table largest32 drawn, le-leb h largest32 shape, name, eq-eqb s.next_table s.next_table refl, free, lt-leb most_tables (length s.tables) room-left)
 
@@ -65,5 +65,5 @@ module _ (m : VersionManagerInner) (g : Sound m) (h : ℕ) (n : List ℕ) (shape
       )
 
   pub create-accepts : (room : ℕ) → m.epoch < last_epoch → m.manifest + length (append_of operations) ≤ longest_manifest → length (append_of operations) ≤ room
-      → commit_of s (length operations) operations room ≡ given (committed operations s)
+      → commit_of s (length operations) operations room ≡ Ok (committed operations s)
   create-accepts room early fits lent = commit-accepts s operations room (omega arith) early left create-steps create-whole fits lent

@@ -7,12 +7,12 @@ use native.Mathlib.Omega.{arith}
 use lib.Dec.{leb, eqb}
 use lib.ListN.{length}
 use borrow.Author.Tests.{le-leb, ne_eqb}
+use Rattle.std.specs.Prelude.{Ok}
 use Rattle.lists.specs.Order.{less}
 use Rattle.lists.specs.Keyed.{keep, any_of, is_at, has, without, changed}
 use Rattle.lists.proofs.Order.{more_same, same_true}
 use Rattle.lists.proofs.Keyed.{All, Ascending, keep-keep, keep_same, all_any}
 use Rattle.lists.proofs.Kept.{has-keep, keep-changed}
-use Rattle.ids.specs.Results.{given}
 use Rattle.manifest.specs.Operations.{Operation, well_formed}
 use Rattle.snapshot.specs.Entries.{Entry, deleted_at, gone_at, shown_at, shown_by, by_ids}
 use Rattle.version_state.specs.State.{State}
@@ -64,7 +64,7 @@ module _ (e : ℕ) (late : 1 ≤ e) where
       ∙ has-keep by_ids k (λ x. not (is_at by_ids j x)) (keep (shown_by e) l) (λ x t. rw (same_true (by_ids x) k t, more_same j k h))
 
   module _ (form : List ℕ → List ℕ) (op : List ℕ → Operation) (get : State → List Entry) (set : State → List Entry → State)
-      (accepted : (i : ℕ) (k : List ℕ) (s : State) → well_formed (op k) ≡ true → is_shown e (form k) (get s) ≡ true → step_of i e (op k) s ≡ given (applied e (op k) s))
+      (accepted : (i : ℕ) (k : List ℕ) (s : State) → well_formed (op k) ≡ true → is_shown e (form k) (get s) ≡ true → step_of i e (op k) s ≡ Ok (applied e (op k) s))
       (acts : (k : List ℕ) (s : State) → applied e (op k) s ≡ set s (changed by_ids (form k) (deleted_at e) (get s)))
       (got : (s : State) (l : List Entry) → get (set s l) ≡ l)
       (again : (s : State) (l m : List Entry) → set (set s l) m ≡ set s m)

@@ -7,6 +7,7 @@ use native.Mathlib.Omega.{arith}
 use lib.Dec.{eqb}
 use lib.ListN.{length, get_or, take, length-append, length-map}
 use borrow.Author.Tests.{not-false}
+use Rattle.std.specs.Prelude.{Ok}
 use Rattle.lists.specs.Order.{same}
 use Rattle.lists.specs.Keyed.{keep, all_of, is_at, without}
 use Rattle.lists.proofs.Tests.{both}
@@ -15,7 +16,6 @@ use Rattle.lists.proofs.Keyed.{All, all-all_of, all_of-all, all_keep, kept-all, 
 use Rattle.lists.proofs.Kept.{has-keep}
 use Rattle.ids.specs.Ids.{is_id32}
 use Rattle.ids.specs.Limits.{most_operations, most_held, last_epoch, longest_manifest}
-use Rattle.ids.specs.Results.{given}
 use Rattle.manifest.specs.Operations.{Operation, drop_table}
 use Rattle.snapshot.specs.Entries.{Entry, by_ids, shown_by}
 use Rattle.snapshot.specs.Tables.{by_table}
@@ -75,7 +75,7 @@ module _ (m : VersionManagerInner) (g : Sound m) (w : Narrow (state_of m)) (t : 
   unfolding step_of dropped
   drop-step rest = rw (id, live)
 
-  drop-steps : steps_of 0 e operations s ≡ given left
+  drop-steps : steps_of 0 e operations s ≡ Ok left
   unfolding dropped unvectored left
   drop-steps =
       drop-step (map delete_vector_of vector_keys ++ map delete_rowset_of pair_keys)
@@ -138,7 +138,7 @@ module _ (m : VersionManagerInner) (g : Sound m) (w : Narrow (state_of m)) (t : 
       omega arith
 
   pub drop-accepts : (room : ℕ) → m.epoch < last_epoch → m.manifest + length (append_of operations) ≤ longest_manifest → length (append_of operations) ≤ room
-      → commit_of s (length operations) operations room ≡ given (committed operations s)
+      → commit_of s (length operations) operations room ≡ Ok (committed operations s)
   drop-accepts room early fits lent = commit-accepts s operations room drop-few early left drop-steps drop-whole fits lent
 
   -- what the new epoch shows

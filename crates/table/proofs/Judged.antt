@@ -7,15 +7,14 @@ use native.Mathlib.Omega.{arith}
 use lib.Dec.{leb, eqb}
 use lib.ListN.{length}
 use borrow.Author.Tests.{le-leb, lt-leb, lt-ltb, le-ltb}
+use Rattle.std.specs.Prelude.{Ok, Err}
 use Rattle.lists.specs.Written.{Wrote}
 use Rattle.lists.proofs.Written.{wrote_on}
 use Rattle.ids.specs.Ids.{largest32, is_id32}
 use Rattle.ids.specs.Limits.{most_tables, most_held, last_epoch, longest_manifest, longest_line}
 use Rattle.ids.specs.declared.refusal.Refusal.{Refusal}
 use Rattle.ids.specs.declared.refusal.Refusal.TheVariants.{Malformed, TableNotLive, NameTaken, EpochsFull, TablesFull, ManifestFull, IdsUsedUp, OutputTooShort}
-use Rattle.ids.specs.declared.refusal.Verdict.{Verdict}
-use Rattle.ids.specs.declared.refusal.Verdict.TheVariants.{Accepted, Refused}
-use Rattle.ids.specs.Verdicts.{judged}
+use Rattle.ids.specs.Verdicts.{judged, Verdict}
 use Rattle.text.specs.Name.{is_name}
 use Rattle.columns.specs.Rows.{rows, column, marks}
 use Rattle.columns.proofs.Rows.{rows-length}
@@ -37,7 +36,7 @@ use Rattle.table.specs.Drop.{dropped_by, drop_rules}
 use Rattle.table.specs.Says.{longest_drop, MadeIs}
 use Rattle.table.proofs.Marked.{marked-part}
 
-pub made-no : (v : Verdict) (os : List Operation) (l : List ℕ) (r : Made) (l' : List ℕ) (k : Refusal) → v ≡ Refused k → r.verdict ≡ Refused k → MadeIs v os l r l'
+pub made-no : (v : Verdict) (os : List Operation) (l : List ℕ) (r : Made) (l' : List ℕ) (k : Refusal) → v ≡ Err k → r.verdict ≡ Err k → MadeIs v os l r l'
 made-no v os l r l' k h e = record { verdict = e ∙ sym h; written = λ a. absurd (let z : ◌≡◌ {A = ℕ} 0 1 = cc (a, e) in omega arith) }
 
 -- the append of lines of n bytes
@@ -51,19 +50,19 @@ module _ (m : VersionManagerInner) (shape : ℕ) (name : List ℕ) (room : ℕ) 
   tables-count : length (state_of m).tables ≡ m.tables.count
   tables-count = rows-length (table_at m.tables.ids m.tables.shapes m.tables.lengths m.tables.names m.tables.locked) m.tables.count
 
-  pub create-unnamed : is_name name ≡ false → create_verdict ≡ Refused (Malformed 0)
+  pub create-unnamed : is_name name ≡ false → create_verdict ≡ Err (Malformed 0)
   create-unnamed h = rw h
 
   module _ (named : is_name name ≡ true) where
-    pub create-taken : name_taken name (state_of m).tables ≡ true → create_verdict ≡ Refused (NameTaken 0)
+    pub create-taken : name_taken name (state_of m).tables ≡ true → create_verdict ≡ Err (NameTaken 0)
     create-taken h = rw (named, h)
 
     module _ (free : name_taken name (state_of m).tables ≡ false) where
-      pub create-late : last_epoch ≤ m.epoch → create_verdict ≡ Refused EpochsFull
+      pub create-late : last_epoch ≤ m.epoch → create_verdict ≡ Err EpochsFull
       create-late h = rw (named, free, le-leb last_epoch m.epoch h)
 
       module _ (early : m.epoch < last_epoch) where
-        pub create-full : most_tables ≤ m.tables.count → create_verdict ≡ Refused (TablesFull 0)
+        pub create-full : most_tables ≤ m.tables.count → create_verdict ≡ Err (TablesFull 0)
         create-full h = rw (named, free, lt-leb last_epoch m.epoch early, le-leb most_tables (length (state_of m).tables) (omega (arith, tables-count, h)))
 
         module _ (few : m.tables.count < most_tables) (l l' : List ℕ) (n : ℕ) (w : Wrote l 0 (texts_of (created_by (state_of m) shape name)) l' n) where
@@ -73,20 +72,20 @@ module _ (m : VersionManagerInner) (shape : ℕ) (name : List ℕ) (room : ℕ) 
           size : length (append_of (created_by (state_of m) shape name)) ≡ n + 6
           size = append-size (created_by (state_of m) shape name) l l' n w
 
-          pub create-long : longest_manifest < m.manifest + (n + 6) → create_verdict ≡ Refused ManifestFull
+          pub create-long : longest_manifest < m.manifest + (n + 6) → create_verdict ≡ Err ManifestFull
           create-long h = rw (named, free, lt-leb last_epoch m.epoch early, few-live, size, lt-ltb longest_manifest (m.manifest + (n + 6)) h)
 
           module _ (fits : m.manifest + (n + 6) ≤ longest_manifest) where
-            pub create-drawn : largest32 ≤ m.next.table.0 → create_verdict ≡ Refused IdsUsedUp
+            pub create-drawn : largest32 ≤ m.next.table.0 → create_verdict ≡ Err IdsUsedUp
             create-drawn h =
                 rw (named, free, lt-leb last_epoch m.epoch early, few-live, size, le-ltb longest_manifest (m.manifest + (n + 6)) fits, le-leb largest32 m.next.table.0 h)
 
             module _ (next : m.next.table.0 < largest32) where
-              pub create-short : room < n + 6 → create_verdict ≡ Refused OutputTooShort
+              pub create-short : room < n + 6 → create_verdict ≡ Err OutputTooShort
               create-short h =
                   rw (named, free, lt-leb last_epoch m.epoch early, few-live, size, le-ltb longest_manifest (m.manifest + (n + 6)) fits, lt-leb largest32 m.next.table.0 next, lt-ltb room (n + 6) h)
 
-              pub create-made : n + 6 ≤ room → create_verdict ≡ Accepted
+              pub create-made : n + 6 ≤ room → create_verdict ≡ Ok tt
               create-made h =
                   rw (named, free, lt-leb last_epoch m.epoch early, few-live, size, le-ltb longest_manifest (m.manifest + (n + 6)) fits, lt-leb largest32 m.next.table.0 next, le-ltb room (n + 6) h)
 
@@ -94,29 +93,29 @@ module _ (m : VersionManagerInner) (t room : ℕ) where
   abbrev drop_verdict : Verdict
   drop_verdict = judged (drop_rules (state_of m) t room)
 
-  pub drop-no-id : is_id32 t ≡ false → drop_verdict ≡ Refused (Malformed 0)
+  pub drop-no-id : is_id32 t ≡ false → drop_verdict ≡ Err (Malformed 0)
   drop-no-id h = rw h
 
   module _ (id : is_id32 t ≡ true) where
-    pub drop-dead : is_live t (state_of m) ≡ false → drop_verdict ≡ Refused (TableNotLive 0)
+    pub drop-dead : is_live t (state_of m) ≡ false → drop_verdict ≡ Err (TableNotLive 0)
     drop-dead h = rw (id, h)
 
     module _ (live : is_live t (state_of m) ≡ true) where
-      pub drop-late : last_epoch ≤ m.epoch → drop_verdict ≡ Refused EpochsFull
+      pub drop-late : last_epoch ≤ m.epoch → drop_verdict ≡ Err EpochsFull
       drop-late h = rw (id, live, le-leb last_epoch m.epoch h)
 
       module _ (early : m.epoch < last_epoch) (l l' : List ℕ) (n : ℕ) (w : Wrote l 0 (texts_of (dropped_by (state_of m) t)) l' n) where
         drop-size : length (append_of (dropped_by (state_of m) t)) ≡ n + 6
         drop-size = append-size (dropped_by (state_of m) t) l l' n w
 
-        pub drop-long : longest_manifest < m.manifest + (n + 6) → drop_verdict ≡ Refused ManifestFull
+        pub drop-long : longest_manifest < m.manifest + (n + 6) → drop_verdict ≡ Err ManifestFull
         drop-long h = rw (id, live, lt-leb last_epoch m.epoch early, drop-size, lt-ltb longest_manifest (m.manifest + (n + 6)) h)
 
         module _ (fits : m.manifest + (n + 6) ≤ longest_manifest) where
-          pub drop-short : room < n + 6 → drop_verdict ≡ Refused OutputTooShort
+          pub drop-short : room < n + 6 → drop_verdict ≡ Err OutputTooShort
           drop-short h = rw (id, live, lt-leb last_epoch m.epoch early, drop-size, le-ltb longest_manifest (m.manifest + (n + 6)) fits, lt-ltb room (n + 6) h)
 
-          pub drop-made : n + 6 ≤ room → drop_verdict ≡ Accepted
+          pub drop-made : n + 6 ≤ room → drop_verdict ≡ Ok tt
           drop-made h = rw (id, live, lt-leb last_epoch m.epoch early, drop-size, le-ltb longest_manifest (m.manifest + (n + 6)) fits, le-ltb room (n + 6) h)
 
 pub drop-line : (t : ℕ) → t ≤ largest32 → length (texts_of (drop_table t ∷ [])) ≤ longest_line

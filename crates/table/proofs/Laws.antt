@@ -7,12 +7,12 @@ use native.Mathlib.Omega.{arith}
 use lib.Dec.{leb}
 use lib.ListN.{length, length-append, length-map}
 use borrow.Author.Tests.{leb-false, ltb-false, not-false}
+use Rattle.std.specs.Prelude.{Ok}
 use Rattle.lists.specs.Keyed.{keep, all_of, has, ascending}
 use Rattle.lists.proofs.Tests.{both, neither}
 use Rattle.lists.proofs.Keyed.{all_of-all, ascend-to}
 use Rattle.ids.specs.Ids.{largest32, is_id32}
 use Rattle.ids.specs.Limits.{most_tables, most_held, last_epoch, longest_manifest, most_operations}
-use Rattle.ids.specs.declared.refusal.Verdict.TheVariants.{Accepted}
 use Rattle.ids.specs.Verdicts.{judged}
 use Rattle.ids.proofs.Verdicts.{none-judged}
 use Rattle.snapshot.specs.Entries.{by_ids}
@@ -34,7 +34,7 @@ use Rattle.table.proofs.Dropping.{drop-accepts, drop-pairs, drop-vectors}
 use Rattle.table.proofs.Compacting.{few, none-compacts, one-compacts}
 
 create-law : (m : VersionManagerInner) (shape : ℕ) (name : List ℕ) (room : ℕ) → bad_inner m ≡ false → shape ≤ largest32
-    → judged (create_rules (state_of m) shape name room) ≡ Accepted → Accepts (state_of m) (created_by (state_of m) shape name) room
+    → judged (create_rules (state_of m) shape name room) ≡ Ok tt → Accepts (state_of m) (created_by (state_of m) shape name) room
 create-law m shape name room b h j =
     let s = state_of m in
     let p = none-judged (create_rules s shape name room) j in
@@ -42,7 +42,7 @@ create-law m shape name room b h j =
     room (leb-false last_epoch s.epoch p.1.1.0) (ltb-false longest_manifest (s.manifest + length (append_of (created_by s shape name))) p.1.1.1.1.0) (ltb-false room (length (append_of (created_by s shape name))) p.1.1.1.1.1.1.0)
 
 drop-law : (m : VersionManagerInner) (t room : ℕ) → bad_inner m ≡ false → Narrow (state_of m)
-    → judged (drop_rules (state_of m) t room) ≡ Accepted → Accepts (state_of m) (dropped_by (state_of m) t) room
+    → judged (drop_rules (state_of m) t room) ≡ Ok tt → Accepts (state_of m) (dropped_by (state_of m) t) room
 drop-law m t room b w j =
     let s = state_of m in
     let p = none-judged (drop_rules s t room) j in
@@ -50,7 +50,7 @@ drop-law m t room b w j =
     room (leb-false last_epoch s.epoch p.1.1.0) (ltb-false longest_manifest (s.manifest + length (append_of (dropped_by s t))) p.1.1.1.0) (ltb-false room (length (append_of (dropped_by s t))) p.1.1.1.1.0)
 
 -- what a drop that is accepted shows
-module _ (m : VersionManagerInner) (t room : ℕ) (b : bad_inner m ≡ false) (w : Narrow (state_of m)) (j : judged (drop_rules (state_of m) t room) ≡ Accepted) where
+module _ (m : VersionManagerInner) (t room : ℕ) (b : bad_inner m ≡ false) (w : Narrow (state_of m)) (j : judged (drop_rules (state_of m) t room) ≡ Ok tt) where
   pairs-law : pairs_at (m.epoch + 1) (committed (dropped_by (state_of m) t) (state_of m)) ≡ keep (λ k. not (of_table t k)) (pairs_at m.epoch (state_of m))
   pairs-law = let p = none-judged (drop_rules (state_of m) t room) j in drop-pairs m (sound-of m b) w t (not-false _ p.0) (not-false _ p.1.0)
 
@@ -58,7 +58,7 @@ module _ (m : VersionManagerInner) (t room : ℕ) (b : bad_inner m ≡ false) (w
   vectors-law = let p = none-judged (drop_rules (state_of m) t room) j in drop-vectors m (sound-of m b) w t (not-false _ p.0) (not-false _ p.1.0)
 
 compact-law : (m : VersionManagerInner) (t : ℕ) (new taken : List ℕ) (room : ℕ) → bad_inner m ≡ false → Narrow (state_of m) → length new ≤ 1
-    → judged (compact_rules (state_of m) t new taken room) ≡ Accepted → Compacts (state_of m) t new taken room
+    → judged (compact_rules (state_of m) t new taken room) ≡ Ok tt → Compacts (state_of m) t new taken room
 compact-law m t [] taken room b w few j =
     let s = state_of m in
     let p = none-judged (compact_rules s t [] taken room) j in

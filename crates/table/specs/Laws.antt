@@ -1,12 +1,10 @@
 -- Where a call's own rules pass, the one commit accepts what the call has made; and what is then shown. Assumes nothing.
-use Rattle.std.specs.Prelude.{◌≡◌, true, false, not, List, [], ◌∷◌, map, ℕ, ◌+◌, ◌≤◌, length}
+use Rattle.std.specs.Prelude.{◌≡◌, true, false, not, List, [], ◌∷◌, map, ℕ, ◌+◌, ◌≤◌, length, Ok}
 use Rattle.lists.specs.Order.{same}
 use Rattle.lists.specs.Keyed.{keep, all_of, any_of, put}
 use Rattle.ids.specs.Ids.{largest32}
 use Rattle.ids.specs.Limits.{most_operations}
-use Rattle.ids.specs.declared.refusal.Verdict.TheVariants.{Accepted}
 use Rattle.ids.specs.Verdicts.{judged}
-use Rattle.ids.specs.Results.{given}
 use Rattle.manifest.specs.Operations.{Operation}
 use Rattle.version_state.specs.declared.VersionManagerInner.{VersionManagerInner}
 use Rattle.version_state.specs.State.{State, state_of, pairs_at, vectors_at}
@@ -21,7 +19,7 @@ use Rattle.table.specs.Compact.{compacted_by, valid_compaction, compact_rules}
 
 -- the commit of os by s into a buffer of `room` is accepted
 abbrev pub Accepts : State → List Operation → ℕ → Type 0
-Accepts s os room = commit_of s (length os) os room ≡ given (committed os s)
+Accepts s os room = commit_of s (length os) os room ≡ Ok (committed os s)
 
 -- the pairs of the table t with these rowsets, and pairs put in among others
 abbrev pub pairs_with : ℕ → List ℕ → List (List ℕ)
@@ -42,16 +40,16 @@ pub record Compacts (s : State) (t : ℕ) (new taken : List ℕ) (room : ℕ) : 
 -- of a manager m that passes 29
 pub record MadeLaws : Type 0 where
   pub create : (m : VersionManagerInner) (shape : ℕ) (name : List ℕ) (room : ℕ) → bad_inner m ≡ false → shape ≤ largest32
-      → judged (create_rules (state_of m) shape name room) ≡ Accepted → Accepts (state_of m) (created_by (state_of m) shape name) room
+      → judged (create_rules (state_of m) shape name room) ≡ Ok tt → Accepts (state_of m) (created_by (state_of m) shape name) room
   pub drop : (m : VersionManagerInner) (t room : ℕ) → bad_inner m ≡ false → Narrow (state_of m)
-      → judged (drop_rules (state_of m) t room) ≡ Accepted → Accepts (state_of m) (dropped_by (state_of m) t) room
+      → judged (drop_rules (state_of m) t room) ≡ Ok tt → Accepts (state_of m) (dropped_by (state_of m) t) room
   pub compact : (m : VersionManagerInner) (t : ℕ) (new taken : List ℕ) (room : ℕ) → bad_inner m ≡ false → Narrow (state_of m) → length new ≤ 1
-      → judged (compact_rules (state_of m) t new taken room) ≡ Accepted → Compacts (state_of m) t new taken room
+      → judged (compact_rules (state_of m) t new taken room) ≡ Ok tt → Compacts (state_of m) t new taken room
   -- taken rowsets that are shown are never too many for a commit: 6 is for others
   pub few : (m : VersionManagerInner) (t : ℕ) (new taken : List ℕ) → bad_inner m ≡ false → Narrow (state_of m) → valid_compaction (state_of m) t new taken ≡ true → length new ≤ 1
       → all_of (λ r. is_shown m.epoch (t ∷ r ∷ []) (state_of m).pairs) taken ≡ true → length (compacted_by (state_of m) t new taken) ≤ most_operations
   -- after a drop no pair and no vector of the table is shown, and those of other tables are as they were
-  pub drop_pairs : (m : VersionManagerInner) (t room : ℕ) → bad_inner m ≡ false → Narrow (state_of m) → judged (drop_rules (state_of m) t room) ≡ Accepted
+  pub drop_pairs : (m : VersionManagerInner) (t room : ℕ) → bad_inner m ≡ false → Narrow (state_of m) → judged (drop_rules (state_of m) t room) ≡ Ok tt
       → pairs_at (m.epoch + 1) (committed (dropped_by (state_of m) t) (state_of m)) ≡ keep (λ k. not (of_table t k)) (pairs_at m.epoch (state_of m))
-  pub drop_vectors : (m : VersionManagerInner) (t room : ℕ) → bad_inner m ≡ false → Narrow (state_of m) → judged (drop_rules (state_of m) t room) ≡ Accepted
+  pub drop_vectors : (m : VersionManagerInner) (t room : ℕ) → bad_inner m ≡ false → Narrow (state_of m) → judged (drop_rules (state_of m) t room) ≡ Ok tt
       → vectors_at (m.epoch + 1) (committed (dropped_by (state_of m) t) (state_of m)) ≡ keep (λ k. not (of_table t k)) (vectors_at m.epoch (state_of m))

@@ -1,12 +1,11 @@
 // Commits that a call makes itself from what is shown now: create and drop of tables, and a compaction.
 #![tactic(auto)]
 
-ghost use Rattle.std.specs.Prelude.{◌≡◌, false, [], ◌∷◌, ◌≤◌, length};
+ghost use Rattle.std.specs.Prelude.{◌≡◌, false, [], ◌∷◌, ◌≤◌, length, Err};
 ghost use Rattle.lists.specs.Written.{Wrote};
 ghost use Rattle.ids.specs.Limits.{longest_line};
 ghost use Rattle.ids.specs.Names.{name_of};
 ghost use Rattle.ids.specs.Verdicts.{judged};
-ghost use Rattle.ids.specs.declared.refusal.Verdict.TheVariants.{Refused};
 ghost use Rattle.manifest.specs.Operations.{drop_table, operation_of};
 ghost use Rattle.frames.specs.Frames.{texts_of};
 ghost use Rattle.version_state.specs.State.{state_of, Fit};
@@ -19,7 +18,7 @@ ghost use Rattle.table.specs.Laws.{MadeLaws};
 use ids::TableNo;
 use ids::limits::{LARGEST_32, LAST_EPOCH, LONGEST_MANIFEST, MOST_TABLES};
 use ids::name::Name;
-use ids::refusal::{Refusal, Verdict};
+use ids::refusal::Refusal;
 use manifest::operation::{Change, EpochOp};
 use version_state::VersionManagerInner;
 
@@ -31,7 +30,7 @@ pub const APPEND_BYTES: usize = 6;
 // A call's verdict, and the length of the lines where it accepts.
 #[derive(Drop)]
 pub struct Made {
-    pub verdict: Verdict,
+    pub verdict: Result<(), Refusal>,
     pub length: usize,
 }
 
@@ -41,10 +40,10 @@ pub fn holds()
 {}
 
 pub fn refused(refusal: Refusal) -> Made
-    ensures { result.verdict ≡ Refused refusal }
+    ensures { result.verdict ≡ Err refusal }
 {
     Made {
-        verdict: Verdict::Refused(refusal),
+        verdict: Err(refusal),
         length: 0,
     }
 }
@@ -143,7 +142,7 @@ pub fn create(
         return refused(Refusal::OutputTooShort);
     }
     Made {
-        verdict: Verdict::Accepted,
+        verdict: Ok(()),
         length,
     }
 }
@@ -171,7 +170,7 @@ pub fn drop(inner: VersionManagerInner, table: TableNo, room: usize, lines: &mut
         return refused(Refusal::OutputTooShort);
     }
     Made {
-        verdict: Verdict::Accepted,
+        verdict: Ok(()),
         length,
     }
 }

@@ -1,6 +1,6 @@
 -- What is handed out of the vectors, and what a grouping is where it refuses and where it accepts. Assumes nothing.
 use mathlib.Core.Path.{◌≡◌, refl, sym, ap, ◌∙◌}
-use mathlib.Core.Bool.{Bool, true, false, not, ◌||◌}
+use mathlib.Core.Bool.{Bool, true, false, not, cond, ◌||◌}
 use mathlib.Core.List.{List, [], ◌∷◌, ◌++◌, map, append_assoc}
 use Prim.Native.Nat.{ℕ, ◌+◌, ◌≤◌, ◌<◌}
 use native.Mathlib.Omega.{arith}
@@ -8,18 +8,17 @@ use lib.Dec.{ltb}
 use lib.ListN.{length, take, length-map}
 use lib.Seq.{length-take-le}
 use borrow.Author.Tests.{lt-ltb, le-ltb, ltb-false}
+use Rattle.std.specs.Prelude.{Ok, Err}
 use Rattle.lists.proofs.Tests.{neither}
 use Rattle.lists.specs.Keyed.{all_of}
 use Rattle.lists.specs.Written.{over}
 use Rattle.ids.specs.Ids.{is_id32, largest64}
 use Rattle.ids.specs.declared.refusal.Refusal.{Refusal}
 use Rattle.ids.specs.declared.refusal.Refusal.TheVariants.{Malformed, WrongCount, IdsUsedUp, OutputTooShort}
-use Rattle.ids.specs.declared.refusal.Verdict.TheVariants.{Accepted, Refused}
 use Rattle.ids.specs.Verdicts.{judged}
 use Rattle.delete_vector.specs.Records.{record_of, records_of}
 use Rattle.delete_vector.specs.Memory.{in_memory}
 use Rattle.transaction.specs.declared.vectors.Arranged.{Arranged}
-use Rattle.transaction.specs.declared.Grouping.{Grouping}
 use Rattle.transaction.specs.Groups.{Handle, Vector, rows_of, vector_of, vectors_of, rowsets_in, lengths_in, counts_in, files_in, memories_in}
 use Rattle.transaction.specs.Says.{most_handles, no_id, too_short, group_rules, HandedOut, GroupIs}
 use Rattle.transaction.specs.Chains.{paired, runs_of, ArrangedBy}
@@ -105,43 +104,44 @@ ids-told rs ws h = ap (λ (l : List ℕ). not (all_of is_id32 l)) (paired-rowset
 
 -- Groupings of handles hs, n by what the call says, lent the slices rs, ls, cs, fs and ms.
 module _ (hs : List Handle) (n next : ℕ) (rs ls cs fs ms : List ℕ) where
-  never : {P : Type 0} (g : Grouping) (q : Refusal) → g.verdict ≡ Refused q → g.verdict ≡ Accepted → P
-  never g q a e = let z : ◌≡◌ {A = ℕ} 0 1 = cc in absurd (omega arith)
+  refuses : (q : Refusal) → judged (group_rules hs n next (length rs) (length ls) (length cs) (length fs) (length ms)) ≡ Err q → GroupIs hs n next rs ls cs fs ms (Err q) rs ls cs fs ms
+  refuses q d = record { answer = rw d; rowsets = rw d; lengths = rw d; counts = rw d; files = rw d; memories = rw d }
 
-  refuses : (g : Grouping) (q : Refusal) → g.verdict ≡ Refused q → Refused q ≡ judged (group_rules hs n next (length rs) (length ls) (length cs) (length fs) (length ms)) → GroupIs hs n next rs ls cs fs ms g rs ls cs fs ms
-  refuses g q a d = record { verdict = a ∙ d; count = never g q a; rowsets = rw a; lengths = rw a; counts = rw a; files = rw a; memories = rw a }
-
-  pub no-id : (g : Grouping) → g.verdict ≡ Refused (Malformed 0) → no_id hs ≡ true → GroupIs hs n next rs ls cs fs ms g rs ls cs fs ms
-  no-id g a h = refuses g (Malformed 0) a (rw h)
+  pub no-id : no_id hs ≡ true → GroupIs hs n next rs ls cs fs ms (Err (Malformed 0)) rs ls cs fs ms
+  no-id h = refuses (Malformed 0) (rw h)
 
   module _ (ids : no_id hs ≡ false) where
-    pub too_many : (g : Grouping) → g.verdict ≡ Refused WrongCount → most_handles < n → GroupIs hs n next rs ls cs fs ms g rs ls cs fs ms
-    too_many g a h = refuses g WrongCount a (rw (ids, lt-ltb most_handles n h))
+    pub too_many : most_handles < n → GroupIs hs n next rs ls cs fs ms (Err WrongCount) rs ls cs fs ms
+    too_many h = refuses WrongCount (rw (ids, lt-ltb most_handles n h))
 
     module _ (few : n ≤ most_handles) where
-      pub used-up : (g : Grouping) → g.verdict ≡ Refused IdsUsedUp → largest64 < next + length (vectors_of hs) → GroupIs hs n next rs ls cs fs ms g rs ls cs fs ms
-      used-up g a h = refuses g IdsUsedUp a (rw (ids, le-ltb most_handles n few, lt-ltb largest64 (next + length (vectors_of hs)) h))
+      pub used-up : largest64 < next + length (vectors_of hs) → GroupIs hs n next rs ls cs fs ms (Err IdsUsedUp) rs ls cs fs ms
+      used-up h = refuses IdsUsedUp (rw (ids, le-ltb most_handles n few, lt-ltb largest64 (next + length (vectors_of hs)) h))
 
-      module _ (left : next + length (vectors_of hs) ≤ largest64) where
-        module _ (g : Grouping) (t : Bool) (rs' ls' cs' fs' ms' : List ℕ) (w : HandedOut (vectors_of hs) t rs ls cs fs ms rs' ls' cs' fs' ms') where
-          pub no_room : g.verdict ≡ Refused OutputTooShort → t ≡ true → GroupIs hs n next rs ls cs fs ms g rs' ls' cs' fs' ms'
-          no_room a q = record {
-            verdict = a ∙ rw (ids, le-ltb most_handles n few, le-ltb largest64 (next + length (vectors_of hs)) left, ← w.told, q);
-            count = never g OutputTooShort a;
-            rowsets = rw a (rw q at w.rowsets);
-            lengths = rw a (rw q at w.lengths);
-            counts = rw a (rw q at w.counts);
-            files = rw a (rw q at w.files);
-            memories = rw a (rw q at w.memories);
-          }
+      module _ (left : next + length (vectors_of hs) ≤ largest64) (t : Bool) (rs' ls' cs' fs' ms' : List ℕ) (w : HandedOut (vectors_of hs) t rs ls cs fs ms rs' ls' cs' fs' ms') where
+        short-judged : judged (group_rules hs n next (length rs) (length ls) (length cs) (length fs) (length ms)) ≡ cond t (Err OutputTooShort) (Ok tt)
+        short-judged = rw (ids, le-ltb most_handles n few, le-ltb largest64 (next + length (vectors_of hs)) left, ← w.told)
 
-          pub accepts : g.verdict ≡ Accepted → t ≡ false → g.count ≡ length (vectors_of hs) → GroupIs hs n next rs ls cs fs ms g rs' ls' cs' fs' ms'
-          accepts a q k = record {
-            verdict = a ∙ rw (ids, le-ltb most_handles n few, le-ltb largest64 (next + length (vectors_of hs)) left, ← w.told, q);
-            count = λ _. k;
-            rowsets = rw a (rw q at w.rowsets);
-            lengths = rw a (rw q at w.lengths);
-            counts = rw a (rw q at w.counts);
-            files = rw a (rw q at w.files);
-            memories = rw a (rw q at w.memories);
-          }
+        pub no_room : t ≡ true → GroupIs hs n next rs ls cs fs ms (Err OutputTooShort) rs' ls' cs' fs' ms'
+        no_room q =
+            let d : judged (group_rules hs n next (length rs) (length ls) (length cs) (length fs) (length ms)) ≡ Err OutputTooShort = short-judged ∙ rw q refl in
+            record {
+              answer = rw d;
+              rowsets = rw d (rw q at w.rowsets);
+              lengths = rw d (rw q at w.lengths);
+              counts = rw d (rw q at w.counts);
+              files = rw d (rw q at w.files);
+              memories = rw d (rw q at w.memories);
+            }
+
+        pub accepts : t ≡ false → (k : ℕ) → k ≡ length (vectors_of hs) → GroupIs hs n next rs ls cs fs ms (Ok k) rs' ls' cs' fs' ms'
+        accepts q k e =
+            let d : judged (group_rules hs n next (length rs) (length ls) (length cs) (length fs) (length ms)) ≡ Ok tt = short-judged ∙ rw q refl in
+            record {
+              answer = rw (d, e);
+              rowsets = rw d (rw q at w.rowsets);
+              lengths = rw d (rw q at w.lengths);
+              counts = rw d (rw q at w.counts);
+              files = rw d (rw q at w.files);
+              memories = rw d (rw q at w.memories);
+            }

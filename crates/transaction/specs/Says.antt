@@ -1,13 +1,13 @@
--- What a grouping for a state that 29 let pass is: its verdict, its count and the lent slices. Assumes nothing.
-use Rattle.std.specs.Prelude.{◌≡◌, Bool, cond, not, ◌||◌, List, [], ◌∷◌, map, ℕ, ◌+◌, ltb, length}
+-- What a grouping for a state that 29 let pass is: its answer and the lent slices. Assumes nothing.
+use Rattle.std.specs.Prelude.{◌≡◌, Bool, cond, not, ◌||◌, List, [], ◌∷◌, map, ℕ, ◌+◌, ltb, length, Ok, Result}
+use Rattle.std.specs.Result.{result_and}
 use Rattle.lists.specs.Keyed.{all_of}
 use Rattle.lists.specs.Written.{over}
 use Rattle.ids.specs.Ids.{is_id32, largest64}
+use Rattle.ids.specs.declared.refusal.Refusal.{Refusal}
 use Rattle.ids.specs.declared.refusal.Refusal.TheVariants.{Malformed, WrongCount, IdsUsedUp, OutputTooShort}
-use Rattle.ids.specs.declared.refusal.Verdict.TheVariants.{Accepted}
-use Rattle.ids.specs.Verdicts.{Rule, ◌⇒◌, judged}
+use Rattle.ids.specs.Verdicts.{Rule, ◌⇒◌, judged, Verdict}
 use Rattle.ids.specs.Answers.{after}
-use Rattle.transaction.specs.declared.Grouping.{Grouping}
 use Rattle.transaction.specs.Groups.{Handle, Vector, vectors_of, rowsets_in, lengths_in, counts_in, files_in, memories_in}
 
 -- the most handles of a transaction
@@ -45,13 +45,17 @@ pub record HandedOut (vs : List Vector) (short : Bool) (rs ls cs fs ms rs' ls' c
   pub files : fs' ≡ cond short fs (over (files_in vs) fs)
   pub memories : ms' ≡ cond short ms (over (memories_in vs) ms)
 
+-- with the verdict v, the vectors vs go to the fronts of the lent slices rs, ls, cs, fs and ms, and the answer g is how many they are
+pub record Grouped (v : Verdict) (vs : List Vector) (rs ls cs fs ms : List ℕ) (g : Result ℕ Refusal) (rs' ls' cs' fs' ms' : List ℕ) : Type 0 where
+  pub answer : g ≡ result_and v (Ok (length vs))
+  pub rowsets : rs' ≡ after v (over (rowsets_in vs) rs) rs
+  pub lengths : ls' ≡ after v (over (lengths_in vs) ls) ls
+  pub counts : cs' ≡ after v (over (counts_in vs) cs) cs
+  pub files : fs' ≡ after v (over (files_in vs) fs) fs
+  pub memories : ms' ≡ after v (over (memories_in vs) ms) ms
+
 -- a grouping of the handles hs, n by what the call says, with vector ids from next on, lent the slices rs, ls, cs, fs and ms,
 -- returns g and leaves rs', ls', cs', fs' and ms' in them
-pub record GroupIs (hs : List Handle) (n next : ℕ) (rs ls cs fs ms : List ℕ) (g : Grouping) (rs' ls' cs' fs' ms' : List ℕ) : Type 0 where
-  pub verdict : g.verdict ≡ judged (group_rules hs n next (length rs) (length ls) (length cs) (length fs) (length ms))
-  pub count : g.verdict ≡ Accepted → g.count ≡ length (vectors_of hs)
-  pub rowsets : rs' ≡ after g.verdict (over (rowsets_in (vectors_of hs)) rs) rs
-  pub lengths : ls' ≡ after g.verdict (over (lengths_in (vectors_of hs)) ls) ls
-  pub counts : cs' ≡ after g.verdict (over (counts_in (vectors_of hs)) cs) cs
-  pub files : fs' ≡ after g.verdict (over (files_in (vectors_of hs)) fs) fs
-  pub memories : ms' ≡ after g.verdict (over (memories_in (vectors_of hs)) ms) ms
+abbrev pub GroupIs : List Handle → ℕ → ℕ → List ℕ → List ℕ → List ℕ → List ℕ → List ℕ → Result ℕ Refusal → List ℕ → List ℕ → List ℕ → List ℕ → List ℕ → Type 0
+GroupIs hs n next rs ls cs fs ms g rs' ls' cs' fs' ms' =
+    Grouped (judged (group_rules hs n next (length rs) (length ls) (length cs) (length fs) (length ms))) (vectors_of hs) rs ls cs fs ms g rs' ls' cs' fs' ms'

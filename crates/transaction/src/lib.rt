@@ -4,7 +4,6 @@
 ghost use Rattle.std.specs.Prelude.{◌≡◌, true, ◌≤◌, min, length};
 ghost use Rattle.lists.specs.Keyed.{all_of};
 ghost use Rattle.ids.specs.Ids.{is_id32};
-ghost use Rattle.ids.specs.declared.refusal.Verdict.TheVariants.{Refused};
 ghost use Rattle.transaction.specs.Says.{most_handles, GroupIs};
 ghost use Rattle.transaction.specs.Chains.{paired, ColumnsOf};
 ghost use Rattle.transaction.specs.Laws.{GroupLaws};
@@ -12,7 +11,7 @@ ghost use Rattle.transaction.specs.Laws.{GroupLaws};
 use delete_vector::memory;
 use ids::SecondaryRowHandler;
 use ids::limits::{LARGEST_32, LARGEST_64};
-use ids::refusal::{Refusal, Verdict};
+use ids::refusal::Refusal;
 
 pub mod chains;
 pub mod vectors;
@@ -27,26 +26,10 @@ pub struct Handles {
     pub count: usize,
 }
 
-// What a grouping makes: `count` vectors. Beside a refusal it means nothing.
-#[derive(Drop)]
-pub struct Grouping {
-    pub verdict: Verdict,
-    pub count: usize,
-}
-
 // The laws of grouping.
 pub fn holds()
     ensures { GroupLaws }
 {}
-
-fn refused(why: Refusal) -> Grouping
-    ensures { result.verdict ≡ Refused why }
-{
-    Grouping {
-        verdict: Verdict::Refused(why),
-        count: 0,
-    }
-}
 
 fn at_most(count: usize) -> usize
     ensures { result ≡ min count most_handles }
@@ -92,7 +75,7 @@ fn are_ids(rowsets: &[u32]) -> bool
     true
 }
 
-// Handles whose rowsets are ids, at most as many as a transaction may have.
+// Handles whose rowsets are ids, at most as many as a transaction may have. Answers how many vectors there are.
 fn grouped(
     rowsets: &[u32],
     rows: &[u32],
@@ -102,7 +85,7 @@ fn grouped(
     cs: &mut [u32],
     fs: &mut [u8],
     ms: &mut [u32],
-) -> Grouping
+) -> Result<usize, Refusal>
     requires { (length rows.now ≡ length rowsets.now) × (length rowsets.now ≤ most_handles) × (all_of is_id32 rowsets.now ≡ true) }
     ensures { GroupIs (paired rowsets.now rows.now) (length rowsets.now) next rs.old ls.old cs.old fs.old ms.old result rs.new ls.new cs.new fs.new ms.new }
 {
@@ -110,15 +93,12 @@ fn grouped(
     let mut spare = [0u32; MOST_HANDLES];
     let count = memory::ascend(rowsets, &mut named, &mut spare);
     if LARGEST_64 - next < count as u64 {
-        return refused(Refusal::IdsUsedUp);
+        return Err(Refusal::IdsUsedUp);
     }
     if vectors::hand_out(rowsets, rows, &named[..count], rs, ls, cs, fs, ms) {
-        return refused(Refusal::OutputTooShort);
+        return Err(Refusal::OutputTooShort);
     }
-    Grouping {
-        verdict: Verdict::Accepted,
-        count,
-    }
+    Ok(count)
 }
 
 // The vectors of handles as columns, of which the call says that there are `count`; their ids are from next on. 29 is judged before.
@@ -132,15 +112,15 @@ pub fn group(
     cs: &mut [u32],
     fs: &mut [u8],
     ms: &mut [u32],
-) -> Grouping
+) -> Result<usize, Refusal>
     requires { (length rows.now ≡ length rowsets.now) × (length rowsets.now ≡ min count most_handles) }
     ensures { GroupIs (paired rowsets.now rows.now) count next rs.old ls.old cs.old fs.old ms.old result rs.new ls.new cs.new fs.new ms.new }
 {
     if !are_ids(rowsets) {
-        return refused(Refusal::Malformed(0));
+        return Err(Refusal::Malformed(0));
     }
     if MOST_HANDLES < count {
-        return refused(Refusal::WrongCount);
+        return Err(Refusal::WrongCount);
     }
     grouped(rowsets, rows, next, rs, ls, cs, fs, ms)
 }

@@ -10,7 +10,7 @@ use ids::{RowNo, RowsetNo, SecondaryRowHandler, VectorNo};
 use std::io;
 use std::process::ExitCode;
 use transaction::{Handles, MOST_HANDLES};
-use version_manager::{GroupAnswer, VersionManager};
+use version_manager::{NewVectors, VersionManager};
 
 // The most bytes that files of all handles have.
 const MOST_BYTES: usize = 28672;
@@ -28,13 +28,13 @@ fn refused(rt: &impl Print, why: Refusal) -> io::Result<()> {
     number(rt, " place ", why.place() as u64)
 }
 
-fn answer(rt: &impl Print, answer: GroupAnswer) -> io::Result<()> {
+fn answer(rt: &impl Print, answer: Result<NewVectors, Refusal>) -> io::Result<()> {
     match answer {
-        GroupAnswer::Vectors(n, first) => {
-            number(rt, " vectors ", n as u64)?;
+        Ok(NewVectors { count, first }) => {
+            number(rt, " vectors ", count as u64)?;
             number(rt, " first ", first.0)
         }
-        GroupAnswer::Refused(why) => refused(rt, why),
+        Err(why) => refused(rt, why),
     }
 }
 

@@ -6,11 +6,11 @@ use Prim.Native.Nat.{ℕ, ◌≤◌}
 use lib.Dec.{ltb}
 use lib.ListN.{take}
 use borrow.Author.Tests.{not-true}
+use Rattle.std.specs.Prelude.{Ok}
 use Rattle.lists.specs.Keyed.{keep, all_of, any_of, has, is_at, without}
 use Rattle.lists.proofs.Tests.{by_cases, clash, neither}
 use Rattle.lists.proofs.Keyed.{all_map, kept-all, none-any_of, ascend-to, ascend-from, ascending-changed}
 use Rattle.ids.specs.Limits.{longest_manifest}
-use Rattle.ids.specs.declared.refusal.Verdict.TheVariants.{Accepted}
 use Rattle.ids.specs.Verdicts.{judged}
 use Rattle.ids.proofs.Verdicts.{none-judged}
 use Rattle.manifest.specs.Operations.{drop_table}
@@ -99,7 +99,7 @@ module _ (t : ℕ) where
       cc (g, same-again l d.1))
       (λ e. cc (same-again l d.1))
 
-  pub lock-back : (s : State) → judged (lock_rules t true s) ≡ Accepted → relocked t false (relocked t true s) ≡ s
+  pub lock-back : (s : State) → judged (lock_rules t true s) ≡ Ok tt → relocked t false (relocked t true s) ≡ s
   lock-back s h = ap (with_tables s) (same-again s.tables (none-judged (lock_rules t true s) h).1.1.0)
 
   pub lock-dropped : (e : ℕ) (s : State) → is_locked t (effect e (drop_table t) s) ≡ false

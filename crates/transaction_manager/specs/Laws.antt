@@ -1,6 +1,5 @@
 -- What taking and giving back a lock keeps, and what frees one. Assumes nothing.
-use Rattle.std.specs.Prelude.{◌≡◌, Bool, true, false, map, ℕ}
-use Rattle.ids.specs.declared.refusal.Verdict.TheVariants.{Accepted}
+use Rattle.std.specs.Prelude.{◌≡◌, Bool, true, false, map, ℕ, Ok}
 use Rattle.ids.specs.Verdicts.{judged}
 use Rattle.manifest.specs.Operations.{drop_table}
 use Rattle.snapshot.specs.Tables.{TableEntry, created}
@@ -21,6 +20,6 @@ pub record LockLaws : Type 0 where
   -- the lock of a live table is then held, or free
   pub lock : (t : ℕ) (b : Bool) (s : State) → is_live t s ≡ true → is_locked t (relocked t b s) ≡ b
   -- a lock that is taken and given back
-  pub back : (t : ℕ) (s : State) → judged (lock_rules t true s) ≡ Accepted → relocked t false (relocked t true s) ≡ s
+  pub back : (t : ℕ) (s : State) → judged (lock_rules t true s) ≡ Ok tt → relocked t false (relocked t true s) ≡ s
   -- `X` frees the lock
   pub dropped : (t e : ℕ) (s : State) → is_locked t (effect e (drop_table t) s) ≡ false

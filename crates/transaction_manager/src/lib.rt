@@ -15,13 +15,13 @@ ghost use Rattle.transaction_manager.specs.Laws.{LockLaws};
 
 use ids::TableNo;
 use ids::limits::MOST_TABLES;
-use ids::refusal::{Refusal, Verdict};
+use ids::refusal::Refusal;
 use version_state::VersionManagerInner;
 
 // The state with a lock taken or given back. Beside a refusal it means nothing.
 #[derive(Drop)]
 pub struct Relocked {
-    pub verdict: Verdict,
+    pub verdict: Result<(), Refusal>,
     pub inner: VersionManagerInner,
 }
 
@@ -79,19 +79,19 @@ fn set(
 }
 
 // A lock that is to be held, or to be free, and whether it was held.
-fn against(held: bool, was: bool) -> Verdict
+fn against(held: bool, was: bool) -> Result<(), Refusal>
     ensures { result ≡ judged (lock_rule held was ∷ []) }
 {
     if held {
         if was {
-            return Verdict::Refused(Refusal::LockHeld);
+            return Err(Refusal::LockHeld);
         }
-        return Verdict::Accepted;
+        return Ok(());
     }
     if was {
-        return Verdict::Accepted;
+        return Ok(());
     }
-    Verdict::Refused(Refusal::LockNotHeld)
+    Err(Refusal::LockNotHeld)
 }
 
 fn judge<'a>(
@@ -100,17 +100,17 @@ fn judge<'a>(
     count: usize,
     table: TableNo,
     held: bool,
-) -> Verdict
+) -> Result<(), Refusal>
     requires { count ≤ most_tables }
     ensures { result ≡ judged (rules_of table.0 held
         (has plain (table.0 ∷ []) (rows (across (ids.now ∷ [])) count))
         (any_of (λ i. same (column ids.now i ∷ []) (table.0 ∷ []) && marks locked.now i) (rows (λ i. i) count))) }
 {
     if !table.is_id() {
-        return Verdict::Refused(Refusal::Malformed(0));
+        return Err(Refusal::Malformed(0));
     }
     if !snapshot::tables::holds(ids, count, table) {
-        return Verdict::Refused(Refusal::TableNotLive(0));
+        return Err(Refusal::TableNotLive(0));
     }
     let was = is_held(ids, locked, count, table);
     against(held, was)

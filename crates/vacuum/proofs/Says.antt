@@ -6,12 +6,12 @@ use Prim.Native.Nat.{ℕ, ◌≤◌, ◌<◌}
 use native.Mathlib.Omega.{arith}
 use lib.ListN.{length, length-map}
 use borrow.Author.Tests.{lt-ltb, le-ltb}
+use Rattle.std.specs.Prelude.{Ok, Err}
 use Rattle.lists.specs.Keyed.{ascending}
 use Rattle.lists.specs.Written.{over}
 use Rattle.lists.proofs.Keyed.{ascend-to}
 use Rattle.ids.specs.declared.refusal.Refusal.{Refusal}
 use Rattle.ids.specs.declared.refusal.Refusal.TheVariants.{BadPinBook, OutputTooShort}
-use Rattle.ids.specs.declared.refusal.Verdict.TheVariants.{Accepted, Refused}
 use Rattle.ids.specs.Verdicts.{◌⇒◌, judged}
 use Rattle.ids.proofs.Verdicts.{judged-none, refused-at}
 use Rattle.columns.specs.Rows.{rows, column}
@@ -50,26 +50,26 @@ module _ (m : VersionManagerInner) (up : ascending by_ids (state_of m).pairs ≡
   listed-count = sym (rows-length (column ps) r) ∙ ap length s.told ∙ sym (length-map places at) ∙ ap length are-listed
 
 module _ (s : State) (b : PinBook) (ts rs : List ℕ) where
-  pub book-bad : bad_book s.epoch b ≡ true → Refused BadPinBook ≡ judged (vacuum_rules s b (length ts) (length rs))
+  pub book-bad : bad_book s.epoch b ≡ true → Err BadPinBook ≡ judged (vacuum_rules s b (length ts) (length rs))
   book-bad h = sym (refused-at [] (bad_book s.epoch b) BadPinBook ((too_short s b (length ts) (length rs) ⇒ OutputTooShort) ∷ []) tt h)
 
   module _ (n : ℕ) (counted : n ≡ length (list_of s b)) (h : bad_book s.epoch b ≡ false) where
-    pub tables-short : length ts < n → Refused OutputTooShort ≡ judged (vacuum_rules s b (length ts) (length rs))
+    pub tables-short : length ts < n → Err OutputTooShort ≡ judged (vacuum_rules s b (length ts) (length rs))
     tables-short l = sym (refused-at ((bad_book s.epoch b ⇒ BadPinBook) ∷ []) (too_short s b (length ts) (length rs)) OutputTooShort [] (h, tt) (rw (← counted, lt-ltb _ _ l)))
 
-    pub rowsets-short : n ≤ length ts → length rs < n → Refused OutputTooShort ≡ judged (vacuum_rules s b (length ts) (length rs))
+    pub rowsets-short : n ≤ length ts → length rs < n → Err OutputTooShort ≡ judged (vacuum_rules s b (length ts) (length rs))
     rowsets-short l r = sym (refused-at ((bad_book s.epoch b ⇒ BadPinBook) ∷ []) (too_short s b (length ts) (length rs)) OutputTooShort [] (h, tt) (rw (← counted, le-ltb _ _ l, lt-ltb _ _ r)))
 
-    pub room-for-all : n ≤ length ts → n ≤ length rs → Accepted ≡ judged (vacuum_rules s b (length ts) (length rs))
+    pub room-for-all : n ≤ length ts → n ≤ length rs → Ok tt ≡ judged (vacuum_rules s b (length ts) (length rs))
     room-for-all l r = sym (judged-none (vacuum_rules s b (length ts) (length rs)) (h, (rw (← counted, le-ltb _ _ l, le-ltb _ _ r), tt)))
 
-  never : {P : Type 0} (v : Released) (q : Refusal) → v.verdict ≡ Refused q → v.verdict ≡ Accepted → P
+  never : {P : Type 0} (v : Released) (q : Refusal) → v.verdict ≡ Err q → v.verdict ≡ Ok tt → P
   never v q a e = let z : ◌≡◌ {A = ℕ} 0 1 = cc in absurd (omega arith)
 
-  pub refuses : (v : Released) (q : Refusal) → v.verdict ≡ Refused q → Refused q ≡ judged (vacuum_rules s b (length ts) (length rs)) → VacuumIs s b ts rs v ts rs
+  pub refuses : (v : Released) (q : Refusal) → v.verdict ≡ Err q → Err q ≡ judged (vacuum_rules s b (length ts) (length rs)) → VacuumIs s b ts rs v ts rs
   refuses v q a d = record { verdict = a ∙ d; tables = rw a; rowsets = rw a; count = never v q a; inner = never v q a }
 
-  pub accepts : (v : Released) (ts' rs' : List ℕ) (e : ℕ) → e ≡ bound_of s b → v.verdict ≡ Accepted → Accepted ≡ judged (vacuum_rules s b (length ts) (length rs))
+  pub accepts : (v : Released) (ts' rs' : List ℕ) (e : ℕ) → e ≡ bound_of s b → v.verdict ≡ Ok tt → Ok tt ≡ judged (vacuum_rules s b (length ts) (length rs))
       → v.count ≡ length (vacuum_list e s) → ts' ≡ over (field 0 (vacuum_list e s)) ts → rs' ≡ over (field 1 (vacuum_list e s)) rs
       → Hands v.inner (vacuumed e s) → VacuumIs s b ts rs v ts' rs'
   accepts v ts' rs' e g a d n x y h =

@@ -1,8 +1,7 @@
 -- What a vacuum of a state that 29 let pass is: its verdict, the lent slices, and the state that it leaves. Assumes nothing.
-use Rattle.std.specs.Prelude.{◌≡◌, Bool, ◌||◌, List, [], ◌∷◌, ℕ, ltb, length}
+use Rattle.std.specs.Prelude.{◌≡◌, Bool, ◌||◌, List, [], ◌∷◌, ℕ, ltb, length, Ok}
 use Rattle.lists.specs.Written.{over}
 use Rattle.ids.specs.declared.refusal.Refusal.TheVariants.{BadPinBook, OutputTooShort}
-use Rattle.ids.specs.declared.refusal.Verdict.TheVariants.{Accepted}
 use Rattle.ids.specs.Verdicts.{Rule, ◌⇒◌, judged}
 use Rattle.ids.specs.Answers.{after}
 use Rattle.snapshot.specs.Entries.{Entry, field}
@@ -35,5 +34,5 @@ pub record VacuumIs (s : State) (b : PinBook) (ts rs : List ℕ) (v : Released) 
   pub verdict : v.verdict ≡ judged (vacuum_rules s b (length ts) (length rs))
   pub tables : ts' ≡ after v.verdict (over (field 0 (list_of s b)) ts) ts
   pub rowsets : rs' ≡ after v.verdict (over (field 1 (list_of s b)) rs) rs
-  pub count : v.verdict ≡ Accepted → v.count ≡ length (list_of s b)
-  pub inner : v.verdict ≡ Accepted → Hands v.inner (vacuumed (bound_of s b) s)
+  pub count : v.verdict ≡ Ok tt → v.count ≡ length (list_of s b)
+  pub inner : v.verdict ≡ Ok tt → Hands v.inner (vacuumed (bound_of s b) s)

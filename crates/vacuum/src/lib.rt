@@ -1,10 +1,9 @@
 // Vacuum: deletions that no pin keeps are listed and let go.
 #![tactic(auto)]
 
-ghost use Rattle.std.specs.Prelude.{◌≡◌, true, false, [], ◌∷◌, ◌≤◌, length};
+ghost use Rattle.std.specs.Prelude.{◌≡◌, true, false, [], ◌∷◌, ◌≤◌, length, Err};
 ghost use Rattle.lists.specs.Keyed.{keep, ascending, rank};
 ghost use Rattle.ids.specs.Limits.{most_held};
-ghost use Rattle.ids.specs.declared.refusal.Verdict.TheVariants.{Refused};
 ghost use Rattle.columns.specs.Rows.{rows, column, across, plain};
 ghost use Rattle.snapshot.specs.Entries.{gone_at};
 ghost use Rattle.snapshot.specs.Picked.{Stand};
@@ -16,7 +15,7 @@ ghost use Rattle.vacuum.specs.Says.{VacuumIs};
 ghost use Rattle.vacuum.specs.Laws.{VacuumLaws};
 
 use ids::limits::MOST_HELD;
-use ids::refusal::{Refusal, Verdict};
+use ids::refusal::Refusal;
 use pins::PinBook;
 use snapshot::{gone, held};
 use version_state::VersionManagerInner;
@@ -24,7 +23,7 @@ use version_state::VersionManagerInner;
 // What a vacuum lists and leaves: `count` deletions, and the state without them. Beside a refusal both mean nothing.
 #[derive(Drop)]
 pub struct Released {
-    pub verdict: Verdict,
+    pub verdict: Result<(), Refusal>,
     pub count: usize,
     pub inner: VersionManagerInner,
 }
@@ -126,10 +125,10 @@ pub fn let_go(inner: VersionManagerInner, epoch: u32) -> VersionManagerInner
 }
 
 fn refused(inner: VersionManagerInner, why: Refusal) -> Released
-    ensures { result.verdict ≡ Refused why }
+    ensures { result.verdict ≡ Err why }
 {
     Released {
-        verdict: Verdict::Refused(why),
+        verdict: Err(why),
         count: 0,
         inner,
     }
@@ -167,7 +166,7 @@ pub fn vacuum(
     held::write(&inner.rowsets.rowsets, &places, count, rowsets);
     let left = let_go(inner, bound);
     Released {
-        verdict: Verdict::Accepted,
+        verdict: Ok(()),
         count,
         inner: left,
     }

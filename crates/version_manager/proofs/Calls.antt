@@ -6,6 +6,8 @@ use Prim.Native.Nat.{ℕ, ◌*◌, ◌≤◌}
 use native.Mathlib.Omega.{arith}
 use lib.ListN.{length, take, drop, length-map}
 use lib.Seq.{take-append_seam}
+use Rattle.std.specs.Prelude.{Result, Ok, Err}
+use Rattle.std.specs.Result.{result_and}
 use Rattle.lists.specs.Written.{over, Wrote}
 use Rattle.lists.proofs.Views.{view-length}
 use Rattle.lists.proofs.Written.{wrote-over, wrote-length}
@@ -13,11 +15,8 @@ use Rattle.ids.specs.Limits.{most_operations, longest_line}
 use Rattle.ids.specs.declared.TableNo.{TableNo}
 use Rattle.ids.specs.declared.refusal.Refusal.{Refusal}
 use Rattle.ids.specs.declared.refusal.Refusal.TheVariants.{BadManager}
-use Rattle.ids.specs.declared.refusal.Verdict.{Verdict}
-use Rattle.ids.specs.declared.refusal.Verdict.TheVariants.{Accepted, Refused}
-use Rattle.ids.specs.Verdicts.{◌⇒◌, judged}
+use Rattle.ids.specs.Verdicts.{◌⇒◌, judged, Verdict}
 use Rattle.ids.specs.Answers.{told, after}
-use Rattle.ids.specs.Results.{Result, refused, given, onward}
 use Rattle.manifest.specs.declared.operation.Batch.{Batch}
 use Rattle.manifest.specs.Operations.{Operation, operation_of, batch_of}
 use Rattle.snapshot.specs.Entries.{field}
@@ -40,12 +39,7 @@ use Rattle.transaction_manager.specs.declared.Relocked.{Relocked}
 use Rattle.transaction_manager.specs.Locks.{relocked}
 use Rattle.transaction_manager.specs.Says.{LockIs}
 use Rattle.version_manager.specs.declared.VersionManager.{VersionManager}
-use Rattle.version_manager.specs.declared.Committed.{Committed}
-use Rattle.version_manager.specs.declared.Vacuumed.{Vacuumed}
-use Rattle.version_manager.specs.declared.Locked.{Locked}
-use Rattle.version_manager.specs.declared.Checkpointed.{Checkpointed}
-use Rattle.version_manager.specs.declared.CheckpointAnswer.TheVariants as checkpointed
-use Rattle.version_manager.specs.declared.VacuumAnswer.TheVariants as answer
+use Rattle.version_manager.specs.Answered.{Committed, Vacuumed, Checkpointed, Locked}
 use Rattle.version_manager.specs.Managers.{held_by, bad_manager, Follows, HandsBack}
 use Rattle.version_manager.proofs.Managers.{manages}
 use Rattle.version_manager.specs.Commit.{outcome_of, commit_told, CommitEnds, CommitSays}
@@ -55,32 +49,32 @@ use Rattle.version_manager.specs.Checkpoint.{checkpoint_verdict, CheckpointSays}
 
 -- a commit over the columns c that was refused, and one that was accepted
 module _ (m : VersionManager) (d : Done) (c : Columns) (r : Committed) where
-  pub commit-no : (k : Refusal) → d.verdict ≡ Refused k → r.manager ≡ m → commit_told r.answer ≡ told (Refused k) []
-      → (x : Result State) (os : List Operation) (out out' : List ℕ) → CommitIs x os out d c out' → CommitEnds x m os out r out'
-  commit-no k e h t (given s) os out out' i = absurd (let z : ◌≡◌ {A = ℕ} 0 1 = cc (i.0, e) in omega arith)
-  commit-no k e h t (refused j) os out out' i =
+  pub commit-no : (k : Refusal) → d.verdict ≡ Err k → r.manager ≡ m → commit_told r.answer ≡ told (Err k) []
+      → (x : Result State Refusal) (os : List Operation) (out out' : List ℕ) → CommitIs x os out d c out' → CommitEnds x m os out r out'
+  commit-no k e h t (Ok s) os out out' i = absurd (let z : ◌≡◌ {A = ℕ} 0 1 = cc (i.0, e) in omega arith)
+  commit-no k e h t (Err j) os out out' i =
       let q : k ≡ j = cc (i.0, e) in
-      (t ∙ ap (λ (z : Refusal). told (Refused z) []) q, h, i.1)
+      (t ∙ ap (λ (z : Refusal). told (Err z) []) q, h, i.1)
 
-  pub commit-yes : d.verdict ≡ Accepted → ((s : State) → Hands (inner_in d.held c) s → Follows r.manager s (held_by m) d.length) → commit_told r.answer ≡ told Accepted (d.held.epoch ∷ d.length ∷ [])
-      → (x : Result State) (os : List Operation) (out out' : List ℕ) → CommitIs x os out d c out' → CommitEnds x m os out r out'
-  commit-yes e h t (given s) os out out' i =
-      (t ∙ ap (λ (z : State). told Accepted (z.epoch ∷ d.length ∷ [])) i.2.state ∙ ap (λ (n : ℕ). told Accepted (s.epoch ∷ n ∷ [])) i.1, subst (λ (n : ℕ). Follows r.manager s (held_by m) n) i.1 (h s i.2), i.3)
-  commit-yes e h t (refused j) os out out' i = absurd (let z : ◌≡◌ {A = ℕ} 0 1 = cc (i.0, e) in omega arith)
+  pub commit-yes : d.verdict ≡ Ok tt → ((s : State) → Hands (inner_in d.held c) s → Follows r.manager s (held_by m) d.length) → commit_told r.answer ≡ told (Ok tt) (d.held.epoch ∷ d.length ∷ [])
+      → (x : Result State Refusal) (os : List Operation) (out out' : List ℕ) → CommitIs x os out d c out' → CommitEnds x m os out r out'
+  commit-yes e h t (Ok s) os out out' i =
+      (t ∙ ap (λ (z : State). told (Ok tt) (z.epoch ∷ d.length ∷ [])) i.2.state ∙ ap (λ (n : ℕ). told (Ok tt) (s.epoch ∷ n ∷ [])) i.1, subst (λ (n : ℕ). Follows r.manager s (held_by m) n) i.1 (h s i.2), i.3)
+  commit-yes e h t (Err j) os out out' i = absurd (let z : ◌≡◌ {A = ℕ} 0 1 = cc (i.0, e) in omega arith)
 
 -- a commit of a typed batch's lines is one of its operations
 module _ (m : VersionManager) (n : ℕ) (os : List Operation) (out : List ℕ) (r : Committed) (out' : List ℕ) where
   outcome-same : outcome_of m n (map as_line os) (length out) ≡ outcome_of m n os (length out)
-  outcome-same = ap (onward (judged ((bad_manager m ⇒ BadManager) ∷ []))) (commit-same (held_by m) n os (length out))
+  outcome-same = ap (result_and (judged ((bad_manager m ⇒ BadManager) ∷ []))) (commit-same (held_by m) n os (length out))
 
-  ends_same : (x : Result State) → outcome_of m n os (length out) ≡ x → CommitEnds x m (map as_line os) out r out' → CommitEnds x m os out r out'
-  ends_same (given s) h e =
+  ends_same : (x : Result State Refusal) → outcome_of m n os (length out) ≡ x → CommitEnds x m (map as_line os) out r out' → CommitEnds x m os out r out'
+  ends_same (Ok s) h e =
       let q = commit-lines-same (held_by m) n os (length out) s (onward-given (judged ((bad_manager m ⇒ BadManager) ∷ [])) (commit_of (held_by m) n os (length out)) s h).1 in
-      subst (λ (l : List Operation). CommitEnds (given s) m l out r out') q e
-  ends_same (refused k) h e = e
+      subst (λ (l : List Operation). CommitEnds (Ok s) m l out r out') q e
+  ends_same (Err k) h e = e
 
   pub typed-says : CommitSays m n (map as_line os) out r out' → CommitSays m n os out r out'
-  typed-says h = ends_same (outcome_of m n os (length out)) refl (subst (λ (x : Result State). CommitEnds x m (map as_line os) out r out') outcome-same h)
+  typed-says h = ends_same (outcome_of m n os (length out)) refl (subst (λ (x : Result State Refusal). CommitEnds x m (map as_line os) out r out') outcome-same h)
 
 pub says_same : (m : VersionManager) (n : ℕ) (os : List Operation) (out : List ℕ) (r : Committed) (out' : List ℕ) (k : ℕ) (l : List Operation) → n ≡ k → os ≡ l → CommitSays m n os out r out' → CommitSays m k l out r out'
 says_same m n os out r out' k l p q h = subst (λ (x : List Operation). CommitSays m k x out r out') q (subst (λ (x : ℕ). CommitSays m x os out r out') p h)
@@ -121,7 +115,7 @@ module _ (m : VersionManager) (b : PinBook) (ts rs : List ℕ) (v : Released) (t
     rowsets-are : rs' ≡ after (vacuum_verdict m b (length ts) (length rs)) (over (field 1 (list_of (held_by m) b)) rs) rs
     rowsets-are = i.rowsets ∙ ap (λ (d : Verdict). after d (over (field 1 (list_of (held_by m) b)) rs) rs) verdict-is
 
-    pub vacuum-no : (k : Refusal) → v.verdict ≡ Refused k → r.manager ≡ m → r.answer ≡ answer.Refused k → VacuumSays m b ts rs r ts' rs'
+    pub vacuum-no : (k : Refusal) → v.verdict ≡ Err k → r.manager ≡ m → r.answer ≡ Err k → VacuumSays m b ts rs r ts' rs'
     vacuum-no k e h a =
         record {
           answer = rw a (sym (ap (λ (d : Verdict). told d (length (list_of (held_by m) b) ∷ [])) e) ∙ says);
@@ -130,7 +124,7 @@ module _ (m : VersionManager) (b : PinBook) (ts rs : List ℕ) (v : Released) (t
           manager = subst (λ (d : Verdict). HandsBack d m (vacuumed (bound_of (held_by m) b) (held_by m)) r.manager) (sym e ∙ verdict-is) h;
         }
 
-    pub vacuum-yes : v.verdict ≡ Accepted → (r.manager.inner ≡ v.inner) × (r.manager.append ≡ 0) → r.answer ≡ answer.Listed v.count → VacuumSays m b ts rs r ts' rs'
+    pub vacuum-yes : v.verdict ≡ Ok tt → (r.manager.inner ≡ v.inner) × (r.manager.append ≡ 0) → r.answer ≡ Ok v.count → VacuumSays m b ts rs r ts' rs'
     vacuum-yes e h a =
         record {
           answer = rw (a, i.count e) (sym (ap (λ (d : Verdict). told d (length (list_of (held_by m) b) ∷ [])) e) ∙ says);
@@ -148,14 +142,14 @@ module _ (m : VersionManager) (t : TableNo) (b : Bool) (v : Relocked) (g : bad_m
     lock-told : told r.answer [] ≡ told (lock_verdict m t.0 b) []
     lock-told = ap (λ (d : Verdict). told d []) (a ∙ lock-verdict)
 
-    pub lock-no : (k : Refusal) → v.verdict ≡ Refused k → r.manager ≡ m → RelockSays m t b r
+    pub lock-no : (k : Refusal) → v.verdict ≡ Err k → r.manager ≡ m → RelockSays m t b r
     lock-no k e h =
         record {
           answer = lock-told;
           manager = subst (λ (d : Verdict). HandsBack d m (relocked t.0 b (held_by m)) r.manager) (sym e ∙ lock-verdict) h;
         }
 
-    pub lock-yes : v.verdict ≡ Accepted → (r.manager.inner ≡ v.inner) × (r.manager.append ≡ 0) → RelockSays m t b r
+    pub lock-yes : v.verdict ≡ Ok tt → (r.manager.inner ≡ v.inner) × (r.manager.append ≡ 0) → RelockSays m t b r
     lock-yes e h =
         record {
           answer = lock-told;
@@ -177,7 +171,7 @@ module _ (m : VersionManager) (out : List ℕ) (v : Rewrote) (out' : List ℕ) (
     checkpoint-bytes : out' ≡ after (checkpoint_verdict m (length out)) (over written out) out
     checkpoint-bytes = rw g i.bytes
 
-    pub checkpoint-no : (k : Refusal) → v.verdict ≡ Refused k → r.manager ≡ m → r.answer ≡ checkpointed.Refused k → CheckpointSays m out r out'
+    pub checkpoint-no : (k : Refusal) → v.verdict ≡ Err k → r.manager ≡ m → r.answer ≡ Err k → CheckpointSays m out r out'
     checkpoint-no k e h a =
         record {
           answer = rw a (sym (ap (λ (d : Verdict). told d (length written ∷ [])) e) ∙ checkpoint-says);
@@ -186,7 +180,7 @@ module _ (m : VersionManager) (out : List ℕ) (v : Rewrote) (out' : List ℕ) (
           room = λ b. i.within;
         }
 
-    pub checkpoint-yes : v.verdict ≡ Accepted → (r.manager.inner ≡ v.inner) × (r.manager.append ≡ 0) → r.answer ≡ checkpointed.Rewritten v.length → CheckpointSays m out r out'
+    pub checkpoint-yes : v.verdict ≡ Ok tt → (r.manager.inner ≡ v.inner) × (r.manager.append ≡ 0) → r.answer ≡ Ok v.length → CheckpointSays m out r out'
     checkpoint-yes e h a =
         record {
           answer = rw (a, i.counted) (sym (ap (λ (d : Verdict). told d (length written ∷ [])) e) ∙ checkpoint-says);

@@ -1,26 +1,25 @@
 -- What a grouping tells of the method's own proposition. Assumes nothing.
-use mathlib.Core.Path.{◌≡◌, sym, ap, subst, ◌∙◌}
+use mathlib.Core.Path.{◌≡◌, refl, sym, ap, subst, ◌∙◌}
 use mathlib.Core.Bool.{false}
 use mathlib.Core.List.{List, [], ◌∷◌, map}
 use Prim.Native.Nat.{ℕ, ◌+◌, ◌≤◌}
 use lib.ListN.{length, take}
 use borrow.Author.Tests.{ltb-false}
+use Rattle.std.specs.Prelude.{Ok, Err, Result}
+use Rattle.std.specs.Result.{result_and}
 use Rattle.lists.specs.Written.{over}
 use Rattle.ids.specs.Ids.{largest64}
 use Rattle.ids.specs.declared.refusal.Refusal.{Refusal}
-use Rattle.ids.specs.declared.refusal.Verdict.{Verdict}
-use Rattle.ids.specs.declared.refusal.Verdict.TheVariants.{Accepted, Refused}
+use Rattle.ids.specs.Verdicts.{judged, Verdict}
 use Rattle.ids.specs.Answers.{told, after}
 use Rattle.ids.proofs.Verdicts.{none-judged}
 use Rattle.transaction.specs.declared.Handles.{Handles}
-use Rattle.transaction.specs.declared.Grouping.{Grouping}
 use Rattle.transaction.specs.Groups.{Handle, handles_of, rowsets_in, lengths_in, counts_in, files_in, memories_in}
 use Rattle.transaction.specs.Says.{group_rules, GroupIs}
 use Rattle.transaction.specs.Chains.{paired}
 use Rattle.transaction.proofs.Links.{paired-of}
 use Rattle.version_manager.specs.declared.VersionManager.{VersionManager}
-use Rattle.version_manager.specs.declared.Grouped.{Grouped}
-use Rattle.version_manager.specs.declared.GroupAnswer.TheVariants as answer
+use Rattle.version_manager.specs.Answered.{Grouped}
 use Rattle.version_manager.specs.Managers.{held_by, bad_manager, Manages, HandsBack}
 use Rattle.version_manager.specs.Group.{group_told, vectors_drawn, grouped_by, group_verdict, GroupSays}
 
@@ -28,20 +27,33 @@ use Rattle.version_manager.specs.Group.{group_told, vectors_drawn, grouped_by, g
 pub handles-are : (h : Handles) (us ws : List ℕ) → us ≡ map (λ (k : Handle). k.rowset) (handles_of h) → ws ≡ map (λ (k : Handle). k.row) (handles_of h) → paired us ws ≡ handles_of h
 handles-are h us ws p q = rw (p, q) (paired-of (take h.count h.items))
 
+-- an answer that a verdict decides
+passed : (v : Verdict) (a b : ℕ) → result_and v (Ok a) ≡ Ok b → (v ≡ Ok tt) × (a ≡ b)
+passed (Ok _) a b h = (refl, cc)
+passed (Err k) a b h = absurd (cc)
+
+stopped : (v : Verdict) (a : ℕ) (k : Refusal) → result_and v (Ok a) ≡ Err k → v ≡ Err k
+stopped (Ok _) a k h = absurd (cc)
+stopped (Err j) a k h = cc
+
 -- a grouping for a manager that passed 29
-module _ (m : VersionManager) (h : Handles) (hs : List Handle) (e : hs ≡ handles_of h) (rs ls cs fs ms : List ℕ) (d : Grouping) (rs' ls' cs' fs' ms' : List ℕ)
+module _ (m : VersionManager) (h : Handles) (hs : List Handle) (e : hs ≡ handles_of h) (rs ls cs fs ms : List ℕ) (d : Result ℕ Refusal) (rs' ls' cs' fs' ms' : List ℕ)
     (b : bad_manager m ≡ false) (w : GroupIs hs h.count (held_by m).next_vector rs ls cs fs ms d rs' ls' cs' fs' ms') where
   i : GroupIs (handles_of h) h.count (held_by m).next_vector rs ls cs fs ms d rs' ls' cs' fs' ms'
   i = subst (λ (l : List Handle). GroupIs l h.count (held_by m).next_vector rs ls cs fs ms d rs' ls' cs' fs' ms') e w
 
-  verdict-is : d.verdict ≡ group_verdict m h rs ls cs fs ms
-  verdict-is = rw b i.verdict
+  abbrev own : Verdict
+  own = judged (group_rules (handles_of h) h.count (held_by m).next_vector (length rs) (length ls) (length cs) (length fs) (length ms))
+
+  verdict-is : own ≡ group_verdict m h rs ls cs fs ms
+  verdict-is = rw b refl
 
   -- the ids that are drawn fit
-  pub group-fits : d.verdict ≡ Accepted → (held_by m).next_vector + d.count ≤ largest64
-  group-fits a =
-      let z = none-judged (group_rules (handles_of h) h.count (held_by m).next_vector (length rs) (length ls) (length cs) (length fs) (length ms)) (sym i.verdict ∙ a) in
-      rw (i.count a) (ltb-false largest64 ((held_by m).next_vector + length (grouped_by h)) z.1.1.0)
+  pub group-fits : (n : ℕ) → d ≡ Ok n → (held_by m).next_vector + n ≤ largest64
+  group-fits n a =
+      let q = passed own (length (grouped_by h)) n (sym i.answer ∙ a) in
+      let z = none-judged (group_rules (handles_of h) h.count (held_by m).next_vector (length rs) (length ls) (length cs) (length fs) (length ms)) q.0 in
+      rw (sym q.1) (ltb-false largest64 ((held_by m).next_vector + length (grouped_by h)) z.1.1.0)
 
   module _ (r : Grouped) where
     buffers : group_told r.answer ≡ told (group_verdict m h rs ls cs fs ms) (length (grouped_by h) ∷ (held_by m).next_vector ∷ [])
@@ -56,17 +68,18 @@ module _ (m : VersionManager) (h : Handles) (hs : List Handle) (e : hs ≡ handl
       manager = k;
     }
 
-    pub group-no : (k : Refusal) → d.verdict ≡ Refused k → r.manager ≡ m → r.answer ≡ answer.Refused k → GroupSays m h rs ls cs fs ms r rs' ls' cs' fs' ms'
+    pub group-no : (k : Refusal) → d ≡ Err k → r.manager ≡ m → r.answer ≡ Err k → GroupSays m h rs ls cs fs ms r rs' ls' cs' fs' ms'
     group-no k v p a =
-        let q : Refused k ≡ group_verdict m h rs ls cs fs ms = sym v ∙ verdict-is in
+        let q : Err k ≡ group_verdict m h rs ls cs fs ms = sym (stopped own (length (grouped_by h)) k (sym i.answer ∙ v)) ∙ verdict-is in
         buffers
         (rw a (ap (λ (x : Verdict). told x (length (grouped_by h) ∷ (held_by m).next_vector ∷ [])) q))
         (subst (λ (x : Verdict). HandsBack x m (vectors_drawn (length (grouped_by h)) (held_by m)) r.manager) q p)
 
-    pub group-yes : d.verdict ≡ Accepted → Manages r.manager (vectors_drawn d.count (held_by m)) → group_told r.answer ≡ told Accepted (d.count ∷ (held_by m).next_vector ∷ [])
+    pub group-yes : (n : ℕ) → d ≡ Ok n → Manages r.manager (vectors_drawn n (held_by m)) → group_told r.answer ≡ told (Ok tt) (n ∷ (held_by m).next_vector ∷ [])
         → GroupSays m h rs ls cs fs ms r rs' ls' cs' fs' ms'
-    group-yes v p a =
-        let q : Accepted ≡ group_verdict m h rs ls cs fs ms = sym v ∙ verdict-is in
+    group-yes n v p a =
+        let w = passed own (length (grouped_by h)) n (sym i.answer ∙ v) in
+        let q : Ok tt ≡ group_verdict m h rs ls cs fs ms = sym w.0 ∙ verdict-is in
         buffers
-        (a ∙ ap (λ (n : ℕ). told Accepted (n ∷ (held_by m).next_vector ∷ [])) (i.count v) ∙ ap (λ (x : Verdict). told x (length (grouped_by h) ∷ (held_by m).next_vector ∷ [])) q)
-        (subst (λ (x : Verdict). HandsBack x m (vectors_drawn (length (grouped_by h)) (held_by m)) r.manager) q (rw (i.count v) at p))
+        (a ∙ ap (λ (k : ℕ). told (Ok tt) (k ∷ (held_by m).next_vector ∷ [])) (sym w.1) ∙ ap (λ (x : Verdict). told x (length (grouped_by h) ∷ (held_by m).next_vector ∷ [])) q)
+        (subst (λ (x : Verdict). HandsBack x m (vectors_drawn (length (grouped_by h)) (held_by m)) r.manager) q (subst (λ (k : ℕ). Manages r.manager (vectors_drawn k (held_by m))) (sym w.1) p))

@@ -7,14 +7,13 @@ use native.Mathlib.Omega.{arith}
 use borrow.Author.Tests.{le-ltb, le-leb, leb-false}
 use lib.Dec.{leb, ltb}
 use lib.ListN.{length}
+use Rattle.std.specs.Prelude.{Result, Ok, Err}
 use Rattle.lists.specs.Keyed.{all_of}
 use Rattle.lists.proofs.Tests.{neither}
 use Rattle.lists.proofs.Keyed.{all_map, all_of-all, all-all_of}
-use Rattle.ids.specs.declared.refusal.Verdict.{Verdict}
-use Rattle.ids.specs.declared.refusal.Verdict.TheVariants.{Accepted, Refused}
+use Rattle.ids.specs.declared.refusal.Refusal.{Refusal}
 use Rattle.ids.specs.declared.refusal.Refusal.TheVariants.{BadManager, BadPinBook, NotReportable}
-use Rattle.ids.specs.Verdicts.{◌⇒◌, judged}
-use Rattle.ids.specs.Results.{Result, given}
+use Rattle.ids.specs.Verdicts.{◌⇒◌, judged, Verdict}
 use Rattle.ids.proofs.Verdicts.{none-judged}
 use Rattle.ids.specs.Ids.{largest32, largest64}
 use Rattle.text.specs.Name.{is_name}
@@ -36,8 +35,7 @@ use Rattle.rewrite.specs.Says.{rewrite_rules, with_rewritten}
 use Rattle.transaction.specs.Groups.{handles_of}
 use Rattle.transaction.specs.Says.{group_rules}
 use Rattle.version_manager.specs.declared.VersionManager.{VersionManager}
-use Rattle.version_manager.specs.declared.Committed.{Committed}
-use Rattle.version_manager.specs.declared.Reported.{Reported}
+use Rattle.version_manager.specs.Answered.{Committed, Reported}
 use Rattle.version_manager.specs.Managers.{held_by, bad_manager, Follows, HandsBack}
 use Rattle.version_manager.specs.Draw.{draw_rules, rowset_verdict, vector_verdict, rowset_drawn, vector_drawn}
 use Rattle.version_manager.specs.Group.{vectors_drawn, grouped_by, group_verdict}
@@ -107,12 +105,12 @@ start-sound n k =
     (record { manifest = omega arith; names = refl; ordered = record { tables = refl; pairs = refl; vectors = refl }; below = refl; pairs = refl; vectors = refl; whole = refl })
 
 -- an accepted call that drops what was kept
-handed-back : (d : Verdict) (m n : VersionManager) (s : State) → d ≡ Accepted → HandsBack d m s n → (Hands n.inner s → bad_inner n.inner ≡ false) → bad_manager n ≡ false
-handed-back Accepted m n s e h f = nothing-passes n (f h.hands) h.nothing
-handed-back (Refused k) m n s e h f = absurd (let z : ◌≡◌ {A = ℕ} 0 1 = cc in omega arith)
+handed-back : (d : Verdict) (m n : VersionManager) (s : State) → d ≡ Ok tt → HandsBack d m s n → (Hands n.inner s → bad_inner n.inner ≡ false) → bad_manager n ≡ false
+handed-back (Ok _) m n s e h f = nothing-passes n (f h.hands) h.nothing
+handed-back (Err k) m n s e h f = absurd (let z : ◌≡◌ {A = ℕ} 0 1 = cc in omega arith)
 
 -- a commit by a manager that passes 29
-pub commit-passes : (m n : VersionManager) (k : ℕ) (os : List Operation) (room : ℕ) (s : State) → bad_manager m ≡ false → commit_of (held_by m) k os room ≡ given s
+pub commit-passes : (m n : VersionManager) (k : ℕ) (os : List Operation) (room : ℕ) (s : State) → bad_manager m ≡ false → commit_of (held_by m) k os room ≡ Ok s
     → Follows n s (held_by m) (length (append_of os)) → bad_manager n ≡ false
 commit-passes m n k os room s b h f =
     let good = inner-passes m b in
@@ -152,16 +150,16 @@ checkpoint-laws =
     }
 
 ended : (m : VersionManager) (n : ℕ) (os : List Operation) (out : List ℕ) (s : State) (r : Committed) (out' : List ℕ)
-    → outcome_of m n os (length out) ≡ given s → CommitSays m n os out r out' → bad_manager r.manager ≡ false
+    → outcome_of m n os (length out) ≡ Ok s → CommitSays m n os out r out' → bad_manager r.manager ≡ false
 ended m n os out s r out' h w =
     let p = onward-given (judged ((bad_manager m ⇒ BadManager) ∷ [])) (commit_of (held_by m) n os (length out)) s h in
-    let e : CommitEnds (given s) m os out r out' = subst (λ (x : Result State). CommitEnds x m os out r out') h w in
+    let e : CommitEnds (Ok s) m os out r out' = subst (λ (x : Result State Refusal). CommitEnds x m os out r out') h w in
     commit-passes m r.manager n os (length out) s (none-judged ((bad_manager m ⇒ BadManager) ∷ []) p.0).0 p.1 e.1
 
 pub ended-laws : CommitLaws
 ended-laws = record { sound = ended }
 
-taken_back : (m : VersionManager) (b : PinBook) (landed : ℕ) (r : Reported) → ReportSays m b landed r → report_verdict m b landed ≡ Accepted → bad_manager r.manager ≡ false
+taken_back : (m : VersionManager) (b : PinBook) (landed : ℕ) (r : Reported) → ReportSays m b landed r → report_verdict m b landed ≡ Ok tt → bad_manager r.manager ≡ false
 taken_back m b landed r w a =
     let p = none-judged ((bad_manager m ⇒ BadManager) ∷ (bad_book (held_by m).epoch b ⇒ BadPinBook) ∷ (not_reportable m b landed ⇒ NotReportable) ∷ []) a in
     let few : landed < m.append = leb-false m.append landed (neither (leb m.append landed) (pinned (held_by m).epoch (pins_of b)) p.1.1.0).0 in

@@ -5,11 +5,10 @@ use mathlib.Core.List.{List, ◌∷◌}
 use Prim.Native.Nat.{ℕ}
 use native.Mathlib.Omega.{arith}
 use lib.ListN.{length}
+use Rattle.std.specs.Prelude.{Ok, Err}
 use Rattle.ids.specs.declared.refusal.Refusal.{Refusal}
 use Rattle.ids.specs.declared.refusal.Refusal.TheVariants.{BadManager}
-use Rattle.ids.specs.declared.refusal.Verdict.{Verdict}
-use Rattle.ids.specs.declared.refusal.Verdict.TheVariants.{Accepted, Refused}
-use Rattle.ids.specs.Verdicts.{Rule, ◌⇒◌, judged}
+use Rattle.ids.specs.Verdicts.{Rule, ◌⇒◌, judged, Verdict}
 use Rattle.ids.specs.Answers.{Told}
 use Rattle.manifest.specs.Operations.{Operation}
 use Rattle.commit.specs.Commit.{append_of}
@@ -26,19 +25,19 @@ use Rattle.version_manager.proofs.Managers.{inner-passes}
 use Rattle.version_manager.proofs.Laws.{commit-passes}
 
 -- 29 passes, and then the call's own rules
-pub passed : (b : Bool) (r : Refusal) (l : List Rule) → judged ((b ⇒ r) ∷ l) ≡ Accepted → (b ≡ false) × (judged l ≡ Accepted)
+pub passed : (b : Bool) (r : Refusal) (l : List Rule) → judged ((b ⇒ r) ∷ l) ≡ Ok tt → (b ≡ false) × (judged l ≡ Ok tt)
 passed true r l h = absurd (let z : ◌≡◌ {A = ℕ} 0 1 = cc in omega arith)
 passed false r l h = (refl, h)
 
 pub made-sound : (v : Verdict) (os : List Operation) (values : List ℕ) (m : VersionManager) (out : List ℕ) (t : Told) (n : VersionManager) (out' : List ℕ)
-    → MadeSays v os values m out t n out' → v ≡ Accepted → bad_manager m ≡ false → Accepts (held_by m) os (length out) → bad_manager n ≡ false
+    → MadeSays v os values m out t n out' → v ≡ Ok tt → bad_manager m ≡ false → Accepts (held_by m) os (length out) → bad_manager n ≡ false
 made-sound v os values m out t n out' h e b a =
     commit-passes m n (length os) os (length out) (committed os (held_by m)) b a (subst (λ (d : Verdict). HandsOn d m (committed os (held_by m)) (length (append_of os)) n) e h.manager)
 
 made-refused : (v : Verdict) (os : List Operation) (values : List ℕ) (m : VersionManager) (out : List ℕ) (t : Told) (n : VersionManager) (out' : List ℕ) (k : Refusal)
-    → MadeSays v os values m out t n out' → v ≡ Refused k → (n ≡ m) × (out' ≡ out)
-made-refused Accepted os values m out t n out' k h e = absurd (let z : ◌≡◌ {A = ℕ} 0 1 = cc in omega arith)
-made-refused (Refused j) os values m out t n out' k h e = (h.manager, h.bytes)
+    → MadeSays v os values m out t n out' → v ≡ Err k → (n ≡ m) × (out' ≡ out)
+made-refused (Ok _) os values m out t n out' k h e = absurd (let z : ◌≡◌ {A = ℕ} 0 1 = cc in omega arith)
+made-refused (Err j) os values m out t n out' k h e = (h.manager, h.bytes)
 
 pub table-laws : TableLaws
 table-laws =

@@ -1,23 +1,19 @@
 -- Checkpoint: hands out the rewritten manifest of what is shown now, without a reopen. Assumes nothing.
-use Rattle.std.specs.Prelude.{◌≡◌, false, List, [], ◌∷◌, ℕ, ◌≤◌, length}
+use Rattle.std.specs.Prelude.{◌≡◌, false, List, [], ◌∷◌, ℕ, ◌≤◌, length, Ok, Err}
 use Rattle.lists.specs.Written.{over}
 use Rattle.ids.specs.declared.refusal.Refusal.TheVariants.{BadManager}
-use Rattle.ids.specs.declared.refusal.Verdict.{Verdict}
-use Rattle.ids.specs.declared.refusal.Verdict.TheVariants.{Accepted, Refused}
-use Rattle.ids.specs.Verdicts.{◌⇒◌, judged}
+use Rattle.ids.specs.Verdicts.{◌⇒◌, judged, Verdict}
 use Rattle.ids.specs.Answers.{Told, told, after}
 use Rattle.rewrite.specs.Rewritten.{rewritten_of, longest_rewritten}
 use Rattle.rewrite.specs.Says.{rewrite_rules, with_rewritten}
 use Rattle.version_manager.specs.declared.VersionManager.{VersionManager}
-use Rattle.version_manager.specs.declared.CheckpointAnswer.{CheckpointAnswer}
-use Rattle.version_manager.specs.declared.CheckpointAnswer.TheVariants as answer
-use Rattle.version_manager.specs.declared.Checkpointed.{Checkpointed}
+use Rattle.version_manager.specs.Answered.{Checkpointed, CheckpointAnswer}
 use Rattle.version_manager.specs.Managers.{held_by, bad_manager, HandsBack}
 
 -- accepted: the rewritten manifest's length
 abbrev pub checkpoint_told : CheckpointAnswer → Told
-checkpoint_told (answer.Rewritten n) = told Accepted (n ∷ [])
-checkpoint_told (answer.Refused k) = told (Refused k) []
+checkpoint_told (Ok n) = told (Ok tt) (n ∷ [])
+checkpoint_told (Err k) = told (Err k) []
 
 -- 29, 9
 abbrev pub checkpoint_verdict : VersionManager → ℕ → Verdict

@@ -1,16 +1,12 @@
 -- Create of a table: what the call says of its answer, the lent buffer and the manager handed back. A refused one writes nothing. Assumes nothing.
-use Rattle.std.specs.Prelude.{List, [], ◌∷◌, ℕ, ◌+◌, length}
+use Rattle.std.specs.Prelude.{List, [], ◌∷◌, ℕ, ◌+◌, length, Ok, Err}
 use Rattle.ids.specs.declared.refusal.Refusal.TheVariants.{BadManager}
-use Rattle.ids.specs.declared.refusal.Verdict.{Verdict}
-use Rattle.ids.specs.declared.refusal.Verdict.TheVariants.{Accepted, Refused}
-use Rattle.ids.specs.Verdicts.{◌⇒◌, judged}
+use Rattle.ids.specs.Verdicts.{◌⇒◌, judged, Verdict}
 use Rattle.ids.specs.Answers.{Told, told}
 use Rattle.commit.specs.Commit.{append_of}
 use Rattle.table.specs.Create.{created_by, create_rules}
 use Rattle.version_manager.specs.declared.VersionManager.{VersionManager}
-use Rattle.version_manager.specs.declared.CreateAnswer.{CreateAnswer}
-use Rattle.version_manager.specs.declared.CreateAnswer.TheVariants as answer
-use Rattle.version_manager.specs.declared.Created.{Created}
+use Rattle.version_manager.specs.Answered.{Created, CreateAnswer}
 use Rattle.version_manager.specs.Managers.{held_by, bad_manager}
 use Rattle.version_manager.specs.Made.{MadeSays}
 
@@ -20,8 +16,8 @@ create_verdict m shape name room = judged ((bad_manager m ⇒ BadManager) ∷ cr
 
 -- accepted: the new table's id, the new epoch and the append's length
 abbrev pub create_told : CreateAnswer → Told
-create_told (answer.Table t e n) = told Accepted (t.0 ∷ e ∷ n ∷ [])
-create_told (answer.Refused k) = told (Refused k) []
+create_told (Ok a) = told (Ok tt) (a.table.0 ∷ a.epoch ∷ a.length ∷ [])
+create_told (Err k) = told (Err k) []
 
 -- what a create by m of a table with this shape and name says, lent a buffer for the append
 abbrev pub CreateSays : VersionManager → ℕ → List ℕ → List ℕ → Created → List ℕ → Type 0

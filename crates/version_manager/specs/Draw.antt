@@ -1,19 +1,12 @@
 -- Draw: answers the next rowset or vector id and raises it by one. Assumes nothing.
-use Rattle.std.specs.Prelude.{◌≡◌, List, [], ◌∷◌, ℕ, ◌+◌, leb}
+use Rattle.std.specs.Prelude.{◌≡◌, List, [], ◌∷◌, ℕ, ◌+◌, leb, Ok, Err}
 use Rattle.ids.specs.Ids.{largest32, largest64}
 use Rattle.ids.specs.declared.refusal.Refusal.TheVariants.{BadManager, IdsUsedUp}
-use Rattle.ids.specs.declared.refusal.Verdict.{Verdict}
-use Rattle.ids.specs.declared.refusal.Verdict.TheVariants.{Accepted, Refused}
-use Rattle.ids.specs.Verdicts.{Rule, ◌⇒◌, judged}
+use Rattle.ids.specs.Verdicts.{Rule, ◌⇒◌, judged, Verdict}
 use Rattle.ids.specs.Answers.{Told, told}
 use Rattle.version_state.specs.State.{State, with_next}
 use Rattle.version_manager.specs.declared.VersionManager.{VersionManager}
-use Rattle.version_manager.specs.declared.RowsetAnswer.{RowsetAnswer}
-use Rattle.version_manager.specs.declared.RowsetAnswer.TheVariants as rowset
-use Rattle.version_manager.specs.declared.DrawnRowset.{DrawnRowset}
-use Rattle.version_manager.specs.declared.VectorAnswer.{VectorAnswer}
-use Rattle.version_manager.specs.declared.VectorAnswer.TheVariants as vector
-use Rattle.version_manager.specs.declared.DrawnVector.{DrawnVector}
+use Rattle.version_manager.specs.Answered.{DrawnRowset, DrawnVector, RowsetAnswer, VectorAnswer}
 use Rattle.version_manager.specs.Managers.{held_by, bad_manager, HandsBack}
 
 -- 29, then 26: no id below the largest value is left
@@ -27,12 +20,12 @@ abbrev pub vector_verdict : VersionManager → Verdict
 vector_verdict m = judged (draw_rules m (held_by m).next_vector largest64)
 
 abbrev pub rowset_told : RowsetAnswer → Told
-rowset_told (rowset.Id i) = told Accepted (i.0 ∷ [])
-rowset_told (rowset.Refused k) = told (Refused k) []
+rowset_told (Ok i) = told (Ok tt) (i.0 ∷ [])
+rowset_told (Err k) = told (Err k) []
 
 abbrev pub vector_told : VectorAnswer → Told
-vector_told (vector.Id i) = told Accepted (i.0 ∷ [])
-vector_told (vector.Refused k) = told (Refused k) []
+vector_told (Ok i) = told (Ok tt) (i.0 ∷ [])
+vector_told (Err k) = told (Err k) []
 
 abbrev pub rowset_drawn : State → State
 rowset_drawn s = with_next s s.next_table (s.next_rowset + 1) s.next_vector

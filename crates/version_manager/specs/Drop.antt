@@ -1,12 +1,11 @@
 -- Drop of a table: what the call says of its answer, the lent buffer and the manager handed back. Assumes nothing.
 use Rattle.std.specs.Prelude.{List, [], ◌∷◌, ℕ, ◌+◌, length}
 use Rattle.ids.specs.declared.refusal.Refusal.TheVariants.{BadManager}
-use Rattle.ids.specs.declared.refusal.Verdict.{Verdict}
-use Rattle.ids.specs.Verdicts.{◌⇒◌, judged}
+use Rattle.ids.specs.Verdicts.{◌⇒◌, judged, Verdict}
 use Rattle.commit.specs.Commit.{append_of}
 use Rattle.table.specs.Drop.{dropped_by, drop_rules}
 use Rattle.version_manager.specs.declared.VersionManager.{VersionManager}
-use Rattle.version_manager.specs.declared.Committed.{Committed}
+use Rattle.version_manager.specs.Answered.{Committed}
 use Rattle.version_manager.specs.Managers.{held_by, bad_manager}
 use Rattle.version_manager.specs.Commit.{commit_told}
 use Rattle.version_manager.specs.Made.{MadeSays}

@@ -1,25 +1,21 @@
 -- Group: row handles become one delete vector a rowset, and the vectors' ids are drawn. Assumes nothing.
-use Rattle.std.specs.Prelude.{◌≡◌, List, [], ◌∷◌, ℕ, ◌+◌, length}
+use Rattle.std.specs.Prelude.{◌≡◌, List, [], ◌∷◌, ℕ, ◌+◌, length, Ok, Err}
 use Rattle.lists.specs.Written.{over}
 use Rattle.ids.specs.declared.refusal.Refusal.TheVariants.{BadManager}
-use Rattle.ids.specs.declared.refusal.Verdict.{Verdict}
-use Rattle.ids.specs.declared.refusal.Verdict.TheVariants.{Accepted, Refused}
-use Rattle.ids.specs.Verdicts.{◌⇒◌, judged}
+use Rattle.ids.specs.Verdicts.{◌⇒◌, judged, Verdict}
 use Rattle.ids.specs.Answers.{Told, told, after}
 use Rattle.transaction.specs.declared.Handles.{Handles}
 use Rattle.transaction.specs.Groups.{Vector, handles_of, vectors_of, rowsets_in, lengths_in, counts_in, files_in, memories_in}
 use Rattle.transaction.specs.Says.{group_rules}
 use Rattle.version_state.specs.State.{State, with_next}
 use Rattle.version_manager.specs.declared.VersionManager.{VersionManager}
-use Rattle.version_manager.specs.declared.GroupAnswer.{GroupAnswer}
-use Rattle.version_manager.specs.declared.GroupAnswer.TheVariants as answer
-use Rattle.version_manager.specs.declared.Grouped.{Grouped}
+use Rattle.version_manager.specs.Answered.{Grouped, GroupAnswer}
 use Rattle.version_manager.specs.Managers.{held_by, bad_manager, HandsBack}
 
 -- accepted: how many vectors there are, and the first one's id; the others' ids follow it
 abbrev pub group_told : GroupAnswer → Told
-group_told (answer.Vectors n i) = told Accepted (n ∷ i.0 ∷ [])
-group_told (answer.Refused k) = told (Refused k) []
+group_told (Ok a) = told (Ok tt) (a.count ∷ a.first.0 ∷ [])
+group_told (Err k) = told (Err k) []
 
 -- n vector ids are drawn
 abbrev pub vectors_drawn : ℕ → State → State

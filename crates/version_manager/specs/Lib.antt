@@ -1,5 +1,6 @@
 -- The definitions that this crate's contracts cite. Assumes nothing.
 pub mod Managers
+pub mod Answered
 pub mod Draw
 pub mod Group
 pub mod Commit

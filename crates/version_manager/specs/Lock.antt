@@ -2,12 +2,11 @@
 use Rattle.std.specs.Prelude.{◌≡◌, Bool, true, false, [], ◌∷◌, ℕ}
 use Rattle.ids.specs.declared.TableNo.{TableNo}
 use Rattle.ids.specs.declared.refusal.Refusal.TheVariants.{BadManager}
-use Rattle.ids.specs.declared.refusal.Verdict.{Verdict}
-use Rattle.ids.specs.Verdicts.{◌⇒◌, judged}
+use Rattle.ids.specs.Verdicts.{◌⇒◌, judged, Verdict}
 use Rattle.ids.specs.Answers.{told}
 use Rattle.transaction_manager.specs.Locks.{relocked, lock_rules}
 use Rattle.version_manager.specs.declared.VersionManager.{VersionManager}
-use Rattle.version_manager.specs.declared.Locked.{Locked}
+use Rattle.version_manager.specs.Answered.{Locked}
 use Rattle.version_manager.specs.Managers.{held_by, bad_manager, HandsBack}
 
 -- the lock of table t is to be held or to be free

@@ -1,7 +1,7 @@
 -- A commit that a call makes itself from what is shown now, under the call's own verdict. Assumes nothing.
 use Rattle.std.specs.Prelude.{◌≡◌, List, ℕ, length}
 use Rattle.lists.specs.Written.{over}
-use Rattle.ids.specs.declared.refusal.Verdict.{Verdict}
+use Rattle.ids.specs.Verdicts.{Verdict}
 use Rattle.ids.specs.Answers.{Told, told, after}
 use Rattle.manifest.specs.Operations.{Operation}
 use Rattle.commit.specs.Commit.{append_of}

@@ -1,7 +1,6 @@
 -- Managers: what one stands for, what 29 judges of it, and what a call hands back. What a manager holds beside its state is said here. Assumes nothing.
-use Rattle.std.specs.Prelude.{◌≡◌, Bool, not, ◌&&◌, ◌||◌, [], ℕ, eqb}
-use Rattle.ids.specs.declared.refusal.Verdict.{Verdict}
-use Rattle.ids.specs.declared.refusal.Verdict.TheVariants.{Accepted, Refused}
+use Rattle.std.specs.Prelude.{◌≡◌, Bool, not, ◌&&◌, ◌||◌, [], ℕ, eqb, Ok, Err}
+use Rattle.ids.specs.Verdicts.{Verdict}
 use Rattle.version_state.specs.State.{State, start, state_of, lengthened, Hands}
 use Rattle.version_state.specs.Sound.{bad_inner}
 use Rattle.pins.specs.Book.{Keeps}
@@ -41,13 +40,13 @@ pub record Follows (m : VersionManager) (s f : State) (n : ℕ) : Type 0 where
 
 -- the manager handed back: on a refusal the very same m, and else one that stands for s
 abbrev pub HandsBack : Verdict → VersionManager → State → VersionManager → Type 0
-HandsBack Accepted m s n = Manages n s
-HandsBack (Refused k) m s n = n ≡ m
+HandsBack (Ok _) m s n = Manages n s
+HandsBack (Err k) m s n = n ≡ m
 
 -- by a commit of k bytes: the state that it started from is kept
 abbrev pub HandsOn : Verdict → VersionManager → State → ℕ → VersionManager → Type 0
-HandsOn Accepted m s k n = Follows n s (held_by m) k
-HandsOn (Refused r) m s k n = n ≡ m
+HandsOn (Ok _) m s k n = Follows n s (held_by m) k
+HandsOn (Err r) m s k n = n ≡ m
 
 -- fresh: a manager at the start, and an empty book
 pub record FreshSays (r : Opened) : Type 0 where

@@ -1,23 +1,19 @@
 -- Report of a short write: the last commit is taken back, and the manifest keeps the bytes that landed. Assumes nothing.
-use Rattle.std.specs.Prelude.{◌≡◌, Bool, ◌||◌, [], ◌∷◌, ℕ, ◌+◌, leb}
+use Rattle.std.specs.Prelude.{◌≡◌, Bool, ◌||◌, [], ◌∷◌, ℕ, ◌+◌, leb, Ok, Err}
 use Rattle.ids.specs.declared.refusal.Refusal.TheVariants.{BadManager, BadPinBook, NotReportable}
-use Rattle.ids.specs.declared.refusal.Verdict.{Verdict}
-use Rattle.ids.specs.declared.refusal.Verdict.TheVariants.{Accepted, Refused}
-use Rattle.ids.specs.Verdicts.{◌⇒◌, judged}
+use Rattle.ids.specs.Verdicts.{◌⇒◌, judged, Verdict}
 use Rattle.ids.specs.Answers.{Told, told}
 use Rattle.version_state.specs.State.{State, with_epoch}
 use Rattle.pins.specs.declared.PinBook.{PinBook}
 use Rattle.pins.specs.Book.{pins_of, bad_book, pinned}
 use Rattle.version_manager.specs.declared.VersionManager.{VersionManager}
-use Rattle.version_manager.specs.declared.ReportAnswer.{ReportAnswer}
-use Rattle.version_manager.specs.declared.ReportAnswer.TheVariants as answer
-use Rattle.version_manager.specs.declared.Reported.{Reported}
+use Rattle.version_manager.specs.Answered.{Reported, ReportAnswer}
 use Rattle.version_manager.specs.Managers.{held_by, former_by, bad_manager, HandsBack}
 
 -- accepted: the epoch that is current again, and the manifest's length
 abbrev pub report_told : ReportAnswer → Told
-report_told (answer.TakenBack e n) = told Accepted (e ∷ n ∷ [])
-report_told (answer.Refused k) = told (Refused k) []
+report_told (Ok a) = told (Ok tt) (a.epoch ∷ a.manifest ∷ [])
+report_told (Err k) = told (Err k) []
 
 -- of m, with the book b: so many bytes of the last append landed
 module _ (m : VersionManager) (b : PinBook) (landed : ℕ) where

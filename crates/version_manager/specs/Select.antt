@@ -2,10 +2,8 @@
 use Rattle.std.specs.Prelude.{List, ◌∷◌, ℕ, length}
 use Rattle.ids.specs.declared.TableNo.{TableNo}
 use Rattle.ids.specs.declared.refusal.Refusal.TheVariants.{BadManager}
-use Rattle.ids.specs.declared.refusal.Verdict.{Verdict}
-use Rattle.ids.specs.Verdicts.{◌⇒◌, judged}
-use Rattle.compactor.specs.declared.SelectAnswer.{SelectAnswer}
-use Rattle.compactor.specs.Says.{select_rules, Selected}
+use Rattle.ids.specs.Verdicts.{◌⇒◌, judged, Verdict}
+use Rattle.compactor.specs.Says.{select_rules, Selected, SelectAnswer}
 use Rattle.version_manager.specs.declared.VersionManager.{VersionManager}
 use Rattle.version_manager.specs.Managers.{held_by, bad_manager}
 

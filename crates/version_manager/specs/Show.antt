@@ -1,11 +1,9 @@
 -- Show: what the calls say of their answers and the lent slices; 29, 28, 24, 9. Assumes nothing.
 use Rattle.std.specs.Prelude.{List, ◌∷◌, ℕ, length}
 use Rattle.ids.specs.declared.refusal.Refusal.TheVariants.{BadManager}
-use Rattle.ids.specs.declared.refusal.Verdict.{Verdict}
-use Rattle.ids.specs.Verdicts.{Rule, ◌⇒◌, judged}
+use Rattle.ids.specs.Verdicts.{Rule, ◌⇒◌, judged, Verdict}
 use Rattle.pins.specs.declared.PinBook.{PinBook}
-use Rattle.show.specs.declared.ShowAnswer.{ShowAnswer}
-use Rattle.show.specs.Says.{show_pairs_rules, show_vectors_rules, show_tables_rules, PairsShown, VectorsShown, TablesShown}
+use Rattle.show.specs.Says.{show_pairs_rules, show_vectors_rules, show_tables_rules, PairsShown, VectorsShown, TablesShown, ShowAnswer}
 use Rattle.version_manager.specs.declared.VersionManager.{VersionManager}
 use Rattle.version_manager.specs.Managers.{held_by, bad_manager}
 

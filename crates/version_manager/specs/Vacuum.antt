@@ -1,25 +1,21 @@
 -- Vacuum: what the call says of its answer, the lent slices and the manager handed back. Assumes nothing.
-use Rattle.std.specs.Prelude.{◌≡◌, List, [], ◌∷◌, ℕ, length}
+use Rattle.std.specs.Prelude.{◌≡◌, List, [], ◌∷◌, ℕ, length, Ok, Err}
 use Rattle.lists.specs.Written.{over}
 use Rattle.ids.specs.declared.refusal.Refusal.TheVariants.{BadManager}
-use Rattle.ids.specs.declared.refusal.Verdict.{Verdict}
-use Rattle.ids.specs.declared.refusal.Verdict.TheVariants.{Accepted, Refused}
-use Rattle.ids.specs.Verdicts.{◌⇒◌, judged}
+use Rattle.ids.specs.Verdicts.{◌⇒◌, judged, Verdict}
 use Rattle.ids.specs.Answers.{Told, told, after}
 use Rattle.snapshot.specs.Entries.{field}
 use Rattle.pins.specs.declared.PinBook.{PinBook}
 use Rattle.vacuum.specs.LetGo.{vacuumed}
 use Rattle.vacuum.specs.Says.{bound_of, list_of, vacuum_rules}
 use Rattle.version_manager.specs.declared.VersionManager.{VersionManager}
-use Rattle.version_manager.specs.declared.VacuumAnswer.{VacuumAnswer}
-use Rattle.version_manager.specs.declared.VacuumAnswer.TheVariants as answer
-use Rattle.version_manager.specs.declared.Vacuumed.{Vacuumed}
+use Rattle.version_manager.specs.Answered.{Vacuumed, VacuumAnswer}
 use Rattle.version_manager.specs.Managers.{held_by, bad_manager, HandsBack}
 
 -- accepted: how many deletions are listed
 abbrev pub vacuum_told : VacuumAnswer → Told
-vacuum_told (answer.Listed n) = told Accepted (n ∷ [])
-vacuum_told (answer.Refused k) = told (Refused k) []
+vacuum_told (Ok n) = told (Ok tt) (n ∷ [])
+vacuum_told (Err k) = told (Err k) []
 
 -- 29, 28, 9
 abbrev pub vacuum_verdict : VersionManager → PinBook → ℕ → ℕ → Verdict

@@ -25,14 +25,12 @@ ghost use Rattle.version_manager.specs.TableLaws.{TableLaws};
 ghost use Rattle.version_manager.specs.CompactLaws.{CompactLaws};
 
 use compaction::NewRowset;
-use compactor::SelectAnswer;
 use ids::limits::{LARGEST_32, LARGEST_64, LONGEST_LINE, MOST_OPERATIONS};
 use ids::name::Name;
-use ids::refusal::{Refusal, Verdict};
+use ids::refusal::Refusal;
 use ids::{RowsetNo, TableNo, VectorNo};
 use manifest::operation::Batch;
 use pins::PinBook;
-use show::ShowAnswer;
 use snapshot::rowsets::Rowsets;
 use snapshot::tables::Tables;
 use snapshot::vectors::Vectors;
@@ -57,114 +55,54 @@ pub struct Opened {
     pub book: PinBook,
 }
 
-#[derive(Clone, Copy)]
-pub enum RowsetAnswer {
-    Id(RowsetNo),
-    Refused(Refusal),
-}
-
+// The manager that a call hands back, and what it answers.
 #[derive(Drop)]
-pub struct DrawnRowset {
+pub struct Answered<T> {
     pub manager: VersionManager,
-    pub answer: RowsetAnswer,
+    pub answer: Result<T, Refusal>,
 }
 
+// How many vectors there are, and the first one's id; the others' ids follow it.
 #[derive(Clone, Copy)]
-pub enum VectorAnswer {
-    Id(VectorNo),
-    Refused(Refusal),
+pub struct NewVectors {
+    pub count: usize,
+    pub first: VectorNo,
 }
 
-#[derive(Drop)]
-pub struct DrawnVector {
-    pub manager: VersionManager,
-    pub answer: VectorAnswer,
-}
-
+// The new epoch, and how many bytes there are to append.
 #[derive(Clone, Copy)]
-pub enum GroupAnswer {
-    // How many vectors there are, and the first one's id; the others' ids follow it.
-    Vectors(usize, VectorNo),
-    Refused(Refusal),
+pub struct Appended {
+    pub epoch: u32,
+    pub length: usize,
 }
 
-#[derive(Drop)]
-pub struct Grouped {
-    pub manager: VersionManager,
-    pub answer: GroupAnswer,
-}
-
+// The new table's id, the new epoch, and how many bytes there are to append.
 #[derive(Clone, Copy)]
-pub enum CommitAnswer {
-    // The new epoch, and how many bytes there are to append.
-    Appended(u32, usize),
-    Refused(Refusal),
+pub struct NewTable {
+    pub table: TableNo,
+    pub epoch: u32,
+    pub length: usize,
 }
 
-#[derive(Drop)]
-pub struct Committed {
-    pub manager: VersionManager,
-    pub answer: CommitAnswer,
-}
-
+// The epoch that is current again, and the manifest's length.
 #[derive(Clone, Copy)]
-pub enum CreateAnswer {
-    // The new table's id, the new epoch, and how many bytes there are to append.
-    Table(TableNo, u32, usize),
-    Refused(Refusal),
+pub struct TakenBack {
+    pub epoch: u32,
+    pub manifest: usize,
 }
 
-#[derive(Drop)]
-pub struct Created {
-    pub manager: VersionManager,
-    pub answer: CreateAnswer,
-}
-
-#[derive(Clone, Copy)]
-pub enum VacuumAnswer {
-    // How many deletions are listed.
-    Listed(usize),
-    Refused(Refusal),
-}
-
-#[derive(Drop)]
-pub struct Vacuumed {
-    pub manager: VersionManager,
-    pub answer: VacuumAnswer,
-}
-
-#[derive(Clone, Copy)]
-pub enum CheckpointAnswer {
-    // How many bytes the rewritten manifest has.
-    Rewritten(usize),
-    Refused(Refusal),
-}
-
-#[derive(Drop)]
-pub struct Checkpointed {
-    pub manager: VersionManager,
-    pub answer: CheckpointAnswer,
-}
-
-#[derive(Clone, Copy)]
-pub enum ReportAnswer {
-    // The epoch that is current again, and the manifest's length.
-    TakenBack(u32, usize),
-    Refused(Refusal),
-}
-
-#[derive(Drop)]
-pub struct Reported {
-    pub manager: VersionManager,
-    pub answer: ReportAnswer,
-}
-
+pub type DrawnRowset = Answered<RowsetNo>;
+pub type DrawnVector = Answered<VectorNo>;
+pub type Grouped = Answered<NewVectors>;
+pub type Committed = Answered<Appended>;
+pub type Created = Answered<NewTable>;
+// How many deletions are listed.
+pub type Vacuumed = Answered<usize>;
+// How many bytes the rewritten manifest has.
+pub type Checkpointed = Answered<usize>;
+pub type Reported = Answered<TakenBack>;
 // After a lock was taken or given back.
-#[derive(Drop)]
-pub struct Locked {
-    pub manager: VersionManager,
-    pub answer: Verdict,
-}
+pub type Locked = Answered<()>;
 
 // Every manager that is handed back is made here, but those of commits: nothing is kept.
 pub fn handed(inner: VersionManagerInner) -> VersionManager
@@ -230,27 +168,27 @@ impl VersionManager {
         ensures { DrawRowsetSays self result }
     {
         if self.bad() {
-            return DrawnRowset {
+            return Answered {
                 manager: self,
-                answer: RowsetAnswer::Refused(Refusal::BadManager),
+                answer: Err(Refusal::BadManager),
             };
         }
         let mut inner = self.inner;
         let mut next = inner.next;
         let id = next.rowset.0;
         if LARGEST_32 <= id {
-            return DrawnRowset {
+            return Answered {
                 manager: self,
-                answer: RowsetAnswer::Refused(Refusal::IdsUsedUp),
+                answer: Err(Refusal::IdsUsedUp),
             };
         }
         let raised = RowsetNo(id + 1);
         next.rowset = raised;
         inner.next = next;
         let manager = handed(inner);
-        DrawnRowset {
+        Answered {
             manager,
-            answer: RowsetAnswer::Id(RowsetNo(id)),
+            answer: Ok(RowsetNo(id)),
         }
     }
 
@@ -258,27 +196,27 @@ impl VersionManager {
         ensures { DrawVectorSays self result }
     {
         if self.bad() {
-            return DrawnVector {
+            return Answered {
                 manager: self,
-                answer: VectorAnswer::Refused(Refusal::BadManager),
+                answer: Err(Refusal::BadManager),
             };
         }
         let mut inner = self.inner;
         let mut next = inner.next;
         let id = next.vector.0;
         if LARGEST_64 <= id {
-            return DrawnVector {
+            return Answered {
                 manager: self,
-                answer: VectorAnswer::Refused(Refusal::IdsUsedUp),
+                answer: Err(Refusal::IdsUsedUp),
             };
         }
         let raised = VectorNo(id + 1);
         next.vector = raised;
         inner.next = next;
         let manager = handed(inner);
-        DrawnVector {
+        Answered {
             manager,
-            answer: VectorAnswer::Id(VectorNo(id)),
+            answer: Ok(VectorNo(id)),
         }
     }
 
@@ -296,22 +234,22 @@ impl VersionManager {
         ensures { GroupSays self handles rowsets.old lengths.old counts.old files.old rows.old result rowsets.new lengths.new counts.new files.new rows.new }
     {
         if self.bad() {
-            return Grouped {
+            return Answered {
                 manager: self,
-                answer: GroupAnswer::Refused(Refusal::BadManager),
+                answer: Err(Refusal::BadManager),
             };
         }
         let mut inner = self.inner;
         let mut next = inner.next;
         let id = next.vector.0;
-        let count = handles.count;
+        let most = handles.count;
         let mut of = [0u32; MOST_HANDLES];
         let mut deleted = [0u32; MOST_HANDLES];
         let n = transaction::split(handles, &mut of, &mut deleted);
         let done = transaction::group(
             &of[..n],
             &deleted[..n],
-            count,
+            most,
             id,
             rowsets,
             lengths,
@@ -319,20 +257,24 @@ impl VersionManager {
             files,
             rows,
         );
-        let verdict = done.verdict;
-        if let Verdict::Refused(refusal) = verdict {
-            return Grouped {
+        match done {
+            Err(refusal) => Answered {
                 manager: self,
-                answer: GroupAnswer::Refused(refusal),
-            };
-        }
-        let raised = VectorNo(id + done.count as u64);
-        next.vector = raised;
-        inner.next = next;
-        let manager = handed(inner);
-        Grouped {
-            manager,
-            answer: GroupAnswer::Vectors(done.count, VectorNo(id)),
+                answer: Err(refusal),
+            },
+            Ok(count) => {
+                let raised = VectorNo(id + count as u64);
+                next.vector = raised;
+                inner.next = next;
+                let manager = handed(inner);
+                Answered {
+                    manager,
+                    answer: Ok(NewVectors {
+                        count,
+                        first: VectorNo(id),
+                    }),
+                }
+            }
         }
     }
 
@@ -342,14 +284,14 @@ impl VersionManager {
     {
         if MOST_OPERATIONS < batch.count {
             if self.bad() {
-                return Committed {
+                return Answered {
                     manager: self,
-                    answer: CommitAnswer::Refused(Refusal::BadManager),
+                    answer: Err(Refusal::BadManager),
                 };
             }
-            return Committed {
+            return Answered {
                 manager: self,
-                answer: CommitAnswer::Refused(Refusal::TooManyOperations(0)),
+                answer: Err(Refusal::TooManyOperations(0)),
             };
         }
         let mut lines = commit::typed::buffer();
@@ -363,9 +305,9 @@ impl VersionManager {
         ensures { CommitSays self (length (operations_in ops.now)) (operations_in ops.now) out.old result out.new }
     {
         if self.bad() {
-            return Committed {
+            return Answered {
                 manager: self,
-                answer: CommitAnswer::Refused(Refusal::BadManager),
+                answer: Err(Refusal::BadManager),
             };
         }
         let inner = self.inner;
@@ -415,10 +357,10 @@ impl VersionManager {
             out,
         );
         let verdict = done.verdict;
-        if let Verdict::Refused(refusal) = verdict {
-            return Committed {
+        if let Err(refusal) = verdict {
+            return Answered {
                 manager: self,
-                answer: CommitAnswer::Refused(refusal),
+                answer: Err(refusal),
             };
         }
         let held = done.held;
@@ -458,9 +400,12 @@ impl VersionManager {
             inner,
             done.length,
         );
-        Committed {
+        Answered {
             manager,
-            answer: CommitAnswer::Appended(held.epoch, done.length),
+            answer: Ok(Appended {
+                epoch: held.epoch,
+                length: done.length,
+            }),
         }
     }
 
@@ -470,25 +415,25 @@ impl VersionManager {
         ensures { CheckpointSays self out.old result out.new }
     {
         if self.bad() {
-            return Checkpointed {
+            return Answered {
                 manager: self,
-                answer: CheckpointAnswer::Refused(Refusal::BadManager),
+                answer: Err(Refusal::BadManager),
             };
         }
         let inner = self.inner;
         let done = rewrite::rewrite_into(inner, out);
         let verdict = done.verdict;
-        if let Verdict::Refused(refusal) = verdict {
-            return Checkpointed {
+        if let Err(refusal) = verdict {
+            return Answered {
                 manager: self,
-                answer: CheckpointAnswer::Refused(refusal),
+                answer: Err(refusal),
             };
         }
         let inner = done.inner;
         let manager = handed(inner);
-        Checkpointed {
+        Answered {
             manager,
-            answer: CheckpointAnswer::Rewritten(done.length),
+            answer: Ok(done.length),
         }
     }
 
@@ -498,37 +443,40 @@ impl VersionManager {
         ensures { ReportSays self book landed result }
     {
         if self.bad() {
-            return Reported {
+            return Answered {
                 manager: self,
-                answer: ReportAnswer::Refused(Refusal::BadManager),
+                answer: Err(Refusal::BadManager),
             };
         }
         let epoch = self.inner.epoch;
         if book.bad(epoch) {
-            return Reported {
+            return Answered {
                 manager: self,
-                answer: ReportAnswer::Refused(Refusal::BadPinBook),
+                answer: Err(Refusal::BadPinBook),
             };
         }
         if self.append <= landed {
-            return Reported {
+            return Answered {
                 manager: self,
-                answer: ReportAnswer::Refused(Refusal::NotReportable),
+                answer: Err(Refusal::NotReportable),
             };
         }
         if book.is_pinned(epoch) {
-            return Reported {
+            return Answered {
                 manager: self,
-                answer: ReportAnswer::Refused(Refusal::NotReportable),
+                answer: Err(Refusal::NotReportable),
             };
         }
         let mut inner = self.kept;
         let length = inner.manifest + landed;
         inner.manifest = length;
         let manager = handed(inner);
-        Reported {
+        Answered {
             manager,
-            answer: ReportAnswer::TakenBack(inner.epoch, length),
+            answer: Ok(TakenBack {
+                epoch: inner.epoch,
+                manifest: length,
+            }),
         }
     }
 
@@ -536,25 +484,25 @@ impl VersionManager {
         ensures { VacuumSays self book tables.old rowsets.old result tables.new rowsets.new }
     {
         if self.bad() {
-            return Vacuumed {
+            return Answered {
                 manager: self,
-                answer: VacuumAnswer::Refused(Refusal::BadManager),
+                answer: Err(Refusal::BadManager),
             };
         }
         let inner = self.inner;
         let done = vacuum::vacuum(inner, book, tables, rowsets);
         let verdict = done.verdict;
-        if let Verdict::Refused(refusal) = verdict {
-            return Vacuumed {
+        if let Err(refusal) = verdict {
+            return Answered {
                 manager: self,
-                answer: VacuumAnswer::Refused(refusal),
+                answer: Err(refusal),
             };
         }
         let inner = done.inner;
         let manager = handed(inner);
-        Vacuumed {
+        Answered {
             manager,
-            answer: VacuumAnswer::Listed(done.count),
+            answer: Ok(done.count),
         }
     }
 
@@ -566,11 +514,11 @@ impl VersionManager {
         shapes: &mut [u32],
         lengths: &mut [u32],
         names: &mut [u8],
-    ) -> ShowAnswer
+    ) -> Result<usize, Refusal>
         ensures { ShowTablesSays self book epoch ids.old shapes.old lengths.old names.old result ids.new shapes.new lengths.new names.new }
     {
         if self.bad() {
-            return ShowAnswer::Refused(Refusal::BadManager);
+            return Err(Refusal::BadManager);
         }
         let inner = self.inner;
         show::show_tables(inner, book, epoch, ids, shapes, lengths, names)
@@ -582,11 +530,11 @@ impl VersionManager {
         epoch: u32,
         tables: &mut [u32],
         rowsets: &mut [u32],
-    ) -> ShowAnswer
+    ) -> Result<usize, Refusal>
         ensures { ShowPairsSays self book epoch tables.old rowsets.old result tables.new rowsets.new }
     {
         if self.bad() {
-            return ShowAnswer::Refused(Refusal::BadManager);
+            return Err(Refusal::BadManager);
         }
         let inner = self.inner;
         show::show_pairs(inner, book, epoch, tables, rowsets)
@@ -599,11 +547,11 @@ impl VersionManager {
         tables: &mut [u32],
         rowsets: &mut [u32],
         vectors: &mut [u64],
-    ) -> ShowAnswer
+    ) -> Result<usize, Refusal>
         ensures { ShowVectorsSays self book epoch tables.old rowsets.old vectors.old result tables.new rowsets.new vectors.new }
     {
         if self.bad() {
-            return ShowAnswer::Refused(Refusal::BadManager);
+            return Err(Refusal::BadManager);
         }
         let inner = self.inner;
         show::show_vectors(inner, book, epoch, tables, rowsets, vectors)
@@ -613,25 +561,25 @@ impl VersionManager {
         ensures { RelockSays self table held result }
     {
         if self.bad() {
-            return Locked {
+            return Answered {
                 manager: self,
-                answer: Verdict::Refused(Refusal::BadManager),
+                answer: Err(Refusal::BadManager),
             };
         }
         let inner = self.inner;
         let done = transaction_manager::relock(inner, table, held);
         let verdict = done.verdict;
-        if let Verdict::Refused(refusal) = verdict {
-            return Locked {
+        if let Err(refusal) = verdict {
+            return Answered {
                 manager: self,
-                answer: Verdict::Refused(refusal),
+                answer: Err(refusal),
             };
         }
         let inner = done.inner;
         let manager = handed(inner);
-        Locked {
+        Answered {
             manager,
-            answer: Verdict::Accepted,
+            answer: Ok(()),
         }
     }
 
@@ -649,11 +597,11 @@ impl VersionManager {
 
     // Which of a table's rowsets a compaction is to take: a size is lent for each of them, and those taken are written to the front of
     // `out`.
-    pub fn select(self, table: TableNo, target: u64, sizes: &[u64], out: &mut [u32]) -> SelectAnswer
+    pub fn select(self, table: TableNo, target: u64, sizes: &[u64], out: &mut [u32]) -> Result<usize, Refusal>
         ensures { SelectSays self table target sizes.now out.old result out.new }
     {
         if self.bad() {
-            return SelectAnswer::Refused(Refusal::BadManager);
+            return Err(Refusal::BadManager);
         }
         let inner = self.inner;
         compactor::select(inner, table, target, sizes, out)
@@ -664,9 +612,9 @@ impl VersionManager {
         ensures { CreateSays self shape (name_of name) out.old result out.new }
     {
         if self.bad() {
-            return Created {
+            return Answered {
                 manager: self,
-                answer: CreateAnswer::Refused(Refusal::BadManager),
+                answer: Err(Refusal::BadManager),
             };
         }
         let inner = self.inner;
@@ -675,10 +623,10 @@ impl VersionManager {
         let mut lines = buffer();
         let made = table::create(inner, shape, name, room, &mut lines);
         let verdict = made.verdict;
-        if let Verdict::Refused(refusal) = verdict {
-            return Created {
+        if let Err(refusal) = verdict {
+            return Answered {
                 manager: self,
-                answer: CreateAnswer::Refused(refusal),
+                answer: Err(refusal),
             };
         }
         let n = made.length;
@@ -686,13 +634,17 @@ impl VersionManager {
         let manager = done.manager;
         let answer = done.answer;
         match answer {
-            CommitAnswer::Appended(epoch, length) => Created {
+            Ok(append) => Answered {
                 manager,
-                answer: CreateAnswer::Table(id, epoch, length),
+                answer: Ok(NewTable {
+                    table: id,
+                    epoch: append.epoch,
+                    length: append.length,
+                }),
             },
-            CommitAnswer::Refused(refusal) => Created {
+            Err(refusal) => Answered {
                 manager,
-                answer: CreateAnswer::Refused(refusal),
+                answer: Err(refusal),
             },
         }
     }
@@ -702,9 +654,9 @@ impl VersionManager {
         ensures { DropSays self table.0 out.old result out.new }
     {
         if self.bad() {
-            return Committed {
+            return Answered {
                 manager: self,
-                answer: CommitAnswer::Refused(Refusal::BadManager),
+                answer: Err(Refusal::BadManager),
             };
         }
         let inner = self.inner;
@@ -712,10 +664,10 @@ impl VersionManager {
         let mut lines = commit::typed::buffer();
         let made = table::drop(inner, table, room, &mut lines);
         let verdict = made.verdict;
-        if let Verdict::Refused(refusal) = verdict {
-            return Committed {
+        if let Err(refusal) = verdict {
+            return Answered {
                 manager: self,
-                answer: CommitAnswer::Refused(refusal),
+                answer: Err(refusal),
             };
         }
         let n = made.length;
@@ -727,9 +679,9 @@ impl VersionManager {
         ensures { CompactSays self table.0 (new_of new) taken.now out.old result out.new }
     {
         if self.bad() {
-            return Committed {
+            return Answered {
                 manager: self,
-                answer: CommitAnswer::Refused(Refusal::BadManager),
+                answer: Err(Refusal::BadManager),
             };
         }
         let inner = self.inner;
@@ -737,10 +689,10 @@ impl VersionManager {
         let mut lines = commit::typed::buffer();
         let made = compaction::compact(inner, table, new, taken, room, &mut lines);
         let verdict = made.verdict;
-        if let Verdict::Refused(refusal) = verdict {
-            return Committed {
+        if let Err(refusal) = verdict {
+            return Answered {
                 manager: self,
-                answer: CommitAnswer::Refused(refusal),
+                answer: Err(refusal),
             };
         }
         let n = made.length;

@@ -3,9 +3,7 @@ use crate::{made, say};
 use compaction::NewRowset;
 use ids::{RowsetNo, TableNo};
 use std::io;
-use version_manager::{
-    CheckpointAnswer, Checkpointed, CommitAnswer, Committed, CreateAnswer, Created,
-};
+use version_manager::{Appended, Checkpointed, Committed, Created, NewTable};
 
 // The most that is lent.
 const ROOM: usize = 192;
@@ -13,11 +11,11 @@ const ROOM: usize = 192;
 fn committed(rt: &impl Print, done: Committed) -> io::Result<()> {
     let answer = done.answer;
     match answer {
-        CommitAnswer::Appended(epoch, n) => {
+        Ok(Appended { epoch, length }) => {
             say::number32(rt, " epoch ", epoch)?;
-            say::number(rt, " bytes ", n as u64)?;
+            say::number(rt, " bytes ", length as u64)?;
         }
-        CommitAnswer::Refused(why) => say::refusal(rt, why)?,
+        Err(why) => say::refusal(rt, why)?,
     }
     say::state(rt, &done.manager)
 }
@@ -25,12 +23,16 @@ fn committed(rt: &impl Print, done: Committed) -> io::Result<()> {
 fn created(rt: &impl Print, done: Created) -> io::Result<()> {
     let answer = done.answer;
     match answer {
-        CreateAnswer::Table(table, epoch, n) => {
+        Ok(NewTable {
+            table,
+            epoch,
+            length,
+        }) => {
             say::number32(rt, " table ", table.0)?;
             say::number32(rt, " epoch ", epoch)?;
-            say::number(rt, " bytes ", n as u64)?;
+            say::number(rt, " bytes ", length as u64)?;
         }
-        CreateAnswer::Refused(why) => say::refusal(rt, why)?,
+        Err(why) => say::refusal(rt, why)?,
     }
     say::state(rt, &done.manager)
 }
@@ -38,8 +40,8 @@ fn created(rt: &impl Print, done: Created) -> io::Result<()> {
 fn checkpointed(rt: &impl Print, done: Checkpointed) -> io::Result<()> {
     let answer = done.answer;
     match answer {
-        CheckpointAnswer::Rewritten(n) => say::number(rt, " bytes ", n as u64)?,
-        CheckpointAnswer::Refused(why) => say::refusal(rt, why)?,
+        Ok(n) => say::number(rt, " bytes ", n as u64)?,
+        Err(why) => say::refusal(rt, why)?,
     }
     say::state(rt, &done.manager)
 }

@@ -1,18 +1,17 @@
 // Draws, locks, reports and pins; the other calls are in `appends` and `shows`.
 use crate::{appends, made, say, shows};
 use ids::TableNo;
-use ids::refusal::Verdict;
-use pinning::{PinAnswer, UnpinAnswer};
+use pinning::Unpinned;
 use pins::PinBook;
 use std::io;
-use version_manager::{Locked, ReportAnswer, RowsetAnswer, VectorAnswer, VersionManager};
+use version_manager::{Locked, TakenBack, VersionManager};
 
 fn draw_rowset(rt: &impl Print, manager: VersionManager) -> io::Result<()> {
     let drawn = manager.draw_rowset();
     let answer = drawn.answer;
     match answer {
-        RowsetAnswer::Id(id) => say::number32(rt, " id ", id.0)?,
-        RowsetAnswer::Refused(why) => say::refusal(rt, why)?,
+        Ok(id) => say::number32(rt, " id ", id.0)?,
+        Err(why) => say::refusal(rt, why)?,
     }
     say::state(rt, &drawn.manager)
 }
@@ -21,8 +20,8 @@ fn draw_vector(rt: &impl Print, manager: VersionManager) -> io::Result<()> {
     let drawn = manager.draw_vector();
     let answer = drawn.answer;
     match answer {
-        VectorAnswer::Id(id) => say::number(rt, " id ", id.0)?,
-        VectorAnswer::Refused(why) => say::refusal(rt, why)?,
+        Ok(id) => say::number(rt, " id ", id.0)?,
+        Err(why) => say::refusal(rt, why)?,
     }
     say::state(rt, &drawn.manager)
 }
@@ -30,8 +29,8 @@ fn draw_vector(rt: &impl Print, manager: VersionManager) -> io::Result<()> {
 fn locked(rt: &impl Print, done: Locked) -> io::Result<()> {
     let answer = done.answer;
     match answer {
-        Verdict::Accepted => say::say(rt, b" done")?,
-        Verdict::Refused(why) => say::refusal(rt, why)?,
+        Ok(()) => say::say(rt, b" done")?,
+        Err(why) => say::refusal(rt, why)?,
     }
     say::state(rt, &done.manager)
 }
@@ -45,11 +44,11 @@ fn report(
     let done = manager.report(book, landed);
     let answer = done.answer;
     match answer {
-        ReportAnswer::TakenBack(epoch, n) => {
+        Ok(TakenBack { epoch, manifest }) => {
             say::number32(rt, " epoch ", epoch)?;
-            say::number(rt, " manifest ", n as u64)?;
+            say::number(rt, " manifest ", manifest as u64)?;
         }
-        ReportAnswer::Refused(why) => say::refusal(rt, why)?,
+        Err(why) => say::refusal(rt, why)?,
     }
     say::state(rt, &done.manager)
 }
@@ -71,8 +70,8 @@ fn pin(rt: &impl Print, manager: VersionManager, book: PinBook) -> io::Result<()
     let step = pinning::pinned(manager, book);
     let answer = step.answer;
     match answer {
-        PinAnswer::Pinned(epoch) => say::number32(rt, " epoch ", epoch)?,
-        PinAnswer::Refused(why) => say::refusal(rt, why)?,
+        Ok(epoch) => say::number32(rt, " epoch ", epoch)?,
+        Err(why) => say::refusal(rt, why)?,
     }
     printed(rt, step.book)
 }
@@ -81,13 +80,13 @@ fn unpin(rt: &impl Print, manager: VersionManager, book: PinBook, epoch: u32) ->
     let step = pinning::unpinned(manager, book, epoch);
     let answer = step.answer;
     match answer {
-        UnpinAnswer::Unpinned(due, ready) => {
+        Ok(Unpinned { due, ready }) => {
             if due {
                 say::say(rt, b" due")?;
             }
             say::number(rt, " ready ", ready as u64)?;
         }
-        UnpinAnswer::Refused(why) => say::refusal(rt, why)?,
+        Err(why) => say::refusal(rt, why)?,
     }
     printed(rt, step.book)
 }

@@ -1,10 +1,8 @@
 // Vacuum, shows and selection, into slices of so many places each.
 use crate::{made, say};
-use compactor::SelectAnswer;
 use ids::TableNo;
-use show::ShowAnswer;
+use ids::refusal::Refusal;
 use std::io;
-use version_manager::VacuumAnswer;
 
 fn vacuum(
     rt: &impl Print,
@@ -16,8 +14,8 @@ fn vacuum(
     let done = manager.vacuum(made::book(numbers), tables, rowsets);
     let answer = done.answer;
     match answer {
-        VacuumAnswer::Listed(n) => say::number(rt, " listed ", n as u64)?,
-        VacuumAnswer::Refused(why) => say::refusal(rt, why)?,
+        Ok(n) => say::number(rt, " listed ", n as u64)?,
+        Err(why) => say::refusal(rt, why)?,
     }
     say::state(rt, &done.manager)
 }
@@ -32,15 +30,15 @@ fn select(
     let manager = made::manager(numbers);
     let answer = manager.select(TableNo(table), 2, sizes, out);
     match answer {
-        SelectAnswer::Chosen(n) => say::number(rt, " chosen ", n as u64),
-        SelectAnswer::Refused(why) => say::refusal(rt, why),
+        Ok(n) => say::number(rt, " chosen ", n as u64),
+        Err(why) => say::refusal(rt, why),
     }
 }
 
-fn shown(rt: &impl Print, answer: ShowAnswer) -> io::Result<()> {
+fn shown(rt: &impl Print, answer: Result<usize, Refusal>) -> io::Result<()> {
     match answer {
-        ShowAnswer::Shown(n) => say::number(rt, " shown ", n as u64),
-        ShowAnswer::Refused(why) => say::refusal(rt, why),
+        Ok(n) => say::number(rt, " shown ", n as u64),
+        Err(why) => say::refusal(rt, why),
     }
 }
 

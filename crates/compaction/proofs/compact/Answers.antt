@@ -1,9 +1,10 @@
 -- `compaction::compact` meets its contract.
-use mathlib.Core.Path.{sym, ◌∙◌}
+use mathlib.Core.Path.{sym, ◌∙◌, ap}
 use Prim.Native.Nat.{◌≤◌}
 use native.Mathlib.Omega.{arith}
 use lib.ListN.{length}
 use borrow.Author.Tests.{not-true, not-false}
+use Rattle.std.specs.Prelude.{not}
 use Rattle.ids.specs.Limits.{most_operations}
 use Rattle.columns.specs.Rows.{marks}
 use Rattle.version_state.specs.State.{state_of}
@@ -58,15 +59,12 @@ returns-then-count-vectors-gt-MOST_OPERATIONS c =
 pub standing-verdict-requires : goal.standing-verdict-requires
 standing-verdict-requires c = c.requires.0
 
-pub accepted-requires : goal.accepted-requires
-accepted-requires c = search known
-
-pub returns-then-not-accepted : goal.returns-then-not-accepted
-returns-then-not-accepted c =
+pub returns-then-is_err : goal.returns-then-is_err
+returns-then-is_err c =
     let v = sym c.valid.ensures ∙ not-false _ c.if-not-valid.false-raw in
     let n = counted c.args.inner c.args.table.0 (new_of c.args.new) c.args.taken.now v c.marks-over.result c.marks-over.ensures in
     let few : length (compacted_by (state_of c.args.inner) c.args.table.0 (new_of c.args.new) c.args.taken.now) ≤ most_operations = omega (arith, c.if-count-vectors-gt-MOST_OPERATIONS.false, n, c.count.ensures, c.number-vectors.ensures) in
-    made-off _ _ _ _ _ (state-refused c.args.inner c.args.table.0 (new_of c.args.new) c.args.taken.now v few _ c.standing-verdict.ensures c.args.room (sym c.accepted.ensures ∙ not-true _ c.if-not-accepted.true-raw)) (sym c.accepted.ensures ∙ not-true _ c.if-not-accepted.true-raw)
+    made-off _ _ _ _ _ (state-refused c.args.inner c.args.table.0 (new_of c.args.new) c.args.taken.now v few _ c.standing-verdict.ensures c.args.room (c.is_err.ensures.negation ∙ ap not c.if-is_err.true)) (c.is_err.ensures.negation ∙ ap not c.if-is_err.true)
 
 pub put_lines-length-requires : goal.put_lines-length-requires
 put_lines-length-requires c =
@@ -98,4 +96,4 @@ returns c =
     let n = counted c.args.inner c.args.table.0 (new_of c.args.new) c.args.taken.now v c.marks-over.result c.marks-over.ensures in
     let few : length (compacted_by (state_of c.args.inner) c.args.table.0 (new_of c.args.new) c.args.taken.now) ≤ most_operations = omega (arith, c.if-count-vectors-gt-MOST_OPERATIONS.false, n, c.count.ensures, c.number-vectors.ensures) in
     let l = lines_are c.args.inner c.args.table.0 (new_of c.args.new) c.args.taken.now v c.marks-over.result c.marks-over.ensures _ _ _ c.put_lines-length.ensures in
-    record { verdict = last-judged c.args.inner c.args.table.0 (new_of c.args.new) c.args.taken.now v few _ c.standing-verdict.ensures c.args.room (sym c.accepted.ensures ∙ not-false _ c.if-not-accepted.false-raw) _ _ _ _ l c.ending-verdict.ensures; written = λ a. l }
+    record { verdict = last-judged c.args.inner c.args.table.0 (new_of c.args.new) c.args.taken.now v few _ c.standing-verdict.ensures c.args.room (c.is_err.ensures.negation ∙ ap not c.if-is_err.false) _ _ _ _ l c.ending-verdict.ensures; written = λ a. l }

@@ -2,7 +2,7 @@
 use mathlib.Core.Path.{◌≡◌, sym, ◌∙◌}
 use native.Mathlib.Omega.{arith}
 use lib.ListN.{length}
-use Rattle.ids.specs.declared.refusal.Verdict.TheVariants.{Accepted}
+use Rattle.std.specs.Prelude.{Ok}
 use Rattle.ids.specs.Verdicts.{judged}
 use Rattle.lists.proofs.Places.{known}
 use Rattle.lists.proofs.Views.{view-length}
@@ -13,18 +13,18 @@ use Rattle.pinning.proofs.after_pin.Goals as goal
 use Rattle.pinning.proofs.after_pin.Goals.{After-judge_pin-full, In_default, In_default-full}
 
 -- where 29 and 28 let pass
-two : (e : In_default) → judged (first_two e.args.manager e.args.book) ≡ Accepted
+two : (e : In_default) → judged (first_two e.args.manager e.args.book) ≡ Ok tt
 two e = sym e.judge-verdict.ensures ∙ e.in_default.is
 
 -- what the rest then decides
 rest : (d : After-judge_pin-full) → pin_verdict d.args.manager d.args.book ≡ d.judge_pin-full.result
 rest d =
-    let t : judged (first_two d.args.manager d.args.book) ≡ Accepted = sym d.judge-verdict.ensures ∙ d.in_default.is in
+    let t : judged (first_two d.args.manager d.args.book) ≡ Ok tt = sym d.judge-verdict.ensures ∙ d.in_default.is in
     let g = two-passed d.args.manager d.args.book t in
     let full : length d.args.book.items ≡ most_pinned = search known in
     pin-late d.args.manager d.args.book _ d.find-found.ensures.count (view-length pin_entry d.args.book.items d.args.book.count (omega (arith, g.fits))) t ∙ sym d.judge_pin-full.ensures
 
-accepted : (f : In_default-full) → pin_verdict f.args.manager f.args.book ≡ Accepted
+accepted : (f : In_default-full) → pin_verdict f.args.manager f.args.book ≡ Ok tt
 accepted f = rest f.before ∙ f.in_default-full.is
 
 known-then : (f : In_default-full) → Pinnable f.args.manager f.args.book
@@ -36,10 +36,10 @@ judge-verdict-requires c = search known
 pub enum_known-verdict : goal.enum_known-verdict
 enum_known-verdict c = search known
 
-pub returns-in-Refused : goal.returns-in-Refused
-returns-in-Refused c =
+pub returns-in-Err : goal.returns-in-Err
+returns-in-Err c =
     let a = c.args in
-    pin-refuses c.args.manager c.args.book _ (pin-early c.args.manager c.args.book _ (sym c.judge-verdict.ensures ∙ c.in-Refused.is))
+    pin-refuses c.args.manager c.args.book _ (pin-early c.args.manager c.args.book _ (sym c.judge-verdict.ensures ∙ c.in-Err.is))
 
 pub enum_told-1 : goal.enum_told-1
 enum_told-1 c = search known
@@ -53,10 +53,10 @@ judge_pin-full-requires c = search known
 pub enum_known-full : goal.enum_known-full
 enum_known-full c = search known
 
-pub returns-in-Refused-full : goal.returns-in-Refused-full
-returns-in-Refused-full c =
+pub returns-in-Err-full : goal.returns-in-Err-full
+returns-in-Err-full c =
     let d = c in
-    pin-refuses c.args.manager c.args.book _ (rest (goal.at.returns-in-Refused-full c).After-judge_pin-full ∙ c.in-Refused-full.is)
+    pin-refuses c.args.manager c.args.book _ (rest (goal.at.returns-in-Err-full c).After-judge_pin-full ∙ c.in-Err-full.is)
 
 pub enum_told-in_default-full : goal.enum_told-in_default-full
 enum_told-in_default-full c = search known

@@ -3,7 +3,7 @@ use mathlib.Core.Path.{◌≡◌, sym, ap, ◌∙◌}
 use mathlib.Core.Bool.{Bool, true, false, cond}
 use Prim.Native.Nat.{ℕ, ◌≤◌}
 use native.Mathlib.Omega.{arith}
-use Rattle.ids.specs.declared.refusal.Verdict.TheVariants.{Accepted}
+use Rattle.std.specs.Prelude.{Ok}
 use Rattle.ids.specs.Verdicts.{judged}
 use Rattle.vacuum.proofs.Laws.{counted-list}
 use Rattle.lists.proofs.Places.{known}
@@ -14,13 +14,13 @@ use Rattle.pinning.proofs.after_unpin.Goals as goal
 use Rattle.pinning.proofs.after_unpin.Goals.{Else-found-eq0, In_default}
 
 -- where 29 and 28 let pass
-two : (e : In_default) → judged (first_two e.args.manager e.args.book) ≡ Accepted
+two : (e : In_default) → judged (first_two e.args.manager e.args.book) ≡ Ok tt
 two e = sym e.judge-verdict.ensures ∙ e.in_default.is
 
 -- and where the epoch has pins
-accepted : (f : Else-found-eq0) → unpin_verdict f.args.manager f.args.epoch f.args.book ≡ Accepted
+accepted : (f : Else-found-eq0) → unpin_verdict f.args.manager f.args.epoch f.args.book ≡ Ok tt
 accepted f =
-    let t : judged (first_two f.args.manager f.args.book) ≡ Accepted = sym f.judge-verdict.ensures ∙ f.in_default.is in
+    let t : judged (first_two f.args.manager f.args.book) ≡ Ok tt = sym f.judge-verdict.ensures ∙ f.in_default.is in
     unpin-passes f.args.manager f.args.book f.args.epoch _ f.find-found.ensures.count t f.if-found-eq0.false
 
 known-then : (f : Else-found-eq0) → Unpinnable f.args.manager f.args.book f.args.epoch
@@ -37,10 +37,10 @@ judge-verdict-requires c = search known
 pub enum_known-verdict : goal.enum_known-verdict
 enum_known-verdict c = search known
 
-pub returns-in-Refused : goal.returns-in-Refused
-returns-in-Refused c =
+pub returns-in-Err : goal.returns-in-Err
+returns-in-Err c =
     let a = c.args in
-    unpin-refuses c.args.manager c.args.book c.args.epoch _ (unpin-early c.args.manager c.args.book c.args.epoch _ (sym c.judge-verdict.ensures ∙ c.in-Refused.is))
+    unpin-refuses c.args.manager c.args.book c.args.epoch _ (unpin-early c.args.manager c.args.book c.args.epoch _ (sym c.judge-verdict.ensures ∙ c.in-Err.is))
 
 pub enum_told-1 : goal.enum_told-1
 enum_told-1 c = search known

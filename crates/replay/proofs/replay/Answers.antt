@@ -1,6 +1,7 @@
 -- `replay::replay` meets its contract.
-use mathlib.Core.Path.{refl, sym, ◌∙◌}
+use mathlib.Core.Path.{refl, sym, ◌∙◌, ap}
 use borrow.Author.Tests.{lt-ltb, le-ltb, not-true, not-false}
+use Rattle.std.specs.Prelude.{not}
 use Rattle.replay.specs.Replay.{ReplayIs}
 use Rattle.replay.proofs.Frames.{run-stop, ran}
 use Rattle.lists.proofs.Places.{known}
@@ -22,22 +23,19 @@ slice_bounds-run-end c = search known
 pub run-done-requires : goal.run-done-requires
 run-done-requires c = search known
 
-pub accepted-requires : goal.accepted-requires
-accepted-requires c = search known
-
 pub fresh-requires : goal.fresh-requires
 fresh-requires c = search known
 
-pub returns-then-not-accepted : goal.returns-then-not-accepted
-returns-then-not-accepted c = rw (le-ltb _ _ c.if-src-gt-LONGEST_MANIFEST.false) (run-stop _ _ _ _ _ c.run-done.ensures (sym c.accepted.ensures ∙ not-true _ c.if-not-accepted.true-raw) refl)
+pub returns-then-is_err : goal.returns-then-is_err
+returns-then-is_err c = rw (le-ltb _ _ c.if-src-gt-LONGEST_MANIFEST.false) (run-stop _ _ _ _ _ c.run-done.ensures (c.is_err.ensures.negation ∙ ap not c.if-is_err.true) refl)
 
 pub slice_bounds-finish-end : goal.slice_bounds-finish-end
 slice_bounds-finish-end c = search known
 
 pub finish-requires : goal.finish-requires
 finish-requires c =
-    let r = ran _ _ _ _ c.run-done.ensures (sym c.accepted.ensures ∙ not-false _ c.if-not-accepted.false-raw) in
+    let r = ran _ _ _ _ c.run-done.ensures (c.is_err.ensures.negation ∙ ap not c.if-is_err.false) in
     (r.good, r.small, search known)
 
 pub returns : goal.returns
-returns c = rw (le-ltb _ _ c.if-src-gt-LONGEST_MANIFEST.false) ((ran _ _ _ _ c.run-done.ensures (sym c.accepted.ensures ∙ not-false _ c.if-not-accepted.false-raw)).on _ c.finish.ensures)
+returns c = rw (le-ltb _ _ c.if-src-gt-LONGEST_MANIFEST.false) ((ran _ _ _ _ c.run-done.ensures (c.is_err.ensures.negation ∙ ap not c.if-is_err.false)).on _ c.finish.ensures)

@@ -13,9 +13,9 @@ enum_known-verdict c = search known
 pub refused-requires : goal.refused-requires
 refused-requires c = search known
 
-pub returns-in-Refused : goal.returns-in-Refused
-returns-in-Refused c =
-    let x = replay-refused _ _ _ c.replay-replayed.ensures c.in-Refused.is in
+pub returns-in-Err : goal.returns-in-Err
+returns-in-Err c =
+    let x = replay-refused _ _ _ c.replay-replayed.ensures c.in-Err.is in
     rw x (c.refused.ensures.0, c.refused.ensures.1, c.refused.ensures.2, refl)
 
 pub enum_told-1 : goal.enum_told-1

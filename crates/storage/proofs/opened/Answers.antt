@@ -14,14 +14,14 @@ enum_known-verdict c = search known
 pub refused-requires : goal.refused-requires
 refused-requires c = search known
 
-pub shape_of-out-in-Refused : goal.shape_of-out-in-Refused
-shape_of-out-in-Refused c = search known
+pub shape_of-out-in-Err : goal.shape_of-out-in-Err
+shape_of-out-in-Err c = search known
 
-pub returns-in-Refused : goal.returns-in-Refused
-returns-in-Refused c =
+pub returns-in-Err : goal.returns-in-Err
+returns-in-Err c =
     let x = c.rewrite_into-done in
     let r = c.refused.ensures in
-    opened-no _ _ _ _ c.rewrite_into-done.ensures _ _ c.in-Refused.is c.refused.ensures.0 c.refused.ensures.1 c.refused.ensures.2
+    opened-no _ _ _ _ c.rewrite_into-done.ensures _ _ c.in-Err.is c.refused.ensures.0 c.refused.ensures.1 c.refused.ensures.2
 
 pub enum_told-1 : goal.enum_told-1
 enum_told-1 c = search known

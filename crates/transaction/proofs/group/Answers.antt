@@ -12,19 +12,13 @@ use Rattle.transaction.proofs.group.Goals as goal
 pub are_ids-requires : goal.are_ids-requires
 are_ids-requires c = search rules
 
-pub refused-requires : goal.refused-requires
-refused-requires c = search rules
-
 pub returns-then-not-are_ids : goal.returns-then-not-are_ids
 returns-then-not-are_ids c =
     let pre = c.requires in
     let rowsets = c.args.rowsets.now in
     let rows = c.args.rows.now in
     let i = ids-told rowsets rows c.requires.0 in
-    no-id (paired rowsets rows) c.args.count c.args.next c.args.rs.now c.args.ls.now c.args.cs.now c.args.fs.now c.args.ms.now _ c.refused.ensures (i ∙ ap not (sym c.are_ids.ensures) ∙ c.if-not-are_ids.true-raw)
-
-pub refused-requires-then-count-gt-MOST_HANDLES : goal.refused-requires-then-count-gt-MOST_HANDLES
-refused-requires-then-count-gt-MOST_HANDLES c = search rules
+    no-id (paired rowsets rows) c.args.count c.args.next c.args.rs.now c.args.ls.now c.args.cs.now c.args.fs.now c.args.ms.now (i ∙ ap not (sym c.are_ids.ensures) ∙ c.if-not-are_ids.true-raw)
 
 pub returns-then-count-gt-MOST_HANDLES : goal.returns-then-count-gt-MOST_HANDLES
 returns-then-count-gt-MOST_HANDLES c =
@@ -32,7 +26,7 @@ returns-then-count-gt-MOST_HANDLES c =
     let rowsets = c.args.rowsets.now in
     let rows = c.args.rows.now in
     let i = ids-told rowsets rows c.requires.0 in
-    too_many (paired rowsets rows) c.args.count c.args.next c.args.rs.now c.args.ls.now c.args.cs.now c.args.fs.now c.args.ms.now (i ∙ ap not (sym c.are_ids.ensures) ∙ c.if-not-are_ids.false-raw) _ c.refused-then-count-gt-MOST_HANDLES.ensures c.if-count-gt-MOST_HANDLES.true
+    too_many (paired rowsets rows) c.args.count c.args.next c.args.rs.now c.args.ls.now c.args.cs.now c.args.fs.now c.args.ms.now (i ∙ ap not (sym c.are_ids.ensures) ∙ c.if-not-are_ids.false-raw) c.if-count-gt-MOST_HANDLES.true
 
 pub grouped-requires : goal.grouped-requires
 grouped-requires c = let pre = c.requires in let p1 = c.requires.1 in (c.requires.0, omega arith, sym c.are_ids.ensures ∙ not-false _ c.if-not-are_ids.false-raw)

@@ -21,9 +21,6 @@ ascend-count-requires c = search rules
 pub overflow_sub-next : goal.overflow_sub-next
 overflow_sub-next c = search rules
 
-pub refused-requires : goal.refused-requires
-refused-requires c = search rules
-
 pub returns-then-next-count : goal.returns-then-next-count
 returns-then-next-count c =
     let pre = c.requires in
@@ -36,7 +33,7 @@ returns-then-next-count c =
     let l = length-take-le c.ascend-count.result c.ascend-count.new.out (omega (arith, c.ascend-count.auto.out)) in
     let n = sym l ∙ count-told rowsets rows (take c.ascend-count.result c.ascend-count.new.out) c.requires.0 c.ascend-count.ensures.0 in
     let i = ids-told rowsets rows c.requires.0 ∙ ap not c.requires.2 in
-    used-up (paired rowsets rows) (length rowsets) c.args.next c.args.rs.now c.args.ls.now c.args.cs.now c.args.fs.now c.args.ms.now i c.requires.1 _ c.refused.ensures (omega (arith, c.if-next-count.true))
+    used-up (paired rowsets rows) (length rowsets) c.args.next c.args.rs.now c.args.ls.now c.args.cs.now c.args.fs.now c.args.ms.now i c.requires.1 (omega (arith, c.if-next-count.true))
 
 pub slice_bounds-named-end : goal.slice_bounds-named-end
 slice_bounds-named-end c = search rules
@@ -46,9 +43,6 @@ slice_bounds-hand_out-end c = let a = c.ascend-count in let q = c.ascend-count.e
 
 pub hand_out-requires : goal.hand_out-requires
 hand_out-requires c = let pre = c.requires in (c.requires.0, c.requires.1, c.ascend-count.ensures.0)
-
-pub refused-requires-then-hand_out : goal.refused-requires-then-hand_out
-refused-requires-then-hand_out c = search rules
 
 pub shape_of-rs-then-hand_out : goal.shape_of-rs-then-hand_out
 shape_of-rs-then-hand_out c = search rules
@@ -77,7 +71,7 @@ returns-then-hand_out c =
     let l = length-take-le c.ascend-count.result c.ascend-count.new.out (omega (arith, c.ascend-count.auto.out)) in
     let n = sym l ∙ count-told rowsets rows (take c.ascend-count.result c.ascend-count.new.out) c.requires.0 c.ascend-count.ensures.0 in
     let i = ids-told rowsets rows c.requires.0 ∙ ap not c.requires.2 in
-    no_room (paired rowsets rows) (length rowsets) c.args.next c.args.rs.now c.args.ls.now c.args.cs.now c.args.fs.now c.args.ms.now i c.requires.1 (omega (arith, c.if-next-count.false, c.ranges.next)) _ _ _ _ _ _ _ c.hand_out.ensures c.refused-then-hand_out.ensures c.if-hand_out.true
+    no_room (paired rowsets rows) (length rowsets) c.args.next c.args.rs.now c.args.ls.now c.args.cs.now c.args.fs.now c.args.ms.now i c.requires.1 (omega (arith, c.if-next-count.false, c.ranges.next)) _ _ _ _ _ _ c.hand_out.ensures c.if-hand_out.true
 
 pub shape_of-rs : goal.shape_of-rs
 shape_of-rs c = search rules
@@ -106,4 +100,4 @@ returns c =
     let l = length-take-le c.ascend-count.result c.ascend-count.new.out (omega (arith, c.ascend-count.auto.out)) in
     let n = sym l ∙ count-told rowsets rows (take c.ascend-count.result c.ascend-count.new.out) c.requires.0 c.ascend-count.ensures.0 in
     let i = ids-told rowsets rows c.requires.0 ∙ ap not c.requires.2 in
-    accepts (paired rowsets rows) (length rowsets) c.args.next c.args.rs.now c.args.ls.now c.args.cs.now c.args.fs.now c.args.ms.now i c.requires.1 (omega (arith, c.if-next-count.false, c.ranges.next)) _ _ _ _ _ _ _ c.hand_out.ensures refl c.if-hand_out.false n
+    accepts (paired rowsets rows) (length rowsets) c.args.next c.args.rs.now c.args.ls.now c.args.cs.now c.args.fs.now c.args.ms.now i c.requires.1 (omega (arith, c.if-next-count.false, c.ranges.next)) _ _ _ _ _ _ c.hand_out.ensures c.if-hand_out.false _ n

@@ -1,7 +1,8 @@
 -- `replay::frame::apply_frame` meets its contract.
-use mathlib.Core.Path.{refl, sym, ◌∙◌}
+use mathlib.Core.Path.{refl, sym, ◌∙◌, ap}
 use native.Mathlib.Omega.{arith}
 use borrow.Author.Tests.{not-true, not-false}
+use Rattle.std.specs.Prelude.{not}
 use Rattle.replay.proofs.Frames.{going-stop, going_on, going-none, going_end}
 use Rattle.lists.proofs.Places.{known}
 use Rattle.replay.proofs.frame.apply_frame.Goals as goal
@@ -18,9 +19,6 @@ loop-left-init c =
 pub operation_at-here-requires : goal.operation_at-here-requires
 operation_at-here-requires c = c.requires.2
 
-pub accepted-requires : goal.accepted-requires
-accepted-requires c = search known
-
 pub shape_of-work-then-not-here : goal.shape_of-work-then-not-here
 shape_of-work-then-not-here c = c.loop-left.invariant.0 ∙ sym c.requires.1
 
@@ -36,14 +34,11 @@ apply-done-requires c =
     let h = c.loop-left-test.true in
     (c.loop-left.invariant.1.good, omega arith, omega arith, omega arith, c.loop-left.invariant.0, (c.operation_at-here.ensures.found (not-false _ c.if-not-here.false)).3, c.loop-left.invariant.1.short)
 
-pub accepted-requires-in-loop-left : goal.accepted-requires-in-loop-left
-accepted-requires-in-loop-left c = search known
+pub shape_of-work-then-is_err : goal.shape_of-work-then-is_err
+shape_of-work-then-is_err c = c.apply-done.auto.work ∙ c.loop-left.invariant.0 ∙ sym c.requires.1
 
-pub shape_of-work-then-not-accepted : goal.shape_of-work-then-not-accepted
-shape_of-work-then-not-accepted c = c.apply-done.auto.work ∙ c.loop-left.invariant.0 ∙ sym c.requires.1
-
-pub returns-then-not-accepted : goal.returns-then-not-accepted
-returns-then-not-accepted c = going-stop _ _ _ _ _ _ _ _ _ _ _ c.loop-left.invariant.1 c.loop-left-test.true (c.operation_at-here.ensures.found (not-false _ c.if-not-here.false)).0 c.apply-done.ensures (sym c.accepted-in-loop-left.ensures ∙ not-true _ c.if-not-accepted.true-raw)
+pub returns-then-is_err : goal.returns-then-is_err
+returns-then-is_err c = going-stop _ _ _ _ _ _ _ _ _ _ _ c.loop-left.invariant.1 c.loop-left-test.true (c.operation_at-here.ensures.found (not-false _ c.if-not-here.false)).0 c.apply-done.ensures (c.is_err.ensures.negation ∙ ap not c.if-is_err.true)
 
 pub overflow_add-n : goal.overflow_add-n
 overflow_add-n c =
@@ -62,10 +57,7 @@ loop-left-smaller c = search known
 pub loop-left-preserved : goal.loop-left-preserved
 loop-left-preserved c =
     let f = c.operation_at-here.ensures.found (not-false _ c.if-not-here.false) in
-    (c.apply-done.auto.work ∙ c.loop-left.invariant.0, going_on _ _ _ _ _ _ _ _ _ _ _ c.loop-left.invariant.1 c.loop-left-test.true f.0 c.apply-done.ensures (sym c.accepted-in-loop-left.ensures ∙ not-false _ c.if-not-accepted.false-raw) f.1 f.2)
-
-pub accepted-requires-2 : goal.accepted-requires-2
-accepted-requires-2 c = search known
+    (c.apply-done.auto.work ∙ c.loop-left.invariant.0, going_on _ _ _ _ _ _ _ _ _ _ _ c.loop-left.invariant.1 c.loop-left-test.true f.0 c.apply-done.ensures (c.is_err.ensures.negation ∙ ap not c.if-is_err.false) f.1 f.2)
 
 pub shape_of-work : goal.shape_of-work
 shape_of-work c = c.loop-left.invariant.0 ∙ sym c.requires.1

@@ -1,6 +1,7 @@
 -- `replay::frame::end_frame` meets its contract.
-use mathlib.Core.Path.{sym, ◌∙◌}
+use mathlib.Core.Path.{sym, ◌∙◌, ap}
 use borrow.Author.Tests.{not-true, not-false}
+use Rattle.std.specs.Prelude.{not}
 use Rattle.replay.proofs.Frames.{end-stop, end-over, end-within}
 use Rattle.lists.proofs.Places.{known}
 use Rattle.replay.proofs.frame.end_frame.Goals as goal
@@ -8,14 +9,11 @@ use Rattle.replay.proofs.frame.end_frame.Goals as goal
 pub apply_frame-done-requires : goal.apply_frame-done-requires
 apply_frame-done-requires c = c.requires
 
-pub accepted-requires : goal.accepted-requires
-accepted-requires c = search known
+pub shape_of-work-then-is_err : goal.shape_of-work-then-is_err
+shape_of-work-then-is_err c = search known
 
-pub shape_of-work-then-not-accepted : goal.shape_of-work-then-not-accepted
-shape_of-work-then-not-accepted c = search known
-
-pub returns-then-not-accepted : goal.returns-then-not-accepted
-returns-then-not-accepted c = end-stop _ _ _ _ _ c.apply_frame-done.ensures (sym c.accepted.ensures ∙ not-true _ c.if-not-accepted.true-raw)
+pub returns-then-is_err : goal.returns-then-is_err
+returns-then-is_err c = end-stop _ _ _ _ _ c.apply_frame-done.ensures (c.is_err.ensures.negation ∙ ap not c.if-is_err.true)
 
 pub over-requires : goal.over-requires
 over-requires c = search known
@@ -27,10 +25,10 @@ pub shape_of-work-then-over : goal.shape_of-work-then-over
 shape_of-work-then-over c = search known
 
 pub returns-then-over : goal.returns-then-over
-returns-then-over c = end-over _ _ _ _ _ _ c.apply_frame-done.ensures (sym c.accepted.ensures ∙ not-false _ c.if-not-accepted.false-raw) (sym c.over.ensures ∙ c.if-over.true) c.refused.ensures
+returns-then-over c = end-over _ _ _ _ _ _ c.apply_frame-done.ensures (c.is_err.ensures.negation ∙ ap not c.if-is_err.false) (sym c.over.ensures ∙ c.if-over.true) c.refused.ensures
 
 pub shape_of-work : goal.shape_of-work
 shape_of-work c = search known
 
 pub returns : goal.returns
-returns c = end-within _ _ _ _ _ c.apply_frame-done.ensures (sym c.accepted.ensures ∙ not-false _ c.if-not-accepted.false-raw) (sym c.over.ensures ∙ c.if-over.false)
+returns c = end-within _ _ _ _ _ c.apply_frame-done.ensures (c.is_err.ensures.negation ∙ ap not c.if-is_err.false) (sym c.over.ensures ∙ c.if-over.false)

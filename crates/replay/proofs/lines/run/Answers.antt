@@ -1,7 +1,8 @@
 -- `replay::lines::run` meets its contract.
-use mathlib.Core.Path.{refl, sym, ◌∙◌}
+use mathlib.Core.Path.{refl, sym, ◌∙◌, ap}
 use native.Mathlib.Omega.{arith}
 use borrow.Author.Tests.{not-true, not-false}
+use Rattle.std.specs.Prelude.{not}
 use Rattle.manifest.proofs.Split.{line-placed}
 use Rattle.replay.proofs.Frames.{said-line, said-as, turn-as, cut-start, reading-start, reading-end, reading-stop, reading-on}
 use Rattle.lists.proofs.Places.{known}
@@ -64,19 +65,16 @@ read_line-turn-requires c =
     let is = c.loop-start.invariant.1.ready.short in
     (c.loop-start.invariant.1.ready, omega arith, p.inside, c.loop-start.invariant.0, c.requires.2)
 
-pub accepted-requires : goal.accepted-requires
-accepted-requires c = search known
+pub shape_of-work-then-is_err : goal.shape_of-work-then-is_err
+shape_of-work-then-is_err c = c.read_line-turn.auto.work ∙ c.loop-start.invariant.0 ∙ sym c.requires.0
 
-pub shape_of-work-then-not-accepted : goal.shape_of-work-then-not-accepted
-shape_of-work-then-not-accepted c = c.read_line-turn.auto.work ∙ c.loop-start.invariant.0 ∙ sym c.requires.0
-
-pub returns-then-not-accepted : goal.returns-then-not-accepted
-returns-then-not-accepted c =
+pub returns-then-is_err : goal.returns-then-is_err
+returns-then-is_err c =
     let inv = c.loop-start.invariant.1 in
     let h = sym c.next_line.ensures ∙ c.in-Line.is in
     let s = said-as _ _ _ _ (said-line _ _ _ _ _ h) c.parse-p.ensures in
     let t = turn-as _ _ _ _ _ _ _ c.parse-p.ensures (c.read_line-turn.ensures c.loop-start.at c.loop-start.invariant.1.frame s c.loop-start.invariant.1.begun) in
-    reading-stop _ _ _ _ _ _ inv _ _ _ _ h _ t _ (sym c.accepted.ensures ∙ not-true _ c.if-not-accepted.true-raw) refl
+    reading-stop _ _ _ _ _ _ inv _ _ _ _ h _ t _ (c.is_err.ensures.negation ∙ ap not c.if-is_err.true) refl
 
 pub overflow_add-n : goal.overflow_add-n
 overflow_add-n c =
@@ -102,16 +100,13 @@ loop-start-preserved c =
     let h = sym c.next_line.ensures ∙ c.in-Line.is in
     let s = said-as _ _ _ _ (said-line _ _ _ _ _ h) c.parse-p.ensures in
     let t = turn-as _ _ _ _ _ _ _ c.parse-p.ensures (c.read_line-turn.ensures c.loop-start.at c.loop-start.invariant.1.frame s c.loop-start.invariant.1.begun) in
-    (c.read_line-turn.auto.work ∙ c.loop-start.invariant.0, reading-on _ _ _ _ _ _ inv _ _ _ _ h _ t (sym c.accepted.ensures ∙ not-false _ c.if-not-accepted.false-raw))
+    (c.read_line-turn.auto.work ∙ c.loop-start.invariant.0, reading-on _ _ _ _ _ _ inv _ _ _ _ h _ t (c.is_err.ensures.negation ∙ ap not c.if-is_err.false))
 
 pub enum_told-1 : goal.enum_told-1
 enum_told-1 c = search known
-
-pub accepted-requires-in-None : goal.accepted-requires-in-None
-accepted-requires-in-None c = search known
 
 pub shape_of-work-in-None : goal.shape_of-work-in-None
 shape_of-work-in-None c = c.loop-start.invariant.0 ∙ sym c.requires.0
 
 pub returns-in-None : goal.returns-in-None
-returns-in-None c = reading-end _ _ _ _ _ _ c.loop-start.invariant.1 _ (sym c.next_line.ensures ∙ c.in-None.is) c.accepted-in-None.ensures.0 c.accepted-in-None.ensures.1
+returns-in-None c = reading-end _ _ _ _ _ _ c.loop-start.invariant.1 _ (sym c.next_line.ensures ∙ c.in-None.is) c.accepted.ensures.0 c.accepted.ensures.1

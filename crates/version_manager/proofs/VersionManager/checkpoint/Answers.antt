@@ -24,13 +24,13 @@ rewrite_into-done-requires c =
 pub enum_known-verdict : goal.enum_known-verdict
 enum_known-verdict c = search known
 
-pub shape_of-out-in-Refused : goal.shape_of-out-in-Refused
-shape_of-out-in-Refused c = search known
+pub shape_of-out-in-Err : goal.shape_of-out-in-Err
+shape_of-out-in-Err c = search known
 
-pub returns-in-Refused : goal.returns-in-Refused
-returns-in-Refused c =
+pub returns-in-Err : goal.returns-in-Err
+returns-in-Err c =
     let x = c.rewrite_into-done in
-    checkpoint-no c.args.self _ c.rewrite_into-done.result _ (sym c.bad.ensures ∙ c.if-bad.false) c.rewrite_into-done.ensures _ _ c.in-Refused.is refl refl
+    checkpoint-no c.args.self _ c.rewrite_into-done.result _ (sym c.bad.ensures ∙ c.if-bad.false) c.rewrite_into-done.ensures _ _ c.in-Err.is refl refl
 
 pub enum_told-1 : goal.enum_told-1
 enum_told-1 c = search known

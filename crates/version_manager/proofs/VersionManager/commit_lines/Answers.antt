@@ -42,15 +42,15 @@ commit_lines-done-requires c =
 pub enum_known-verdict : goal.enum_known-verdict
 enum_known-verdict c = search known
 
-pub shape_of-out-in-Refused : goal.shape_of-out-in-Refused
-shape_of-out-in-Refused c = search known
+pub shape_of-out-in-Err : goal.shape_of-out-in-Err
+shape_of-out-in-Err c = search known
 
-pub returns-in-Refused : goal.returns-in-Refused
-returns-in-Refused c =
+pub returns-in-Err : goal.returns-in-Err
+returns-in-Err c =
     let a = c.args in
     let x = c.commit_lines-done in
     let b = sym c.bad.ensures ∙ c.if-bad.false in
-    rw b (commit-no c.args.self c.commit_lines-done.result (columns c.commit_lines-done.new.ids c.commit_lines-done.new.shapes c.commit_lines-done.new.lengths c.commit_lines-done.new.names c.commit_lines-done.new.locked c.commit_lines-done.new.pair_tables c.commit_lines-done.new.pair_rowsets c.commit_lines-done.new.pair_added c.commit_lines-done.new.pair_deleted c.commit_lines-done.new.tables c.commit_lines-done.new.rowsets c.commit_lines-done.new.vectors c.commit_lines-done.new.added c.commit_lines-done.new.deleted) _ _ c.in-Refused.is refl refl (commit_of (state_of c.args.self.inner) (length (operations_in c.args.ops.now)) (operations_in c.args.ops.now) (length c.args.out.now)) (operations_in c.args.ops.now) c.args.out.now _ c.commit_lines-done.ensures)
+    rw b (commit-no c.args.self c.commit_lines-done.result (columns c.commit_lines-done.new.ids c.commit_lines-done.new.shapes c.commit_lines-done.new.lengths c.commit_lines-done.new.names c.commit_lines-done.new.locked c.commit_lines-done.new.pair_tables c.commit_lines-done.new.pair_rowsets c.commit_lines-done.new.pair_added c.commit_lines-done.new.pair_deleted c.commit_lines-done.new.tables c.commit_lines-done.new.rowsets c.commit_lines-done.new.vectors c.commit_lines-done.new.added c.commit_lines-done.new.deleted) _ _ c.in-Err.is refl refl (commit_of (state_of c.args.self.inner) (length (operations_in c.args.ops.now)) (operations_in c.args.ops.now) (length c.args.out.now)) (operations_in c.args.ops.now) c.args.out.now _ c.commit_lines-done.ensures)
 
 pub enum_told-1 : goal.enum_told-1
 enum_told-1 c = search known

@@ -31,10 +31,10 @@ compact-made-requires c = (inner-passes c.args.self (sym c.bad.ensures ∙ c.if-
 pub enum_known-verdict : goal.enum_known-verdict
 enum_known-verdict c = search known
 
-pub returns-in-Refused : goal.returns-in-Refused
-returns-in-Refused c =
+pub returns-in-Err : goal.returns-in-Err
+returns-in-Err c =
     let b = sym c.bad.ensures ∙ c.if-bad.false in
-    rw b (made-refused _ _ _ _ _ _ _ _ _ (sym c.compact-made.ensures.verdict ∙ c.in-Refused.is) refl refl refl)
+    rw b (made-refused _ _ _ _ _ _ _ _ _ (sym c.compact-made.ensures.verdict ∙ c.in-Err.is) refl refl refl)
 
 pub enum_told-1 : goal.enum_told-1
 enum_told-1 c = search known

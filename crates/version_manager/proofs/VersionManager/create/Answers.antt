@@ -31,10 +31,10 @@ create-made-requires c = (inner-passes c.args.self (sym c.bad.ensures ∙ c.if-b
 pub enum_known-verdict : goal.enum_known-verdict
 enum_known-verdict c = search known
 
-pub returns-in-Refused : goal.returns-in-Refused
-returns-in-Refused c =
+pub returns-in-Err : goal.returns-in-Err
+returns-in-Err c =
     let b = sym c.bad.ensures ∙ c.if-bad.false in
-    rw b (made-refused _ _ _ _ _ _ _ _ _ (sym c.create-made.ensures.verdict ∙ c.in-Refused.is) refl refl refl)
+    rw b (made-refused _ _ _ _ _ _ _ _ _ (sym c.create-made.ensures.verdict ∙ c.in-Err.is) refl refl refl)
 
 pub enum_told-1 : goal.enum_told-1
 enum_told-1 c = search known
@@ -55,27 +55,27 @@ commit_lines-done-requires c = search known
 pub enum_known-answer : goal.enum_known-answer
 enum_known-answer c = search known
 
-pub enum_known-answer-in-Refused-answer : goal.enum_known-answer-in-Refused-answer
-enum_known-answer-in-Refused-answer c = search known
+pub enum_known-answer-in-Err-answer : goal.enum_known-answer-in-Err-answer
+enum_known-answer-in-Err-answer c = search known
 
-pub shape_of-out-in-Appended : goal.shape_of-out-in-Appended
-shape_of-out-in-Appended c = search known
+pub shape_of-out-in-Ok : goal.shape_of-out-in-Ok
+shape_of-out-in-Ok c = search known
 
-pub returns-in-Appended : goal.returns-in-Appended
-returns-in-Appended c =
+pub returns-in-Ok : goal.returns-in-Ok
+returns-in-Ok c =
     let a = c.args in
     let b = sym c.bad.ensures ∙ c.if-bad.false in
     let v = sym c.create-made.ensures.verdict ∙ c.in_default.is in
     let done = made_ends (created_by (held_by c.args.self) c.args.shape (name_of c.args.name)) _ _ _ (c.create-made.ensures.written c.in_default.is) c.args.self c.args.out.now _ _ b (made-laws.create c.args.self.inner c.args.shape (name_of c.args.name) (length c.args.out.now) (inner-passes c.args.self b) (omega (arith, c.ranges.shape)) v) c.commit_lines-done.ensures in
-    rw b (made-accepted _ (created_by (held_by c.args.self) c.args.shape (name_of c.args.name)) _ c.args.self c.args.out.now _ _ c.commit_lines-done.result v (told-appended c.commit_lines-done.result.answer ((held_by c.args.self).epoch + 1) (length (append_of (created_by (held_by c.args.self) c.args.shape (name_of c.args.name)))) _ _ (held_by c.args.self).next_table c.in-Appended.is done.0) done)
+    rw b (made-accepted _ (created_by (held_by c.args.self) c.args.shape (name_of c.args.name)) _ c.args.self c.args.out.now _ _ c.commit_lines-done.result v (told-appended c.commit_lines-done.result.answer ((held_by c.args.self).epoch + 1) (length (append_of (created_by (held_by c.args.self) c.args.shape (name_of c.args.name)))) _ (held_by c.args.self).next_table c.in-Ok.is done.0) done)
 
-pub shape_of-out-in-Refused-answer : goal.shape_of-out-in-Refused-answer
-shape_of-out-in-Refused-answer c = search known
+pub shape_of-out-in-Err-answer : goal.shape_of-out-in-Err-answer
+shape_of-out-in-Err-answer c = search known
 
-pub returns-in-Refused-answer : goal.returns-in-Refused-answer
-returns-in-Refused-answer c =
+pub returns-in-Err-answer : goal.returns-in-Err-answer
+returns-in-Err-answer c =
     let a = c.args in
     let b = sym c.bad.ensures ∙ c.if-bad.false in
     let v = sym c.create-made.ensures.verdict ∙ c.in_default.is in
     let done = made_ends (created_by (held_by c.args.self) c.args.shape (name_of c.args.name)) _ _ _ (c.create-made.ensures.written c.in_default.is) c.args.self c.args.out.now _ _ b (made-laws.create c.args.self.inner c.args.shape (name_of c.args.name) (length c.args.out.now) (inner-passes c.args.self b) (omega (arith, c.ranges.shape)) v) c.commit_lines-done.ensures in
-    absurd (told-refused c.commit_lines-done.result.answer ((held_by c.args.self).epoch + 1) (length (append_of (created_by (held_by c.args.self) c.args.shape (name_of c.args.name)))) _ c.in-Refused-answer.is done.0)
+    absurd (told-refused c.commit_lines-done.result.answer ((held_by c.args.self).epoch + 1) (length (append_of (created_by (held_by c.args.self) c.args.shape (name_of c.args.name)))) _ c.in-Err-answer.is done.0)

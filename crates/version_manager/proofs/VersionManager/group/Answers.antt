@@ -37,52 +37,49 @@ group-done-requires c =
     let v = length-take-le c.split-n.result c.split-n.new.rows (omega (arith, c.split-n.ensures.count, c.split-n.ensures.ws_full)) in
     (v ∙ sym u, u ∙ c.split-n.ensures.count)
 
-pub enum_known-verdict : goal.enum_known-verdict
-enum_known-verdict c = search rules
+pub enum_known-done : goal.enum_known-done
+enum_known-done c = search rules
 
-pub shape_of-rowsets-in-Refused : goal.shape_of-rowsets-in-Refused
-shape_of-rowsets-in-Refused c = search rules
+pub shape_of-rowsets-in-Err : goal.shape_of-rowsets-in-Err
+shape_of-rowsets-in-Err c = search rules
 
-pub shape_of-lengths-in-Refused : goal.shape_of-lengths-in-Refused
-shape_of-lengths-in-Refused c = search rules
+pub shape_of-lengths-in-Err : goal.shape_of-lengths-in-Err
+shape_of-lengths-in-Err c = search rules
 
-pub shape_of-counts-in-Refused : goal.shape_of-counts-in-Refused
-shape_of-counts-in-Refused c = search rules
+pub shape_of-counts-in-Err : goal.shape_of-counts-in-Err
+shape_of-counts-in-Err c = search rules
 
-pub shape_of-files-in-Refused : goal.shape_of-files-in-Refused
-shape_of-files-in-Refused c = search rules
+pub shape_of-files-in-Err : goal.shape_of-files-in-Err
+shape_of-files-in-Err c = search rules
 
-pub shape_of-rows-in-Refused : goal.shape_of-rows-in-Refused
-shape_of-rows-in-Refused c = search rules
+pub shape_of-rows-in-Err : goal.shape_of-rows-in-Err
+shape_of-rows-in-Err c = search rules
 
-pub returns-in-Refused : goal.returns-in-Refused
-returns-in-Refused c = group-no c.args.self c.args.handles _ (handles-are c.args.handles _ _ c.split-n.ensures.rowsets c.split-n.ensures.rows) _ _ _ _ _ _ _ _ _ _ _ (sym c.bad.ensures ∙ c.if-bad.false) c.group-done.ensures _ _ c.in-Refused.is refl refl
-
-pub enum_told-1 : goal.enum_told-1
-enum_told-1 c = search rules
+pub returns-in-Err : goal.returns-in-Err
+returns-in-Err c = group-no c.args.self c.args.handles _ (handles-are c.args.handles _ _ c.split-n.ensures.rowsets c.split-n.ensures.rows) _ _ _ _ _ _ _ _ _ _ _ (sym c.bad.ensures ∙ c.if-bad.false) c.group-done.ensures _ _ c.in-Err.is refl refl
 
 pub overflow_add-raised : goal.overflow_add-raised
-overflow_add-raised c = omega (arith, group-fits c.args.self c.args.handles _ (handles-are c.args.handles _ _ c.split-n.ensures.rowsets c.split-n.ensures.rows) _ _ _ _ _ _ _ _ _ _ _ (sym c.bad.ensures ∙ c.if-bad.false) c.group-done.ensures c.in_default.is)
+overflow_add-raised c = omega (arith, group-fits c.args.self c.args.handles _ (handles-are c.args.handles _ _ c.split-n.ensures.rowsets c.split-n.ensures.rows) _ _ _ _ _ _ _ _ _ _ _ (sym c.bad.ensures ∙ c.if-bad.false) c.group-done.ensures _ c.in-Ok.is)
 
 pub handed-manager-requires : goal.handed-manager-requires
 handed-manager-requires c = search rules
 
-pub shape_of-rowsets : goal.shape_of-rowsets
-shape_of-rowsets c = search rules
+pub shape_of-rowsets-in-Ok : goal.shape_of-rowsets-in-Ok
+shape_of-rowsets-in-Ok c = search rules
 
-pub shape_of-lengths : goal.shape_of-lengths
-shape_of-lengths c = search rules
+pub shape_of-lengths-in-Ok : goal.shape_of-lengths-in-Ok
+shape_of-lengths-in-Ok c = search rules
 
-pub shape_of-counts : goal.shape_of-counts
-shape_of-counts c = search rules
+pub shape_of-counts-in-Ok : goal.shape_of-counts-in-Ok
+shape_of-counts-in-Ok c = search rules
 
-pub shape_of-files : goal.shape_of-files
-shape_of-files c = search rules
+pub shape_of-files-in-Ok : goal.shape_of-files-in-Ok
+shape_of-files-in-Ok c = search rules
 
-pub shape_of-rows : goal.shape_of-rows
-shape_of-rows c = search rules
+pub shape_of-rows-in-Ok : goal.shape_of-rows-in-Ok
+shape_of-rows-in-Ok c = search rules
 
-pub returns : goal.returns
-returns c =
+pub returns-in-Ok : goal.returns-in-Ok
+returns-in-Ok c =
     let f = (sound-of c.args.self.inner (inner-passes c.args.self (sym c.bad.ensures ∙ c.if-bad.false))).fits in
-    group-yes c.args.self c.args.handles _ (handles-are c.args.handles _ _ c.split-n.ensures.rowsets c.split-n.ensures.rows) _ _ _ _ _ _ _ _ _ _ _ (sym c.bad.ensures ∙ c.if-bad.false) c.group-done.ensures _ c.in_default.is (manages _ _ _ c.handed-manager.ensures (record { fits = record { tables = f.tables; rowsets = f.rowsets; vectors = f.vectors }; state = refl })) refl
+    group-yes c.args.self c.args.handles _ (handles-are c.args.handles _ _ c.split-n.ensures.rowsets c.split-n.ensures.rows) _ _ _ _ _ _ _ _ _ _ _ (sym c.bad.ensures ∙ c.if-bad.false) c.group-done.ensures _ _ c.in-Ok.is (manages _ _ _ c.handed-manager.ensures (record { fits = record { tables = f.tables; rowsets = f.rowsets; vectors = f.vectors }; state = refl })) refl

@@ -17,11 +17,11 @@ relock-done-requires c = inner-passes c.args.self (sym c.bad.ensures ∙ c.if-ba
 pub enum_known-verdict : goal.enum_known-verdict
 enum_known-verdict c = search known
 
-pub returns-in-Refused : goal.returns-in-Refused
-returns-in-Refused c =
+pub returns-in-Err : goal.returns-in-Err
+returns-in-Err c =
     let a = c.args in
     let x = c.relock-done in
-    lock-no c.args.self c.args.table c.args.held c.relock-done.result (sym c.bad.ensures ∙ c.if-bad.false) c.relock-done.ensures _ (sym c.in-Refused.is) _ c.in-Refused.is refl
+    lock-no c.args.self c.args.table c.args.held c.relock-done.result (sym c.bad.ensures ∙ c.if-bad.false) c.relock-done.ensures _ (sym c.in-Err.is) _ c.in-Err.is refl
 
 pub enum_told-1 : goal.enum_told-1
 enum_told-1 c = search known

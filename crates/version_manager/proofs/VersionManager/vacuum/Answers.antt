@@ -17,14 +17,14 @@ vacuum-done-requires c = inner-passes c.args.self (sym c.bad.ensures ∙ c.if-ba
 pub enum_known-verdict : goal.enum_known-verdict
 enum_known-verdict c = search known
 
-pub shape_of-tables-in-Refused : goal.shape_of-tables-in-Refused
-shape_of-tables-in-Refused c = search known
+pub shape_of-tables-in-Err : goal.shape_of-tables-in-Err
+shape_of-tables-in-Err c = search known
 
-pub shape_of-rowsets-in-Refused : goal.shape_of-rowsets-in-Refused
-shape_of-rowsets-in-Refused c = search known
+pub shape_of-rowsets-in-Err : goal.shape_of-rowsets-in-Err
+shape_of-rowsets-in-Err c = search known
 
-pub returns-in-Refused : goal.returns-in-Refused
-returns-in-Refused c = vacuum-no c.args.self _ _ _ _ _ _ (sym c.bad.ensures ∙ c.if-bad.false) c.vacuum-done.ensures _ _ c.in-Refused.is refl refl
+pub returns-in-Err : goal.returns-in-Err
+returns-in-Err c = vacuum-no c.args.self _ _ _ _ _ _ (sym c.bad.ensures ∙ c.if-bad.false) c.vacuum-done.ensures _ _ c.in-Err.is refl refl
 
 pub enum_told-1 : goal.enum_told-1
 enum_told-1 c = search known
