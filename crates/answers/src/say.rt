@@ -4,7 +4,7 @@ use crate::output::Output;
 pub use crate::output::{number, put, say};
 use ids::refusal::Refusal;
 use ids::{RowsetNo, VectorNo};
-use pinning::Unpinned;
+use pinning::Readiness;
 use version_manager::{Appended, NewTable, TakenBack};
 
 pub fn comma(n: u64, output: &mut Output) {
@@ -86,9 +86,9 @@ fn flag(due: bool) -> u64 {
     0
 }
 
-pub fn unpinned(answer: Result<Unpinned, Refusal>, output: &mut Output) {
+pub fn unpinned(answer: Result<Readiness, Refusal>, output: &mut Output) {
     match answer {
-        Ok(Unpinned { due, ready }) => {
+        Ok(Readiness { due, ready }) => {
             first(b"unpinned", flag(due), output);
             last(ready as u64, output);
         }

@@ -18,7 +18,7 @@ ghost use Rattle.host.specs.Numbers.{said_by};
 use delete_vector::{Held, Loaded, Masked, Written};
 use ids::refusal::Refusal;
 use ids::{RowsetNo, VectorNo};
-use pinning::Unpinned;
+use pinning::Readiness;
 use version_manager::{Appended, NewTable, NewVectors, TakenBack};
 
 // The refusal's number, or 0 where the call was accepted; the refusal's place; and the first `count` values of an accepted call.
@@ -220,11 +220,11 @@ pub fn pinned(answer: Result<u32, Refusal>) -> Answer
     }
 }
 
-pub fn unpinned(answer: Result<Unpinned, Refusal>) -> Answer
+pub fn unpinned(answer: Result<Readiness, Refusal>) -> Answer
     ensures { said_by result ≡ unpin_told answer }
 {
     match answer {
-        Ok(Unpinned { due, ready }) => two(flag(due), size(ready)),
+        Ok(Readiness { due, ready }) => two(flag(due), size(ready)),
         Err(why) => refused(why),
     }
 }

@@ -10,7 +10,7 @@ use Rattle.pins.specs.Counts.{pins_full, places_full, with_pin, without_pin}
 use Rattle.vacuum.specs.Says.{list_of}
 use Rattle.version_manager.specs.declared.VersionManager.{VersionManager}
 use Rattle.version_manager.specs.Managers.{held_by, bad_manager}
-use Rattle.pinning.specs.declared.Unpinned.{Unpinned}
+use Rattle.pinning.specs.declared.Readiness.{Readiness}
 
 -- the epoch that is pinned
 abbrev pub PinAnswer : Type 0
@@ -18,7 +18,7 @@ PinAnswer = Result ℕ Refusal
 
 -- whether a vacuum is due, and the number ready
 abbrev pub UnpinAnswer : Type 0
-UnpinAnswer = Result Unpinned Refusal
+UnpinAnswer = Result Readiness Refusal
 
 -- the current epoch
 abbrev pub current : VersionManager → ℕ

@@ -29,7 +29,7 @@ pub struct PinStep {
 
 // Whether a vacuum is due, and how many deletions it would list.
 #[derive(Clone, Copy)]
-pub struct Unpinned {
+pub struct Readiness {
     pub due: bool,
     pub ready: usize,
 }
@@ -37,7 +37,7 @@ pub struct Unpinned {
 #[derive(Drop)]
 pub struct UnpinStep {
     pub book: PinBook,
-    pub answer: Result<Unpinned, Refusal>,
+    pub answer: Result<Readiness, Refusal>,
 }
 
 // A book that passes 28 passes it after a pin or an unpin.
@@ -156,7 +156,7 @@ pub fn after_unpin(manager: VersionManager, book: PinBook, epoch: u32) -> UnpinS
     let ready = ready(&deleted, rowsets.count, current, next, due);
     UnpinStep {
         book: next,
-        answer: Ok(Unpinned { due, ready }),
+        answer: Ok(Readiness { due, ready }),
     }
 }
 
@@ -170,7 +170,7 @@ pub fn pin(manager: VersionManager, book: &mut PinBook) -> Result<u32, Refusal>
     step.answer
 }
 
-pub fn unpin(manager: VersionManager, book: &mut PinBook, epoch: u32) -> Result<Unpinned, Refusal>
+pub fn unpin(manager: VersionManager, book: &mut PinBook, epoch: u32) -> Result<Readiness, Refusal>
     ensures { UnpinSays manager epoch book.old result book.new }
 {
     let old = *book;

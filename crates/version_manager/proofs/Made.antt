@@ -20,6 +20,7 @@ use Rattle.commit.proofs.AsLines.{lines-read, commit-lines-same}
 use Rattle.table.specs.Made.{committed}
 use Rattle.table.specs.Laws.{Accepts}
 use Rattle.version_manager.specs.declared.VersionManager.{VersionManager}
+use Rattle.version_manager.specs.declared.Appended.{Appended}
 use Rattle.version_manager.specs.Answered.{Committed, CommitAnswer}
 use Rattle.version_manager.specs.Managers.{held_by, bad_manager}
 use Rattle.version_manager.specs.Commit.{outcome_of, commit_told, CommitEnds, CommitSays}

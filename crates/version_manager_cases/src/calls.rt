@@ -1,7 +1,7 @@
 // Draws, locks, reports and pins; the other calls are in `appends` and `shows`.
 use crate::{appends, made, say, shows};
 use ids::TableNo;
-use pinning::Unpinned;
+use pinning::Readiness;
 use pins::PinBook;
 use std::io;
 use version_manager::{Locked, TakenBack, VersionManager};
@@ -80,7 +80,7 @@ fn unpin(rt: &impl Print, manager: VersionManager, book: PinBook, epoch: u32) ->
     let step = pinning::unpinned(manager, book, epoch);
     let answer = step.answer;
     match answer {
-        Ok(Unpinned { due, ready }) => {
+        Ok(Readiness { due, ready }) => {
             if due {
                 say::say(rt, b" due")?;
             }
