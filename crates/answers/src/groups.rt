@@ -68,9 +68,9 @@ pub fn grouped(
     output: &mut Output,
 ) {
     match answer {
-        Ok(NewVectors { count, first }) => {
-            say::first(b"grouped", count as u64, output);
-            vectors(count, first.0, rowsets, lengths, counts, files, rows, output);
+        Ok(NewVectors { count: n, first }) => {
+            say::first(b"grouped", n as u64, output);
+            vectors(n, first.0, rowsets, lengths, counts, files, rows, output);
         }
         Err(why) => say::refusal(why, output),
     }

@@ -122,13 +122,9 @@ pub fn committed(word: &[u8], answer: Result<Appended, Refusal>, output: &mut Ou
 
 pub fn created(answer: Result<NewTable, Refusal>, output: &mut Output) -> usize {
     match answer {
-        Ok(NewTable {
-            table,
-            epoch,
-            length,
-        }) => {
-            first(b"created", table.0 as u64, output);
-            append(epoch, length, output)
+        Ok(made) => {
+            first(b"created", made.table.0 as u64, output);
+            append(made.epoch, made.length, output)
         }
         Err(why) => no_append(why, output),
     }

@@ -61,12 +61,7 @@ fn draw(manager: VersionManager, s: &[u8], output: &mut Output) -> VersionManage
     }
 }
 
-fn vacuumed(
-    answer: Result<usize, Refusal>,
-    tables: &[u32],
-    rowsets: &[u32],
-    output: &mut Output,
-) {
+fn vacuumed(answer: Result<usize, Refusal>, tables: &[u32], rowsets: &[u32], output: &mut Output) {
     match answer {
         Ok(n) => {
             say::first(b"vacuumed", n as u64, output);

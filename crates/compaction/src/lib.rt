@@ -156,7 +156,12 @@ fn locked<'a>(
 }
 
 // 11, 12, 14, 16, 20, 22.
-fn standing(inner: VersionManagerInner, table: TableNo, new: NewRowset, taken: &[u32]) -> Result<(), Refusal>
+fn standing(
+    inner: VersionManagerInner,
+    table: TableNo,
+    new: NewRowset,
+    taken: &[u32],
+) -> Result<(), Refusal>
     requires { bad_inner inner ≡ false }
     ensures { result ≡ judged (compact_state (state_of inner) table.0 (new_of new) taken.now) }
 {
@@ -196,7 +201,12 @@ fn standing(inner: VersionManagerInner, table: TableNo, new: NewRowset, taken: &
 }
 
 // 23, 27, 9, for an append of `size` bytes and a lent buffer of `room`.
-fn ending(inner: VersionManagerInner, table: TableNo, size: usize, room: usize) -> Result<(), Refusal>
+fn ending(
+    inner: VersionManagerInner,
+    table: TableNo,
+    size: usize,
+    room: usize,
+) -> Result<(), Refusal>
     requires { bad_inner inner ≡ false }
     ensures { result ≡ judged (compact_last (state_of inner) table.0 size room) }
 {

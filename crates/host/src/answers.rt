@@ -147,11 +147,7 @@ pub fn created(answer: Result<NewTable, Refusal>) -> Answer
     ensures { said_by result ≡ create_told answer }
 {
     match answer {
-        Ok(NewTable {
-            table,
-            epoch,
-            length,
-        }) => three(wide(table.0), wide(epoch), size(length)),
+        Ok(made) => three(wide(made.table.0), wide(made.epoch), size(made.length)),
         Err(why) => refused(why),
     }
 }

@@ -2,13 +2,11 @@
 use mathlib.Core.Path.{◌≡◌, refl}
 use mathlib.Core.Bool.{Bool, true, false}
 use mathlib.Core.List.{List, [], ◌∷◌, ◌++◌}
-use Prim.Native.Nat.{ℕ}
-use native.Mathlib.Omega.{arith}
 use Rattle.lists.proofs.Keyed.{All}
 use Rattle.ids.specs.declared.refusal.Refusal.{Refusal}
-use Rattle.std.specs.Prelude.{Result, Ok, Err}
+use Rattle.std.specs.Prelude.{Ok, Err}
 use Rattle.std.specs.Result.{result_and}
-use Rattle.ids.specs.Verdicts.{Rule, ◌⇒◌, Verdict, judged}
+use Rattle.ids.specs.Verdicts.{Rule, ◌⇒◌, judged}
 
 -- the rule's condition does not hold
 abbrev pub Passed : Rule → Type 0

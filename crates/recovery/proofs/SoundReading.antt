@@ -70,7 +70,7 @@ kept-vectors q s k =
 not-given : {A : Type 0} {k : Refusal} {a : A} → Err k ≡ Ok a → ⊥
 not-given h = let z : ◌≡◌ {A = ℕ} 0 1 = cc in omega arith
 
-same-given : {A : Type 0} {a b : A} → Ok a ≡ Ok b → a ≡ b
+same-given : {A : Type 0} {a b : A} → ◌≡◌ {A = Result A Refusal} (Ok a) (Ok b) → a ≡ b
 same-given h = cc
 
 then-given : {A B : Type 0} (x : Result A Refusal) (f : A → Result B Refusal) (b : B) → and_then x f ≡ Ok b → (a : A) × (x ≡ Ok a) × (f a ≡ Ok b)

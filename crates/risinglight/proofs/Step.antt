@@ -220,7 +220,7 @@ module _ (cut : ℕ) (g : Engine) (r : Record) (k : Rel g r) (e : Event) (i : In
           let y = opened-lists (ltb (length out) (length (rewritten_of i.torn.state))) q in
           (ap (λ (u : State). u.pairs) z ∙ y.0, ap (λ (u : State). u.vectors) z ∙ y.1)
         where
-          opened-lists : (b : Bool) → result_and (cond b (Err OutputTooShort) (Ok tt)) (Ok (with_rewritten i.torn.state)) ≡ Ok s
+          opened-lists : (b : Bool) → result_and {T = Unit} (cond b (Err OutputTooShort) (Ok tt)) (Ok (with_rewritten i.torn.state)) ≡ Ok s
               → (s.pairs ≡ i.torn.state.pairs) × (s.vectors ≡ i.torn.state.vectors)
           opened-lists true h = absurd (halt h)
           opened-lists false h =

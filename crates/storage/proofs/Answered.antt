@@ -23,7 +23,7 @@ use Rattle.storage.specs.Reopen.{opened_of, reopen_told, ReopenIs, ReopenSays}
 not-both : (r : Reopened) (n : ℕ) (k : Refusal) → reopen_told r.answer ≡ told (Err k) [] → r.answer ≡ Ok n → 1 ≤ 0
 not-both r n k h e = let z : ◌≡◌ {A = ℕ} 1 0 = ap (λ (t : Told). length t.values) (sym (ap reopen_told e) ∙ h) in omega arith
 
-opened : (b : Bool) (s : State) (out out' : List ℕ) (r : Reopened) (n : ℕ) → ReopenIs (result_and (cond b (Err OutputTooShort) (Ok tt)) (Ok s)) out r out' → r.answer ≡ Ok n → (b ≡ false) × (n ≡ s.manifest)
+opened : (b : Bool) (s : State) (out out' : List ℕ) (r : Reopened) (n : ℕ) → ReopenIs (result_and {T = Unit} (cond b (Err OutputTooShort) (Ok tt)) (Ok s)) out r out' → r.answer ≡ Ok n → (b ≡ false) × (n ≡ s.manifest)
 opened true s out out' r n h e = absurd (let z = not-both r n OutputTooShort h.0 e in omega arith)
 opened false s out out' r n h e = (refl, ap (λ (t : Told). get_or t.values 0 0) (sym (ap reopen_told e) ∙ h.0))
 

@@ -3,7 +3,6 @@ use Rattle.std.specs.Prelude.{Result, ℕ}
 use Rattle.ids.specs.declared.RowsetNo.{RowsetNo}
 use Rattle.ids.specs.declared.VectorNo.{VectorNo}
 use Rattle.ids.specs.declared.refusal.Refusal.{Refusal}
-use Rattle.ids.specs.Verdicts.{Verdict}
 use Rattle.version_manager.specs.declared.Answered.{Answered}
 use Rattle.version_manager.specs.declared.NewVectors.{NewVectors}
 use Rattle.version_manager.specs.declared.Appended.{Appended}

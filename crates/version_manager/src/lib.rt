@@ -92,14 +92,19 @@ pub struct TakenBack {
 }
 
 pub type DrawnRowset = Answered<RowsetNo>;
+
 pub type DrawnVector = Answered<VectorNo>;
+
 pub type Grouped = Answered<NewVectors>;
+
 pub type Committed = Answered<Appended>;
+
 pub type Created = Answered<NewTable>;
 // How many deletions are listed.
 pub type Vacuumed = Answered<usize>;
 // How many bytes the rewritten manifest has.
 pub type Checkpointed = Answered<usize>;
+
 pub type Reported = Answered<TakenBack>;
 // After a lock was taken or given back.
 pub type Locked = Answered<()>;
@@ -597,7 +602,13 @@ impl VersionManager {
 
     // Which of a table's rowsets a compaction is to take: a size is lent for each of them, and those taken are written to the front of
     // `out`.
-    pub fn select(self, table: TableNo, target: u64, sizes: &[u64], out: &mut [u32]) -> Result<usize, Refusal>
+    pub fn select(
+        self,
+        table: TableNo,
+        target: u64,
+        sizes: &[u64],
+        out: &mut [u32],
+    ) -> Result<usize, Refusal>
         ensures { SelectSays self table target sizes.now out.old result out.new }
     {
         if self.bad() {

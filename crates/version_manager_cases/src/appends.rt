@@ -3,7 +3,7 @@ use crate::{made, say};
 use compaction::NewRowset;
 use ids::{RowsetNo, TableNo};
 use std::io;
-use version_manager::{Appended, Checkpointed, Committed, Created, NewTable};
+use version_manager::{Appended, Checkpointed, Committed, Created};
 
 // The most that is lent.
 const ROOM: usize = 192;
@@ -23,14 +23,10 @@ fn committed(rt: &impl Print, done: Committed) -> io::Result<()> {
 fn created(rt: &impl Print, done: Created) -> io::Result<()> {
     let answer = done.answer;
     match answer {
-        Ok(NewTable {
-            table,
-            epoch,
-            length,
-        }) => {
-            say::number32(rt, " table ", table.0)?;
-            say::number32(rt, " epoch ", epoch)?;
-            say::number(rt, " bytes ", length as u64)?;
+        Ok(made) => {
+            say::number32(rt, " table ", made.table.0)?;
+            say::number32(rt, " epoch ", made.epoch)?;
+            say::number(rt, " bytes ", made.length as u64)?;
         }
         Err(why) => say::refusal(rt, why)?,
     }

@@ -1,6 +1,6 @@
 -- `replay::replay` meets its contract.
-use mathlib.Core.Path.{refl, sym, ◌∙◌, ap}
-use borrow.Author.Tests.{lt-ltb, le-ltb, not-true, not-false}
+use mathlib.Core.Path.{refl, ◌∙◌, ap}
+use borrow.Author.Tests.{lt-ltb, le-ltb}
 use Rattle.std.specs.Prelude.{not}
 use Rattle.replay.specs.Replay.{ReplayIs}
 use Rattle.replay.proofs.Frames.{run-stop, ran}

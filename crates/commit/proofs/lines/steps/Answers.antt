@@ -1,10 +1,8 @@
 -- `commit::lines::steps` meets its contract.
-use mathlib.Core.Path.{refl, sym, ◌∙◌, ap}
+use mathlib.Core.Path.{refl, ◌∙◌, ap}
 use native.Mathlib.Omega.{arith}
-use borrow.Author.Tests.{not-true, not-false}
 use lib.ListN.{drop}
 use Rattle.std.specs.Prelude.{not}
-use Rattle.lists.proofs.Places.{known}
 use Rattle.manifest.specs.Operations.{operation_of}
 use Rattle.version_state.specs.Columns.{columns, state_in}
 use Rattle.operations.specs.Columns.{StepIs}

@@ -1,6 +1,5 @@
 -- `replay::frame::end_frame` meets its contract.
 use mathlib.Core.Path.{sym, ◌∙◌, ap}
-use borrow.Author.Tests.{not-true, not-false}
 use Rattle.std.specs.Prelude.{not}
 use Rattle.replay.proofs.Frames.{end-stop, end-over, end-within}
 use Rattle.lists.proofs.Places.{known}

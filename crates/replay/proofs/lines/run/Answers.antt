@@ -1,7 +1,6 @@
 -- `replay::lines::run` meets its contract.
 use mathlib.Core.Path.{refl, sym, ◌∙◌, ap}
 use native.Mathlib.Omega.{arith}
-use borrow.Author.Tests.{not-true, not-false}
 use Rattle.std.specs.Prelude.{not}
 use Rattle.manifest.proofs.Split.{line-placed}
 use Rattle.replay.proofs.Frames.{said-line, said-as, turn-as, cut-start, reading-start, reading-end, reading-stop, reading-on}
