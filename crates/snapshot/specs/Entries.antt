@@ -43,6 +43,10 @@ shown_by e x = shown_at e x.added x.deleted
 abbrev pub shown : ℕ → List Entry → List (List ℕ)
 shown e l = map (λ (x : Entry). x.ids) (keep (shown_by e) l)
 
+-- a pair or vector of the table t
+abbrev pub of_table : ℕ → Entry → Bool
+of_table t x = eqb (get_or x.ids 0 0) t
+
 -- by its ids; a vacuum's list is by epoch and then ids
 abbrev pub by_ids : Entry → List ℕ
 by_ids x = x.ids

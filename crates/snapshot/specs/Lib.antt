@@ -3,3 +3,5 @@ pub mod Entries
 pub mod Picked
 pub mod Tables
 pub mod Views
+pub mod Found
+pub mod Shown

@@ -1,7 +1,7 @@
 -- The live tables. Assumes nothing.
-use Rattle.std.specs.Prelude.{◌≡◌, Bool, false, cond, List, [], ◌∷◌, ℕ, ◌*◌, ◌<◌, leb, length, drop}
+use Rattle.std.specs.Prelude.{◌≡◌, Bool, false, cond, ◌&&◌, List, [], ◌∷◌, ℕ, ◌*◌, ◌<◌, leb, length, drop}
 use Rattle.lists.specs.Order.{same}
-use Rattle.lists.specs.Keyed.{any_of}
+use Rattle.lists.specs.Keyed.{any_of, is_at}
 use Rattle.ids.specs.Limits.{most_tables}
 use Rattle.ids.specs.Names.{longest_name, name_in}
 use Rattle.columns.specs.Rows.{rows, column, marks}
@@ -17,12 +17,24 @@ pub record TableEntry : Type 0 where
 abbrev pub created : ℕ → ℕ → List ℕ → TableEntry
 created t h n = record { table = t; shape = h; name = n; locked = false }
 
+-- what stands for no table
+abbrev pub no_table : TableEntry
+no_table = created 0 0 []
+
 abbrev pub by_table : TableEntry → List ℕ
 by_table t = t.table ∷ []
 
 -- a live table has the name
 abbrev pub name_taken : List ℕ → List TableEntry → Bool
 name_taken n l = any_of (λ t. same t.name n) l
+
+-- the lock of a live table of the id is held
+abbrev pub lock_held : ℕ → List TableEntry → Bool
+lock_held t l = any_of (λ x. is_at by_table (t ∷ []) x && x.locked) l
+
+-- a table, its lock held or free
+abbrev pub with_lock : Bool → TableEntry → TableEntry
+with_lock b x = record { table = x.table; shape = x.shape; name = x.name; locked = b }
 
 -- how many bytes a name has whose length is said so; a length that no name has stands for no bytes at all
 abbrev pub length_in : ℕ → ℕ

@@ -4,6 +4,7 @@
 ghost use Rattle.std.specs.Prelude.{◌≡◌};
 ghost use Rattle.snapshot.specs.Entries.{gone_at, shown_at};
 
+pub mod epoch;
 pub mod held;
 pub mod rowsets;
 pub mod tables;

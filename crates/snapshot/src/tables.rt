@@ -1,13 +1,13 @@
 // Live tables, in columns that are lent to small functions.
-ghost use Rattle.std.specs.Prelude.{◌≡◌, true, [], ◌∷◌, ◌++◌, ◌+◌, ◌*◌, ◌≤◌, ◌<◌, ltb, length, take, drop};
+ghost use Rattle.std.specs.Prelude.{◌≡◌, true, [], ◌∷◌, ◌++◌, ◌+◌, ◌*◌, ◌≤◌, ◌<◌, ltb, length, get_or, take, drop};
 ghost use Rattle.ids.specs.Limits.{most_tables};
 ghost use Rattle.ids.specs.Names.{longest_name, name_of};
 ghost use Rattle.lists.specs.Order.{same};
-ghost use Rattle.lists.specs.Keyed.{all_of, any_of, has, without, ascending};
+ghost use Rattle.lists.specs.Keyed.{all_of, any_of, has, changed, without, ascending};
 ghost use Rattle.lists.specs.Written.{written};
 ghost use Rattle.columns.specs.Rows.{rows, column, across, plain};
-ghost use Rattle.snapshot.specs.Tables.{by_table, created, length_in, name_at, table_at, table_rows, name_bytes, Whole, RowMoved};
-ghost use Rattle.snapshot.specs.Views.{tables_of};
+ghost use Rattle.snapshot.specs.Tables.{by_table, created, no_table, name_taken, lock_held, with_lock, length_in, name_at, table_at, table_rows, name_bytes, Whole, RowMoved};
+ghost use Rattle.snapshot.specs.Views.{tables_of, table_of};
 
 use ids::TableNo;
 use ids::limits::{LONGEST_NAME, MOST_TABLES, NAME_BYTES};
@@ -25,6 +25,15 @@ pub struct Tables {
     pub count: usize,
 }
 
+// One of them.
+#[derive(Clone, Copy)]
+pub struct Table {
+    pub table: TableNo,
+    pub shape: u32,
+    pub name: Name,
+    pub locked: bool,
+}
+
 impl Tables {
     pub fn none() -> Tables
         ensures { (result.count ≡ 0) × (tables_of result ≡ []) }
@@ -37,6 +46,128 @@ impl Tables {
             locked: [false; MOST_TABLES],
             count: 0,
         }
+    }
+
+    // Internal, as are all that follow: the bytes of the name at a place.
+    pub fn name(&self, i: usize) -> &[u8]
+        requires fits { self.now.count ≤ most_tables }
+        requires inside { i < self.now.count }
+        ensures { result.now ≡ (get_or (tables_of self.now) i no_table).name }
+    {
+        let from = LONGEST_NAME * i;
+        &self.names[from..from + length_at(&self.lengths, i)]
+    }
+
+    // The one at a place.
+    pub fn get(&self, i: usize) -> Table
+        requires fits { self.now.count ≤ most_tables }
+        requires inside { i < self.now.count }
+        ensures { table_of result ≡ get_or (tables_of self.now) i no_table }
+    {
+        Table {
+            table: TableNo(self.ids[i]),
+            shape: self.shapes[i],
+            name: Name::of(self.name(i)),
+            locked: self.locked[i],
+        }
+    }
+
+    // Whether a live table has the id.
+    pub fn holds(&self, table: TableNo) -> bool
+        requires fits { self.now.count ≤ most_tables }
+        ensures { result ≡ has by_table (table.0 ∷ []) (tables_of self.now) }
+    {
+        self.ids[..self.count].contains(&table.0)
+    }
+
+    // Whether a live table has the name.
+    pub fn taken(&self, name: Name) -> bool
+        requires fits { self.now.count ≤ most_tables }
+        ensures { result ≡ name_taken (name_of name) (tables_of self.now) }
+    {
+        taken(&self.lengths, &self.names, self.count, name)
+    }
+
+    // The ids rise strictly.
+    pub fn is_ascending(&self) -> bool
+        requires fits { self.now.count ≤ most_tables }
+        ensures { result ≡ ascending by_table (tables_of self.now) }
+    {
+        ordered(&self.ids, self.count)
+    }
+
+    // Every id is below the next one.
+    pub fn all_below(&self, next: TableNo) -> bool
+        requires fits { self.now.count ≤ most_tables }
+        ensures { result ≡ all_of (λ t. ltb t.table next.0) (tables_of self.now) }
+    {
+        below(&self.ids, self.count, next)
+    }
+
+    // Whether the lock of a live table with the id is held.
+    pub fn is_locked(&self, table: TableNo) -> bool
+        requires fits { self.now.count ≤ most_tables }
+        ensures { result ≡ lock_held table.0 (tables_of self.now) }
+    {
+        for i in 0..self.count {
+            if self.ids[i] == table.0 && self.locked[i] {
+                return true;
+            }
+        }
+        false
+    }
+
+    // The lock of each table of the id made held or free.
+    pub fn set_locked(&mut self, table: TableNo, held: bool)
+        requires fits { self.old.count ≤ most_tables }
+        ensures told { tables_of self.new ≡ changed by_table (table.0 ∷ []) (with_lock held) (tables_of self.old) }
+        ensures count { self.new.count ≡ self.old.count }
+    {
+        for i in 0..self.count {
+            if self.ids[i] == table.0 {
+                self.locked[i] = held;
+            }
+        }
+    }
+
+    // A table after the others, its lock free.
+    pub fn push(&mut self, table: TableNo, shape: u32, name: Name)
+        requires room { self.old.count < most_tables }
+        ensures told { tables_of self.new ≡ tables_of self.old ++ (created table.0 shape (name_of name) ∷ []) }
+        ensures count { self.new.count ≡ self.old.count + 1 }
+    {
+        let count = self.count;
+        push(
+            &mut self.ids,
+            &mut self.shapes,
+            &mut self.lengths,
+            &mut self.names,
+            &mut self.locked,
+            count,
+            table,
+            shape,
+            name,
+        );
+        self.count = count + 1;
+    }
+
+    // Without the tables of an id.
+    pub fn remove(&mut self, table: TableNo)
+        requires fits { self.old.count ≤ most_tables }
+        ensures told { tables_of self.new ≡ without by_table (table.0 ∷ []) (tables_of self.old) }
+        ensures fewer { self.new.count ≤ self.old.count }
+    {
+        let count = self.count;
+        let left = remove(
+            &mut self.ids,
+            &mut self.shapes,
+            &mut self.lengths,
+            &mut self.names,
+            &mut self.locked,
+            count,
+            table,
+        );
+        self.count = left;
     }
 }
 
