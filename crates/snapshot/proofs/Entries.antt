@@ -196,6 +196,10 @@ marked-keep : {A : Type 0} (p : A → Bool) (l : List A) → marked (map p l) l 
 marked-keep p [] = refl
 marked-keep {A} p (x ∷ l) = ap (λ (t : List A). cond (p x) (x ∷ t) t) (marked-keep p l)
 
+-- rows marked by a test
+pub marked-test : {A : Type 0} (g : ℕ → A) (p : A → Bool) (m : List Bool) (n : ℕ) → m ≡ rows (λ i. p (g i)) n → marked m (rows g n) ≡ keep p (rows g n)
+marked-test g p m n t = rw (t, ← rows-map g p n) (marked-keep p (rows g n))
+
 pub data AllKept (m : List Bool) (n r : ℕ) : List (List ℕ) → List (List ℕ) → Type 0 where
   none : AllKept m n r [] []
   more : {c e : List ℕ} {cs es : List (List ℕ)} → Kept m n c r e → AllKept m n r cs es → AllKept m n r (c ∷ cs) (e ∷ es)
@@ -224,12 +228,15 @@ module _ (m : List Bool) (n r : ℕ) where
   all-kept none j h = refl
   all-kept (more k ps) j h = ap₂ ◌∷◌ (kept_at _ _ k j h) (all-kept ps j h)
 
-  -- the entries that pass a test are kept, in all columns
-  pub keep-entries : {ks es : List (List ℕ)} (a b d f : List ℕ) (p : Entry → Bool) → AllKept m n r ks es → Kept m n a r b → Kept m n d r f
-      → m ≡ rows (λ i. p (entry_at ks a d i)) n → entries es b f r ≡ keep p (entries ks a d n)
-  keep-entries {ks} {es} a b d f p ps ka kd t =
+  -- the marked entries are kept, in all columns
+  pub kept-entries : {ks es : List (List ℕ)} (a b d f : List ℕ) → AllKept m n r ks es → Kept m n a r b → Kept m n d r f → entries es b f r ≡ marked m (entries ks a d n)
+  kept-entries {ks} {es} a b d f ps ka kd =
       let g = entry_at ks a d in
       rows_are (entry_at es b f) r (map g places) (g 0) (length-map places g ∙ kept-count r a b ka) (λ j h.
       get_or-map g places j 0 ∙ sym (rw (all-kept ps j h, kept_at a b ka j h, kept_at d f kd j h)))
       ∙ sym (placed-rows g)
-      ∙ rw (t, ← rows-map g p n) (marked-keep p (rows g n))
+
+  -- the entries that pass a test are kept, in all columns
+  pub keep-entries : {ks es : List (List ℕ)} (a b d f : List ℕ) (p : Entry → Bool) → AllKept m n r ks es → Kept m n a r b → Kept m n d r f
+      → m ≡ rows (λ i. p (entry_at ks a d i)) n → entries es b f r ≡ keep p (entries ks a d n)
+  keep-entries {ks} a b d f p ps ka kd t = kept-entries a b d f ps ka kd ∙ marked-test (entry_at ks a d) p m n t

@@ -1,9 +1,10 @@
 -- Tables in columns: what one column says of them, names in a column of bytes, and what a change of each column does. Assumes nothing.
 use mathlib.Core.Path.{◌≡◌, refl, sym, ap, ap₂, ◌∙◌}
-use mathlib.Core.Bool.{Bool, true, false, ◌&&◌}
+use mathlib.Core.Bool.{Bool, true, false, cond, ◌&&◌, ◌||◌, and-true}
 use mathlib.Core.List.{List, [], ◌∷◌, ◌++◌, map, append-nil, append_assoc}
 use Prim.Native.Nat.{ℕ, ◌+◌, ◌*◌, ◌-◌, ◌≤◌, ◌<◌}
 use native.Mathlib.Omega.{arith}
+use native.Mathlib.Nat.{not-suc-le-zero}
 use native.Mathlib.Numerals.{add-one}
 use lib.Dec.{leb, ltb, eqb}
 use lib.ListN.{length, get_or, take, drop, set, length-append, length-drop, length-set, drop_of_length-le, get_or-append}
@@ -14,17 +15,19 @@ use Rattle.ids.specs.Names.{longest_name, name_in, name_of}
 use Rattle.ids.specs.declared.name.Name.{Name}
 use Rattle.ids.proofs.Names.{name-room}
 use Rattle.lists.specs.Order.{less, same}
-use Rattle.lists.specs.Keyed.{keep, all_of, any_of, has, ascending}
+use Rattle.lists.specs.Keyed.{keep, all_of, any_of, has, is_at, changed, ascending}
 use Rattle.lists.specs.Places.{insert_at}
 use Rattle.lists.specs.Written.{written}
 use Rattle.lists.proofs.Tests.{by_cases, tri}
-use Rattle.lists.proofs.Order.{lex-lt, lex-last, same-ne}
+use Rattle.lists.proofs.Order.{lex-lt, lex-last, same-ne, same_refl}
 use Rattle.lists.proofs.Keyed.{any_of-map}
 use Rattle.lists.proofs.Places.{drop-view, drop-end}
 use Rattle.lists.proofs.Written.{written-length, written_none, written-more}
 use Rattle.columns.specs.Rows.{rows, column, marks, across, plain}
-use Rattle.columns.proofs.Rows.{rows-length, rows_at, rows-map, rows_seen, rows_end, rows-insert, ascending-map}
-use Rattle.snapshot.specs.Tables.{TableEntry, by_table, created, name_taken, length_in, name_at, table_at, table_rows, name_bytes, Whole, RowMoved}
+use Rattle.columns.proofs.Rows.{rows-length, rows_at, rows_same, rows-map, rows_seen, rows_end, rows-insert, ascending-map}
+use Rattle.snapshot.specs.Tables.{TableEntry, by_table, created, name_taken, with_lock, length_in, name_at, table_at, table_rows, name_bytes, Whole, RowMoved}
+use Rattle.snapshot.specs.declared.tables.Tables.{Tables}
+use Rattle.snapshot.specs.Views.{tables_of}
 use Rattle.snapshot.proofs.Entries.{all-rows}
 
 -- What one column says of the tables, whatever the others are.
@@ -37,6 +40,14 @@ module _ (ids shapes lengths names : List ℕ) (locked : List Bool) (n : ℕ) wh
 
   pub has-tables : (k : List ℕ) → has by_table k all ≡ has plain k (rows (across (ids ∷ [])) n)
   has-tables k = sym (any_of-map by_table (λ x. same x k) all) ∙ ap (has plain k) keys
+
+  pub table-ids : (t : ℕ) → has by_table (t ∷ []) all ≡ any_of (λ x. eqb x t) (rows (column ids) n)
+  table-ids t =
+      one-id all ∙ sym (any_of-map (λ t. t.table) (λ x. eqb x t) all) ∙ ap (any_of (λ x. eqb x t)) (rows-map (table_at ids shapes lengths names locked) (λ t. t.table) n)
+    where
+      one-id : (l : List TableEntry) → has by_table (t ∷ []) l ≡ any_of (λ x. eqb x.table t) l
+      one-id [] = refl
+      one-id (x ∷ l) = rw (and-true (eqb x.table t)) (ap (λ (b : Bool). eqb x.table t || b) (one-id l))
 
   pub ascending-tables : ascending by_table all ≡ ascending plain (rows (across (ids ∷ [])) n)
   ascending-tables = ascending-map by_table all ∙ ap (ascending plain) keys
@@ -383,3 +394,50 @@ module _ (ids shapes lengths names : List ℕ) (locked : List Bool) (w : Whole i
 
 pub stay-put : {A : Type 0} (f : ℕ → A) (to from : ℕ) → to ≡ from → RowMoved f to from f
 stay-put f to from e = record { here = ap f e; others = λ i h ne. refl }
+
+-- Locks of the tables of an id made held or free: those before i are.
+pub record Locking (t : ℕ) (b : Bool) (s : Tables) (i : ℕ) (r : Tables) : Type 0 where
+  pub rest : r ≡ record s { locked = r.locked }
+  pub full : length r.locked ≡ most_tables
+  pub behind : (j : ℕ) → j < i → marks r.locked j ≡ cond (same (column s.ids j ∷ []) (t ∷ [])) b (marks s.locked j)
+  pub ahead : (j : ℕ) → i ≤ j → marks r.locked j ≡ marks s.locked j
+
+module _ (t : ℕ) (b : Bool) (s : Tables) where
+  pub lock_start : length s.locked ≡ most_tables → Locking t b s 0 s
+  lock_start f = record { rest = refl; full = f; behind = λ j h. absurd (not-suc-le-zero h); ahead = λ j h. refl }
+
+  module _ (i : ℕ) (r : Tables) (w : i < most_tables) (l : Locking t b s i r) where
+    pub lock_this : column s.ids i ≡ t → Locking t b s (i + 1) (record r { locked = set r.locked i b })
+    lock_this e =
+        let f = l.full in
+        record {
+          rest = ap (λ (x : Tables). record x { locked = set r.locked i b }) l.rest;
+          full = length-set r.locked i b ∙ f;
+          behind = λ j h. tri j i
+              (λ q. get_or-set_other r.locked i j b false (λ o. omega arith) ∙ l.behind j q)
+              (λ q. rw (q, e, same_refl (t ∷ [])) (get_or-set_same r.locked i b false (omega arith)))
+              (λ q. absurd (omega arith));
+          ahead = λ j h. get_or-set_other r.locked i j b false (λ o. omega arith) ∙ l.ahead j (omega arith);
+        }
+
+    pub lock_past : (column s.ids i ≡ t → ⊥) → Locking t b s (i + 1) r
+    lock_past e =
+        record {
+          rest = l.rest;
+          full = l.full;
+          behind = λ j h. tri j i
+              (λ q. l.behind j q)
+              (λ q. rw (q, ne_eqb (column s.ids i) t e) (l.ahead i (omega arith)))
+              (λ q. absurd (omega arith));
+          ahead = λ j h. l.ahead j (omega arith);
+        }
+
+  pub lock_done : (i : ℕ) (r : Tables) → s.count ≤ i → Locking t b s i r → (tables_of r ≡ changed by_table (t ∷ []) (with_lock b) (tables_of s)) × (r.count ≡ s.count)
+  lock_done i r h l =
+      let f = table_at s.ids s.shapes s.lengths s.names s.locked in
+      let g = table_at s.ids s.shapes s.lengths s.names r.locked in
+      (ap tables_of l.rest
+      ∙ rows_same g (λ j. cond (is_at by_table (t ∷ []) (f j)) (with_lock b (f j)) (f j)) s.count (λ j q. by_cases (same (column s.ids j ∷ []) (t ∷ []))
+      (λ e. rw (l.behind j (omega arith), e))
+      (λ e. rw (l.behind j (omega arith), e)))
+      ∙ sym (rows-map f (λ y. cond (is_at by_table (t ∷ []) y) (with_lock b y) y) s.count), ap (λ (x : Tables). x.count) l.rest)

@@ -1,9 +1,14 @@
 -- Where a key stands among entries that rise, as a search by halves answers it. Assumes nothing.
-use Rattle.std.specs.Prelude.{◌≡◌, true, false, List, ℕ, ◌<◌, ◌≤◌, Result, Ok, Err}
-use Rattle.lists.specs.Keyed.{has, rank}
-use Rattle.snapshot.specs.Entries.{Entry, by_ids}
+use Rattle.std.specs.Prelude.{◌≡◌, Bool, true, false, List, [], ◌∷◌, ℕ, ◌+◌, ◌<◌, ◌≤◌, Option, Some, None, Result, Ok, Err, get_or, take, drop}
+use Rattle.lists.specs.Keyed.{keep, has, rank}
+use Rattle.snapshot.specs.Entries.{Entry, by_ids, nothing}
 
 -- of n entries, the one of the key k stands at a place, or would be put in there
 abbrev pub FoundAt : List ℕ → List Entry → ℕ → Result ℕ ℕ → Type 0
 FoundAt k l n (Ok at) = (at ≡ rank by_ids k l) × (at < n) × (has by_ids k l ≡ true)
 FoundAt k l n (Err at) = (at ≡ rank by_ids k l) × (at ≤ n) × (has by_ids k l ≡ false)
+
+-- of those that pass a test from one place on and before another, the first, which stands at a place, or none
+abbrev pub NextShown : (Entry → Bool) → List Entry → ℕ → ℕ → Option ℕ → Type 0
+NextShown p l from end None = keep p (drop from (take end l)) ≡ []
+NextShown p l from end (Some i) = (i < end) × (keep p (drop from (take end l)) ≡ get_or l i nothing ∷ keep p (drop (i + 1) (take end l)))

@@ -4,8 +4,9 @@ ghost use Rattle.std.specs.Iterator.{YieldsFirstBy, item_count};
 ghost use Rattle.ids.specs.Ids.{is_id32};
 ghost use Rattle.ids.specs.Limits.{most_held};
 ghost use Rattle.lists.specs.Keyed.{keep, all_of, has, put, changed, ascending};
+ghost use Rattle.columns.specs.Rows.{rows, marks, marked};
 ghost use Rattle.snapshot.specs.Entries.{by_ids, nothing, added_at, deleted_at, shown_by, gone_by, of_table, within};
-ghost use Rattle.snapshot.specs.Found.{FoundAt};
+ghost use Rattle.snapshot.specs.Found.{FoundAt, NextShown};
 ghost use Rattle.snapshot.specs.Views.{rowsets_of, rowset_of};
 ghost use Rattle.snapshot.specs.Shown.{shown_rowsets};
 
@@ -129,6 +130,20 @@ impl Rowsets {
         }
     }
 
+    // The first place from one on, and before another, that the epoch shows.
+    pub(crate) fn next_shown(&self, from: usize, end: usize, epoch: u32) -> Option<usize>
+        requires fits { self.now.count ≤ most_held }
+        requires inside { end ≤ self.now.count }
+        ensures { NextShown (shown_by epoch) (rowsets_of self.now) from end result }
+    {
+        for i in from..end {
+            if self.shown_at(i, epoch) {
+                return Some(i);
+            }
+        }
+        None
+    }
+
     // Those that the epoch shows, in order.
     pub fn shown(&self, epoch: u32) -> ShownRowsets<'_>
         requires fits { self.now.count ≤ most_held }
@@ -197,19 +212,28 @@ impl Rowsets {
         }
     }
 
+    // Without those that are not marked.
+    fn keep(&mut self, kept: &[bool; MOST_HELD])
+        requires fits { self.old.count ≤ most_held }
+        ensures told { rowsets_of self.new ≡ marked (rows (marks kept.now) self.old.count) (rowsets_of self.old) }
+        ensures fewer { self.new.count ≤ self.old.count }
+    {
+        let n = self.count;
+        columns::keep(&mut self.tables, kept, n);
+        columns::keep(&mut self.rowsets, kept, n);
+        columns::keep(&mut self.added, kept, n);
+        let left = columns::keep(&mut self.deleted, kept, n);
+        self.count = left;
+    }
+
     // Without those that are gone by the epoch.
     pub fn let_go(&mut self, epoch: u32)
         requires fits { self.old.count ≤ most_held }
         ensures told { rowsets_of self.new ≡ keep (λ x. not (gone_by epoch x)) (rowsets_of self.old) }
         ensures fewer { self.new.count ≤ self.old.count }
     {
-        let n = self.count;
-        let kept = held::left(&self.deleted, n, epoch);
-        columns::keep(&mut self.tables, &kept, n);
-        columns::keep(&mut self.rowsets, &kept, n);
-        columns::keep(&mut self.added, &kept, n);
-        let left = columns::keep(&mut self.deleted, &kept, n);
-        self.count = left;
+        let kept = held::left(&self.deleted, self.count, epoch);
+        self.keep(&kept);
     }
 }
 
@@ -221,14 +245,8 @@ impl<'a> Iterator for ShownRowsets<'a> {
     ghost remaining = { item_count shown_rowsets };
 
     fn next(&mut self) -> Option<HeldRowset> {
-        let end = self.end;
-        for i in self.next..end {
-            if self.held.shown_at(i, self.epoch) {
-                self.next = i + 1;
-                return Some(self.held.get(i));
-            }
-        }
-        self.next = end;
-        None
+        let i = self.held.next_shown(self.next, self.end, self.epoch)?;
+        self.next = i + 1;
+        Some(self.held.get(i))
     }
 }

@@ -52,7 +52,8 @@ impl Tables {
     pub fn name(&self, i: usize) -> &[u8]
         requires fits { self.now.count ≤ most_tables }
         requires inside { i < self.now.count }
-        ensures { result.now ≡ (get_or (tables_of self.now) i no_table).name }
+        ensures told { result.now ≡ (get_or (tables_of self.now) i no_table).name }
+        ensures short { length result.now ≤ longest_name }
     {
         let from = LONGEST_NAME * i;
         &self.names[from..from + length_at(&self.lengths, i)]

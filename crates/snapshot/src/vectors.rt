@@ -4,8 +4,9 @@ ghost use Rattle.std.specs.Iterator.{YieldsFirstBy, item_count};
 ghost use Rattle.ids.specs.Ids.{is_id32};
 ghost use Rattle.ids.specs.Limits.{most_held};
 ghost use Rattle.lists.specs.Keyed.{keep, all_of, any_of, has, put, changed, ascending};
+ghost use Rattle.columns.specs.Rows.{rows, marks, marked};
 ghost use Rattle.snapshot.specs.Entries.{by_ids, nothing, added_at, deleted_at, shown_by, gone_by, of_table, within};
-ghost use Rattle.snapshot.specs.Found.{FoundAt};
+ghost use Rattle.snapshot.specs.Found.{FoundAt, NextShown};
 ghost use Rattle.snapshot.specs.Views.{rowsets_of, vectors_of, vector_of};
 ghost use Rattle.snapshot.specs.Shown.{shown_vectors};
 
@@ -137,6 +138,20 @@ impl Vectors {
         }
     }
 
+    // The first place from one on, and before another, that the epoch shows.
+    pub(crate) fn next_shown(&self, from: usize, end: usize, epoch: u32) -> Option<usize>
+        requires fits { self.now.count ≤ most_held }
+        requires inside { end ≤ self.now.count }
+        ensures { NextShown (shown_by epoch) (vectors_of self.now) from end result }
+    {
+        for i in from..end {
+            if self.shown_at(i, epoch) {
+                return Some(i);
+            }
+        }
+        None
+    }
+
     // Those that the epoch shows, in order.
     pub fn shown(&self, epoch: u32) -> ShownVectors<'_>
         requires fits { self.now.count ≤ most_held }
@@ -206,20 +221,29 @@ impl Vectors {
         }
     }
 
+    // Without those that are not marked.
+    fn keep(&mut self, kept: &[bool; MOST_HELD])
+        requires fits { self.old.count ≤ most_held }
+        ensures told { vectors_of self.new ≡ marked (rows (marks kept.now) self.old.count) (vectors_of self.old) }
+        ensures fewer { self.new.count ≤ self.old.count }
+    {
+        let n = self.count;
+        columns::keep(&mut self.tables, kept, n);
+        columns::keep(&mut self.rowsets, kept, n);
+        columns::triples::keep(&mut self.vectors, kept, n);
+        columns::keep(&mut self.added, kept, n);
+        let left = columns::keep(&mut self.deleted, kept, n);
+        self.count = left;
+    }
+
     // Without those that are gone by the epoch.
     pub fn let_go(&mut self, epoch: u32)
         requires fits { self.old.count ≤ most_held }
         ensures told { vectors_of self.new ≡ keep (λ x. not (gone_by epoch x)) (vectors_of self.old) }
         ensures fewer { self.new.count ≤ self.old.count }
     {
-        let n = self.count;
-        let kept = held::left(&self.deleted, n, epoch);
-        columns::keep(&mut self.tables, &kept, n);
-        columns::keep(&mut self.rowsets, &kept, n);
-        columns::triples::keep(&mut self.vectors, &kept, n);
-        columns::keep(&mut self.added, &kept, n);
-        let left = columns::keep(&mut self.deleted, &kept, n);
-        self.count = left;
+        let kept = held::left(&self.deleted, self.count, epoch);
+        self.keep(&kept);
     }
 
     // A vector of any table has the id.
@@ -227,12 +251,7 @@ impl Vectors {
         requires fits { self.now.count ≤ most_held }
         ensures { result ≡ any_of (λ x. eqb (get_or (by_ids x) 2 0) vector.0) (vectors_of self.now) }
     {
-        for i in 0..self.count {
-            if self.vectors[i] == vector.0 {
-                return true;
-            }
-        }
-        false
+        self.vectors[..self.count].contains(&vector.0)
     }
 
     // Without those whose rowset is not among the rowsets.
@@ -243,17 +262,11 @@ impl Vectors {
         ensures told { vectors_of self.new ≡ keep (λ x. has by_ids (take 2 (by_ids x)) (rowsets_of rowsets.now)) (vectors_of self.old) }
         ensures fewer { self.new.count ≤ self.old.count }
     {
-        let n = self.count;
         let mut kept = [false; MOST_HELD];
-        for i in 0..n {
+        for i in 0..self.count {
             kept[i] = rowsets.holds(TableNo(self.tables[i]), RowsetNo(self.rowsets[i]));
         }
-        columns::keep(&mut self.tables, &kept, n);
-        columns::keep(&mut self.rowsets, &kept, n);
-        columns::triples::keep(&mut self.vectors, &kept, n);
-        columns::keep(&mut self.added, &kept, n);
-        let left = columns::keep(&mut self.deleted, &kept, n);
-        self.count = left;
+        self.keep(&kept);
     }
 }
 
@@ -265,14 +278,8 @@ impl<'a> Iterator for ShownVectors<'a> {
     ghost remaining = { item_count shown_vectors };
 
     fn next(&mut self) -> Option<HeldVector> {
-        let end = self.end;
-        for i in self.next..end {
-            if self.held.shown_at(i, self.epoch) {
-                self.next = i + 1;
-                return Some(self.held.get(i));
-            }
-        }
-        self.next = end;
-        None
+        let i = self.held.next_shown(self.next, self.end, self.epoch)?;
+        self.next = i + 1;
+        Some(self.held.get(i))
     }
 }

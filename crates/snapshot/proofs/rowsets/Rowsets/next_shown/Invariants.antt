@@ -1,0 +1,10 @@
+-- `snapshot::rowsets::Rowsets::next_shown` meets its contract.
+use mathlib.Core.Path.{◌≡◌}
+use lib.ListN.{take, drop}
+use Rattle.lists.specs.Keyed.{keep}
+use Rattle.snapshot.specs.Entries.{shown_by}
+use Rattle.snapshot.specs.Views.{rowsets_of}
+use Rattle.snapshot.proofs.rowsets.Rowsets.next_shown.Given as goal
+
+abbrev pub invariant-loop-i : goal.invariant-loop-i
+invariant-loop-i l = keep (shown_by l.epoch) (drop l.from (take l.end (rowsets_of l.self))) ≡ keep (shown_by l.epoch) (drop l.i (take l.end (rowsets_of l.self)))

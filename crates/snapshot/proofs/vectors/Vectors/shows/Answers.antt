@@ -1,0 +1,13 @@
+-- `snapshot::vectors::Vectors::shows` meets its contract.
+use mathlib.Core.Path.{sym, ◌∙◌}
+use mathlib.Core.List.{[], ◌∷◌}
+use Rattle.snapshot.specs.Entries.{shown_by}
+use Rattle.snapshot.specs.Views.{vectors_of}
+use Rattle.snapshot.proofs.ByPlace.{shown-found, shown-missed}
+use Rattle.snapshot.proofs.vectors.Vectors.shows.Goals as goal
+
+pub returns-in-Ok : goal.returns-in-Ok
+returns-in-Ok c = let s = c.args.self.now in c.shown_at.ensures ∙ sym (shown-found (c.args.table.0 ∷ c.args.rowset.0 ∷ c.args.vector.0 ∷ []) (vectors_of s) s.count _ c.requires.rises (shown_by c.args.epoch) c.in-Ok.ensures)
+
+pub returns-in-Err : goal.returns-in-Err
+returns-in-Err c = let s = c.args.self.now in sym (shown-missed (c.args.table.0 ∷ c.args.rowset.0 ∷ c.args.vector.0 ∷ []) (vectors_of s) s.count _ c.requires.rises (shown_by c.args.epoch) c.in-Err.ensures)
