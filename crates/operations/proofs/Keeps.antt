@@ -1,4 +1,4 @@
--- What an accepted operation keeps: order, lengths within the limits, tables below the next id; and so a step's columns are ready for the next. Assumes nothing.
+-- What an accepted operation keeps: order, lengths within the limits, tables below the next id; and so a step leaves a state ready for the next. Assumes nothing.
 use mathlib.Core.Path.{◌≡◌, refl, sym, subst, ◌∙◌}
 use mathlib.Core.Bool.{true}
 use mathlib.Core.List.{List, [], ◌∷◌}
@@ -15,20 +15,17 @@ use Rattle.ids.specs.Limits.{most_tables, most_held}
 use Rattle.ids.specs.Verdicts.{judged, Verdict}
 use Rattle.manifest.specs.Operations.{Operation, well_formed}
 use Rattle.manifest.specs.Edits.{Edit, edits_of}
-use Rattle.columns.proofs.Rows.{rows-length}
-use Rattle.snapshot.specs.Entries.{Entry, by_ids, entry_at}
-use Rattle.snapshot.specs.Tables.{TableEntry, by_table, table_at, Whole}
-use Rattle.snapshot.proofs.Entries.{ascending-ids}
-use Rattle.version_state.specs.State.{State}
+use Rattle.snapshot.specs.Entries.{Entry, by_ids}
+use Rattle.snapshot.specs.Tables.{TableEntry, by_table}
+use Rattle.version_state.specs.declared.VersionManagerInner.{VersionManagerInner}
+use Rattle.version_state.specs.State.{State, state_of}
 use Rattle.version_state.proofs.Facts.{Ordered}
-use Rattle.version_state.specs.declared.Held.{Held}
-use Rattle.operations.specs.declared.Stepped.{Stepped}
 use Rattle.version_state.specs.Sets.{next_of}
 use Rattle.operations.specs.Effect.{edited, marked, as_entry, raised, applied}
 use Rattle.operations.specs.Judge.{state_rules, op_rules}
 use Rattle.operations.specs.Steps.{step_of}
-use Rattle.version_state.specs.Columns.{Columns, state_in}
-use Rattle.operations.specs.Columns.{Leaves, Turned, Sized, Rising, Ready, StepIs}
+use Rattle.operations.specs.Ready.{Leaves, Turned, Ready, StepIs}
+use Rattle.operations.proofs.Turns.{tables-count, rowsets-count, vectors-count}
 use Rattle.operations.proofs.Edits.{adds_map, all-edited, ascending-edited, ascending-marked, rises, passed, fits, short-edited, short-marked}
 
 ordered-marked : (e : ℕ) (d : Edit (List ℕ)) (l : List Entry) → ascending by_ids l ≡ true → ascending by_ids (marked e d l) ≡ true
@@ -72,58 +69,44 @@ short-applied i e o s a r =
       vectors = short-marked e d.vectors s.vectors f.vectors r.vectors;
     }
 
--- Columns that hold what is left are ready.
-module _ (h : Held) (c : Columns) (s : State) (q : state_in h c ≡ s) where
-  ready_of : Whole c.ids c.shapes c.lengths c.names c.locked
-      → Sized (c.tables_of_pairs ∷ c.rowsets_of_pairs ∷ c.added_of_pairs ∷ c.deleted_of_pairs ∷ c.tables ∷ c.rowsets ∷ c.vectors ∷ c.added ∷ c.deleted ∷ [])
-      → Short s → Ordered s → Below s.next_table s.tables → Ready h c
-  ready_of w z f o b =
-      let x = state_in h c in
+-- A state that stands for what is left is ready.
+module _ (m : VersionManagerInner) where
+  short : Ready m → Short (state_of m)
+  short y =
+      record {
+        tables = omega (arith, y.fits.tables, tables-count m.tables);
+        pairs = omega (arith, y.fits.rowsets, rowsets-count m.rowsets);
+        vectors = omega (arith, y.fits.vectors, vectors-count m.vectors);
+      }
+
+  ready_of : (s : State) → state_of m ≡ s → Short s → Ordered s → Below s.next_table s.tables → Ready m
+  ready_of s q f o b =
       let g = subst Short (sym q) f in
       let p = subst Ordered (sym q) o in
-      let y : Below x.next_table x.tables = subst (λ (t : State). Below t.next_table t.tables) (sym q) b in
+      let y = subst (λ (t : State). Below t.next_table t.tables) (sym q) b in
       record {
-        whole = w;
-        sized = z;
         fits =
             record {
-              tables = omega (arith, g.tables, rows-length (table_at c.ids c.shapes c.lengths c.names c.locked) h.tables);
-              rowsets = omega (arith, g.pairs, rows-length (entry_at (c.tables_of_pairs ∷ c.rowsets_of_pairs ∷ []) c.added_of_pairs c.deleted_of_pairs) h.rowsets);
-              vectors = omega (arith, g.vectors, rows-length (entry_at (c.tables ∷ c.rowsets ∷ c.vectors ∷ []) c.added c.deleted) h.vectors);
+              tables = omega (arith, g.tables, tables-count m.tables);
+              rowsets = omega (arith, g.pairs, rowsets-count m.rowsets);
+              vectors = omega (arith, g.vectors, vectors-count m.vectors);
             };
         tables = p.tables;
         pairs = p.pairs;
         vectors = p.vectors;
-        below = all-all_of _ x.tables y;
+        below = all-all_of _ (state_of m).tables y;
       }
 
-module _ {h : Held} {c : Columns} (y : Ready h c) where
-  short : Short (state_in h c)
-  short =
-      record {
-        tables = omega (arith, y.fits.tables, rows-length (table_at c.ids c.shapes c.lengths c.names c.locked) h.tables);
-        pairs = omega (arith, y.fits.rowsets, rows-length (entry_at (c.tables_of_pairs ∷ c.rowsets_of_pairs ∷ []) c.added_of_pairs c.deleted_of_pairs) h.rowsets);
-        vectors = omega (arith, y.fits.vectors, rows-length (entry_at (c.tables ∷ c.rowsets ∷ c.vectors ∷ []) c.added c.deleted) h.vectors);
-      }
-
-  pub rising-pairs : Rising (c.tables_of_pairs ∷ c.rowsets_of_pairs ∷ []) h.rowsets
-  rising-pairs = record { fits = y.fits.rowsets; rises = sym (ascending-ids (c.tables_of_pairs ∷ c.rowsets_of_pairs ∷ []) c.added_of_pairs c.deleted_of_pairs h.rowsets) ∙ y.pairs }
-
-  pub rising-vectors : Rising (c.tables ∷ c.rowsets ∷ c.vectors ∷ []) h.vectors
-  rising-vectors = record { fits = y.fits.vectors; rises = sym (ascending-ids (c.tables ∷ c.rowsets ∷ c.vectors ∷ []) c.added c.deleted h.vectors) ∙ y.vectors }
-
-  -- what a kind of operation did is a step
-  pub turned-step : (i e : ℕ) (o : Operation) (r : Stepped) (d : Columns) → well_formed o ≡ true → Turned i e o (state_in h c) r (state_in r.held d)
-      → Whole d.ids d.shapes d.lengths d.names d.locked
-      → Sized (d.tables_of_pairs ∷ d.rowsets_of_pairs ∷ d.added_of_pairs ∷ d.deleted_of_pairs ∷ d.tables ∷ d.rowsets ∷ d.vectors ∷ d.added ∷ d.deleted ∷ [])
-      → StepIs (step_of i e o (state_in h c)) r d
-  unfolding step_of StepIs Turned Leaves
-  turned-step i e o r d f t w z = rw f (go (judged (state_rules i e o (state_in h c))) refl t)
-    where
-      go : (v : Verdict) → judged (state_rules i e o (state_in h c)) ≡ v → Leaves (result_and v (Ok (applied e o (state_in h c)))) r.verdict (state_in r.held d)
-          → StepIs (result_and v (Ok (applied e o (state_in h c)))) r d
-      go (Ok _) a k =
-          let s = state_in h c in
-          let j : judged (op_rules i e o s) ≡ Ok tt = rw f a in
-          (k.0, k.1, ready_of r.held d (applied e o s) k.1 w z (short-applied i e o s j short) (ordered-applied e o s (record { tables = y.tables; pairs = y.pairs; vectors = y.vectors })) (below-applied e o s (all_of-all _ s.tables y.below)))
-      go (Err x) a k = k
+-- what a kind of operation did is a step
+pub turned_step : (i e : ℕ) (o : Operation) (m : VersionManagerInner) (v : Verdict) (n : VersionManagerInner) → Ready m → well_formed o ≡ true
+    → Turned i e o (state_of m) v (state_of n) → StepIs (step_of i e o (state_of m)) v n
+unfolding step_of StepIs Turned Leaves
+turned_step i e o m v n y f t = rw f (go (judged (state_rules i e o (state_of m))) refl t)
+  where
+    go : (w : Verdict) → judged (state_rules i e o (state_of m)) ≡ w → Leaves (result_and w (Ok (applied e o (state_of m)))) v (state_of n)
+        → StepIs (result_and w (Ok (applied e o (state_of m)))) v n
+    go (Ok _) a k =
+        let s = state_of m in
+        let j : judged (op_rules i e o s) ≡ Ok tt = rw f a in
+        (k.0, k.1, ready_of n (applied e o s) k.1 (short-applied i e o s j (short m y)) (ordered-applied e o s (record { tables = y.tables; pairs = y.pairs; vectors = y.vectors })) (below-applied e o s (all_of-all _ s.tables y.below)))
+    go (Err x) a k = k

@@ -2,5 +2,5 @@
 pub mod Effect
 pub mod Judge
 pub mod Steps
-pub mod Columns
+pub mod Ready
 pub mod Laws

@@ -1,80 +1,57 @@
-// Operations on the lent columns of tables. All here is internal.
-ghost use Rattle.std.specs.Prelude.{◌≡◌, true, List, ℕ, ◌≤◌, ◌<◌, ltb};
-ghost use Rattle.ids.specs.Limits.{most_tables};
+// Operations on tables. All here is internal.
+ghost use Rattle.std.specs.Prelude.{◌≡◌, true, ℕ};
+ghost use Rattle.ids.specs.Ids.{is_id32};
 ghost use Rattle.ids.specs.Names.{name_of};
-ghost use Rattle.lists.specs.Keyed.{all_of};
 ghost use Rattle.manifest.specs.Operations.{create_table, drop_table};
-ghost use Rattle.snapshot.specs.Entries.{Entry};
-ghost use Rattle.snapshot.specs.Tables.{table_rows, Whole};
-ghost use Rattle.operations.specs.Columns.{state_held, Turned};
+ghost use Rattle.version_state.specs.State.{state_of};
+ghost use Rattle.operations.specs.Ready.{Ready, Turned};
 
-use crate::Stepped;
 use ids::TableNo;
-use ids::limits::{MOST_TABLES, NAME_BYTES};
+use ids::limits::MOST_TABLES;
 use ids::name::Name;
 use ids::refusal::Refusal;
-use version_state::Held;
+use version_state::VersionManagerInner;
 
 // `T`.
-pub fn create(
-    ids: &mut [u32; MOST_TABLES],
-    shapes: &mut [u32; MOST_TABLES],
-    lengths: &mut [u32; MOST_TABLES],
-    names: &mut [u8; NAME_BYTES],
-    locked: &mut [bool; MOST_TABLES],
-    held: Held,
+#[tactic(auto, using(crate::proofs::Turns::table_turns), unfolding(crate::specs::Ready::Turned, crate::specs::Ready::Leaves))]
+pub(crate) fn create(
+    inner: &mut VersionManagerInner,
     place: usize,
-    epoch: u32,
     table: TableNo,
     shape: u32,
     name: Name,
-) -> Stepped
-    requires { (held.tables ≤ most_tables) × Whole ids.old shapes.old lengths.old names.old locked.old × (all_of (λ t. ltb t.table held.next.table.0) (table_rows ids.old shapes.old lengths.old names.old locked.old held.tables) ≡ true) × (table.0 < 4294967295) }
-    ensures { ((ps vs : ℕ → List Entry) → Turned place epoch (create_table table.0 shape (name_of name)) (state_held held (table_rows ids.old shapes.old lengths.old names.old locked.old) ps vs) result (state_held result.held (table_rows ids.new shapes.new lengths.new names.new locked.new) ps vs)) × Whole ids.new shapes.new lengths.new names.new locked.new }
+) -> Result<(), Refusal>
+    requires id { is_id32 table.0 ≡ true }
+    requires ready { Ready inner.old }
+    ensures { (epoch : ℕ) → Turned place epoch (create_table table.0 shape (name_of name)) (state_of inner.old) result (state_of inner.new) }
 {
-    if table.0 != held.next.table.0 {
-        return crate::refused(held, Refusal::IdNotDrawn(place));
+    if table.0 != inner.next.table.0 {
+        return Err(Refusal::IdNotDrawn(place));
     }
-    let count = held.tables;
-    if snapshot::tables::taken(lengths, names, count, name) {
-        return crate::refused(held, Refusal::NameTaken(place));
+    if inner.tables.taken(name) {
+        return Err(Refusal::NameTaken(place));
     }
-    if MOST_TABLES <= count {
-        return crate::refused(held, Refusal::TablesFull(place));
+    if MOST_TABLES <= inner.tables.count {
+        return Err(Refusal::TablesFull(place));
     }
-    snapshot::tables::push(
-        ids, shapes, lengths, names, locked, count, table, shape, name,
-    );
-    let raised = TableNo(table.0 + 1);
-    let mut next = held.next;
-    next.table = raised;
-    let mut held = held;
-    held.next = next;
-    held.tables = count + 1;
-    crate::accepted(held)
+    inner.tables.push(table, shape, name);
+    inner.next.table = TableNo(table.0 + 1);
+    Ok(())
 }
 
 // `X`.
-pub fn drop(
-    ids: &mut [u32; MOST_TABLES],
-    shapes: &mut [u32; MOST_TABLES],
-    lengths: &mut [u32; MOST_TABLES],
-    names: &mut [u8; NAME_BYTES],
-    locked: &mut [bool; MOST_TABLES],
-    held: Held,
+#[tactic(auto, using(crate::proofs::Turns::table_turns), unfolding(crate::specs::Ready::Turned, crate::specs::Ready::Leaves))]
+pub(crate) fn drop(
+    inner: &mut VersionManagerInner,
     place: usize,
-    epoch: u32,
     table: TableNo,
-) -> Stepped
-    requires { (held.tables ≤ most_tables) × Whole ids.old shapes.old lengths.old names.old locked.old }
-    ensures { ((ps vs : ℕ → List Entry) → Turned place epoch (drop_table table.0) (state_held held (table_rows ids.old shapes.old lengths.old names.old locked.old) ps vs) result (state_held result.held (table_rows ids.new shapes.new lengths.new names.new locked.new) ps vs)) × Whole ids.new shapes.new lengths.new names.new locked.new }
+) -> Result<(), Refusal>
+    requires { Ready inner.old }
+    ensures { (epoch : ℕ) → Turned place epoch (drop_table table.0) (state_of inner.old) result (state_of inner.new) }
 {
-    let count = held.tables;
-    if !snapshot::tables::holds(ids, count, table) {
-        return crate::refused(held, Refusal::TableNotLive(place));
+    if !inner.tables.holds(table) {
+        return Err(Refusal::TableNotLive(place));
     }
-    let left = snapshot::tables::remove(ids, shapes, lengths, names, locked, count, table);
-    let mut held = held;
-    held.tables = left;
-    crate::accepted(held)
+    inner.tables.remove(table);
+    Ok(())
 }
