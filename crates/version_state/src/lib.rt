@@ -9,6 +9,7 @@ use snapshot::vectors::Vectors;
 
 pub mod behind;
 pub mod limits;
+pub mod stand;
 
 ghost use Rattle.std.specs.Prelude.{◌≡◌, Bool, List, ℕ, length};
 ghost use Rattle.snapshot.specs.Tables.{name_bytes};
