@@ -1,141 +1,102 @@
 -- A commit from its first test to its last: what each says of the outcome. Assumes nothing.
 use mathlib.Core.Path.{◌≡◌, refl, sym, ap, ◌∙◌}
-use mathlib.Core.Bool.{true, false, true≢false}
+use mathlib.Core.Bool.{false}
 use mathlib.Core.List.{List, [], ◌∷◌}
 use Prim.Native.Nat.{ℕ, ◌+◌, ◌≤◌, ◌<◌}
 use lib.ListN.{length}
-use borrow.Author.Tests.{lt-ltb, le-ltb, le-leb, lt-leb, ltb-false}
-use Rattle.std.specs.Prelude.{Result, Ok, Err, is_ok}
+use borrow.Author.Tests.{lt-ltb, le-ltb, le-leb, lt-leb}
+use Rattle.std.specs.Prelude.{Result, Ok, Err}
 use Rattle.std.specs.Result.{result_and}
-use Rattle.lists.specs.Keyed.{ascending, sorted}
 use Rattle.lists.specs.Written.{over}
 use Rattle.ids.specs.Limits.{most_operations, last_epoch, longest_manifest}
 use Rattle.ids.specs.declared.refusal.Refusal.{Refusal}
 use Rattle.ids.specs.declared.refusal.Refusal.TheVariants.{TooManyOperations, EpochsFull}
 use Rattle.ids.specs.Verdicts.{judged, Verdict}
 use Rattle.ids.specs.Results.{and_then}
-use Rattle.ids.proofs.Verdicts.{none-judged}
 use Rattle.manifest.specs.Operations.{Operation}
-use Rattle.columns.specs.Rows.{rows, across, plain}
-use Rattle.snapshot.specs.Tables.{Whole}
-use Rattle.snapshot.proofs.TableRows.{ascending-tables}
 use Rattle.version_state.specs.declared.VersionManagerInner.{VersionManagerInner}
-use Rattle.version_state.specs.State.{State, with_epoch, Hands}
+use Rattle.version_state.specs.State.{State, state_of, with_epoch, Hands}
 use Rattle.version_state.specs.Sound.{bad_inner}
 use Rattle.version_state.proofs.Facts.{sound-of}
-use Rattle.version_state.proofs.Walks.{rising-prefix}
-use Rattle.version_state.specs.declared.Held.{Held}
-use Rattle.operations.specs.declared.Stepped.{Stepped}
 use Rattle.operations.specs.Steps.{step_of, steps_of}
-use Rattle.version_state.specs.Columns.{Columns, columns, state_in, inner_in}
-use Rattle.operations.specs.Columns.{Sized, Ready, StepIs}
-use Rattle.operations.proofs.Keeps.{rising-vectors}
-use Rattle.commit.specs.declared.Done.{Done}
+use Rattle.operations.specs.Ready.{Ready, StepIs}
 use Rattle.commit.specs.Commit.{append_of, last_rules, finish_of, commit_of, CommitIs}
-use Rattle.commit.proofs.Stepwise.{Halts, went, turn-off, turn_on}
+use Rattle.commit.specs.Lent.{operations_in}
+use Rattle.commit.proofs.Stepwise.{went, halted, halts, goes}
+use Rattle.commit.proofs.Lent.{lent_append, append-lent, append-size}
 
--- the numbers and the columns of a state
-abbrev pub held_of : VersionManagerInner → Held
-held_of m = record { epoch = m.epoch; next = m.next; tables = m.tables.count; rowsets = m.rowsets.count; vectors = m.vectors.count; manifest = m.manifest }
+-- what 29 lets through is ready
+pub ready_of : (m : VersionManagerInner) → bad_inner m ≡ false → Ready m × (m.manifest ≤ longest_manifest)
+ready_of m b =
+    let s = sound-of m b in
+    (record { fits = s.fits; tables = s.ordered.tables; pairs = s.ordered.pairs; vectors = s.ordered.vectors; below = s.below }, s.manifest)
 
-abbrev pub columns_of : VersionManagerInner → Columns
-columns_of m =
-    columns m.tables.ids m.tables.shapes m.tables.lengths m.tables.names m.tables.locked
-    m.rowsets.tables m.rowsets.rowsets m.rowsets.added m.rowsets.deleted
-    m.vectors.tables m.vectors.rowsets m.vectors.vectors m.vectors.added m.vectors.deleted
-
--- Operations under way from the state s at epoch e: before those from i on, which are `rest`, the columns c hold what is left.
-pub record Going (s : State) (e : ℕ) (os : List Operation) (i : ℕ) (rest : List Operation) (h : Held) (c : Columns) : Type 0 where
-  pub ready : Ready h c
-  pub same : steps_of 0 e os s ≡ steps_of i e rest (state_in h c)
-
-pub ready_of : (m : VersionManagerInner) → bad_inner m ≡ false → Whole m.tables.ids m.tables.shapes m.tables.lengths m.tables.names m.tables.locked
-    → Sized (m.rowsets.tables ∷ m.rowsets.rowsets ∷ m.rowsets.added ∷ m.rowsets.deleted ∷ m.vectors.tables ∷ m.vectors.rowsets ∷ m.vectors.vectors ∷ m.vectors.added ∷ m.vectors.deleted ∷ [])
-    → Ready (held_of m) (columns_of m) × (m.manifest ≤ longest_manifest)
-ready_of m b w z =
-    let s = sound-of m b in (
-      record {
-        whole = w;
-        sized = z;
-        fits = s.fits;
-        tables = s.ordered.tables;
-        pairs = s.ordered.pairs;
-        vectors = s.ordered.vectors;
-        below = s.below;
-      },
-      s.manifest,
-    )
+-- Operations under way from the state s at epoch e: before those from i on, which are `rest`, m holds what is left.
+pub record Going (s : State) (e : ℕ) (os : List Operation) (i : ℕ) (rest : List Operation) (m : VersionManagerInner) : Type 0 where
+  pub ready : Ready m
+  pub same : steps_of 0 e os s ≡ steps_of i e rest (state_of m)
 
 module _ (s : State) (e : ℕ) (os : List Operation) where
-  module _ (i : ℕ) (o : Operation) (rest : List Operation) (h : Held) (c : Columns) (r : Stepped) (d : Columns) (g : Going s e os i (o ∷ rest) h c) (t : StepIs (step_of i e o (state_in h c)) r d) where
-    pub go_on : is_ok r.verdict ≡ true → Going s e os (i + 1) rest r.held d
-    go_on a = record { ready = (went (step_of i e o (state_in h c)) r d t a).1; same = g.same ∙ turn_on i e o rest (state_in h c) r d t a }
+  module _ (i : ℕ) (o : Operation) (rest : List Operation) (m n : VersionManagerInner) (g : Going s e os i (o ∷ rest) m) where
+    pub go_on : StepIs (step_of i e o (state_of m)) (Ok tt) n → Going s e os (i + 1) rest n
+    go_on t =
+        let w = went _ n t in
+        record { ready = w.1; same = g.same ∙ ap (λ (x : Result State Refusal). and_then x (λ u. steps_of (i + 1) e rest u)) w.0 }
 
-    pub go-off : is_ok r.verdict ≡ false → Halts (steps_of 0 e os s) r.verdict
-    go-off a =
-        let k = turn-off i e o rest (state_in h c) r d t a in
-        record { why = k.why; told = k.told; here = g.same ∙ k.here }
+    pub go-off : (k : Refusal) → StepIs (step_of i e o (state_of m)) (Err k) n → StepIs (steps_of 0 e os s) (Err k) n
+    go-off k t = halts _ k n (g.same ∙ ap (λ (x : Result State Refusal). and_then x (λ u. steps_of (i + 1) e rest u)) (halted _ k n t))
 
--- the first tests
-module _ (s : State) (n : ℕ) (os : List Operation) (room : ℕ) where
-  pub too_many : most_operations < n → commit_of s n os room ≡ Err (TooManyOperations 0)
-  too_many h = rw (lt-ltb most_operations n h)
+  pub gone : (i : ℕ) (m : VersionManagerInner) → Going s e os i [] m → StepIs (steps_of 0 e os s) (Ok tt) m
+  gone i m g = goes _ m g.same g.ready
 
-  module _ (a : n ≤ most_operations) where
-    pub too-late : last_epoch ≤ s.epoch → commit_of s n os room ≡ Err EpochsFull
-    too-late h = rw (le-ltb most_operations n a, le-leb last_epoch s.epoch h)
+-- The first tests of a commit of operations lent as lines.
+module _ (s : List ℕ) (room : ℕ) (m : VersionManagerInner) where
+  abbrev os : List Operation
+  os = operations_in s
 
-    module _ (b : s.epoch < last_epoch) where
-      pub begun : (x : Result State Refusal) → steps_of 0 (s.epoch + 1) os s ≡ x → commit_of s n os room ≡ and_then x (finish_of (s.epoch + 1) os room)
-      begun x h = rw (le-ltb most_operations n a, lt-leb last_epoch s.epoch b, h)
+  abbrev outcome : Result State Refusal
+  outcome = commit_of (state_of m) (length os) os room
 
-      pub steps-off : (v : Verdict) → Halts (steps_of 0 (s.epoch + 1) os s) v → Halts (commit_of s n os room) v
-      steps-off v h = record { why = h.why; told = h.told; here = begun (Err h.why) h.here }
+  pub too_many : most_operations < length os → outcome ≡ Err (TooManyOperations 0)
+  too_many h = rw (lt-ltb most_operations (length os) h)
 
-      pub ended-off : (t : State) (v : Verdict) → steps_of 0 (s.epoch + 1) os s ≡ Ok t → Halts (finish_of (s.epoch + 1) os room t) v → Halts (commit_of s n os room) v
-      ended-off t v q h = record { why = h.why; told = h.told; here = begun (Ok t) q ∙ h.here }
+  module _ (few : length os ≤ most_operations) where
+    pub too-late : last_epoch ≤ m.epoch → outcome ≡ Err EpochsFull
+    too-late h = rw (le-ltb most_operations (length os) few, le-leb last_epoch m.epoch h)
 
--- the last tests, for an append of n bytes
-module _ (e : ℕ) (os : List Operation) (room : ℕ) (s : State) (n : ℕ) (w : n ≡ length (append_of os)) (v : Verdict) (j : v ≡ judged (last_rules e s n room)) where
-  pub end-off : is_ok v ≡ false → Halts (finish_of e os room s) v
-  end-off a = go v refl
-    where
-      go : (x : Verdict) → v ≡ x → Halts (finish_of e os room s) v
-      go (Ok _) q = absurd (true≢false (sym (ap is_ok q) ∙ a))
-      go (Err k) q = record { why = k; told = q; here = ap (λ (y : Verdict). result_and y (Ok (with_epoch s e (s.manifest + length (append_of os))))) (ap (λ (l : ℕ). judged (last_rules e s l room)) (sym w) ∙ sym j ∙ q) }
+    -- its steps, which left n
+    module _ (early : m.epoch < last_epoch) (n : VersionManagerInner) where
+      abbrev e : ℕ
+      e = m.epoch + 1
 
-  module _ (a : is_ok v ≡ true) where
-    passed : v ≡ Ok tt
-    passed = go v refl
-      where
-        go : (x : Verdict) → v ≡ x → v ≡ Ok tt
-        go (Ok _) q = q
-        go (Err k) q = absurd (true≢false (sym a ∙ ap is_ok q))
+      begun : (x : Result State Refusal) → steps_of 0 e os (state_of m) ≡ x → outcome ≡ and_then x (finish_of e os room)
+      begun x h = rw (le-ltb most_operations (length os) few, lt-leb last_epoch m.epoch early, h)
 
-    pub end_on : (v ≡ Ok tt) × (finish_of e os room s ≡ Ok (with_epoch s e (s.manifest + n)))
-    end_on = (passed, ap (λ (l : ℕ). result_and (judged (last_rules e s l room)) (Ok (with_epoch s e (s.manifest + l)))) (sym w) ∙ ap (λ (y : Verdict). result_and y (Ok (with_epoch s e (s.manifest + n)))) (sym j ∙ passed))
+      pub steps-off : (k : Refusal) → StepIs (steps_of 0 e os (state_of m)) (Err k) n → outcome ≡ Err k
+      steps-off k t = begun (Err k) (halted _ k n t)
 
-    pub end-room : (s.manifest + n ≤ longest_manifest) × (n ≤ room)
-    end-room =
-        let p = none-judged (last_rules e s n room) (sym j ∙ passed) in
-        (ltb-false longest_manifest (s.manifest + n) p.1.0, ltb-false room n p.1.1.0)
+      module _ (t : StepIs (steps_of 0 e os (state_of m)) (Ok tt) n) where
+        done : steps_of 0 e os (state_of m) ≡ Ok (state_of n)
+        done = (went _ n t).0
 
--- what 17 asks of the columns
-module _ {h : Held} {c : Columns} (y : Ready h c) where
-  pub rising-tables : ascending plain (rows (across (c.ids ∷ [])) h.tables) ≡ true
-  rising-tables = sym (ascending-tables c.ids c.shapes c.lengths c.names c.locked h.tables) ∙ y.tables
+        stepped-append : append_of os ≡ lent_append s
+        stepped-append = append-lent s e (state_of m) (state_of n) done
 
-  pub sorted-vectors : sorted plain (rows (across (c.tables ∷ c.rowsets ∷ [])) h.vectors) ≡ true
-  sorted-vectors = rising-prefix (c.tables ∷ c.rowsets ∷ c.vectors ∷ []) h.vectors 2 (rising-vectors y).rises
+        stepped-size : length s + 6 ≡ length (append_of os)
+        stepped-size = sym (ap length stepped-append ∙ append-size s)
 
-pub commit-off : (x : Result State Refusal) (os : List Operation) (out : List ℕ) (r : Done) (c : Columns) (out' : List ℕ) → Halts x r.verdict → out' ≡ out → CommitIs x os out r c out'
-commit-off x os out r c out' h q = rw h.here (h.told, q)
+        -- and the last tests
+        module _ (v : Verdict) (j : v ≡ judged (last_rules e (state_of n) (length s + 6) room)) where
+          ended : outcome ≡ result_and v (Ok (with_epoch (state_of n) e (n.manifest + length (append_of os))))
+          ended =
+              begun (Ok (state_of n)) done
+              ∙ ap (λ (x : Verdict). result_and x (Ok (with_epoch (state_of n) e (n.manifest + length (append_of os)))))
+              (ap (λ (l : ℕ). judged (last_rules e (state_of n) l room)) (sym stepped-size) ∙ sym j)
 
-pub commit-on : (x : Result State Refusal) (os : List Operation) (out : List ℕ) (r : Done) (c : Columns) (out' : List ℕ) (s : State) → x ≡ Ok s → r.verdict ≡ Ok tt → r.length ≡ length (append_of os) → Hands (inner_in r.held c) s → out' ≡ over (append_of os) out
-    → CommitIs x os out r c out'
-commit-on x os out r c out' s q v n h w = rw q (v, n, h, w)
+          pub end-off : (k : Refusal) → v ≡ Err k → outcome ≡ Err k
+          end-off k h = ended ∙ rw h
 
--- a step that ends a loop over operations
-pub halts-step : (x : Result State Refusal) (r : Stepped) (c : Columns) → Halts x r.verdict → StepIs x r c
-unfolding StepIs
-halts-step x r c h = rw h.here h.told
+          pub end_on : v ≡ Ok tt → (out out' : List ℕ) (p : VersionManagerInner) → Hands p (with_epoch (state_of n) e (n.manifest + (length s + 6)))
+              → out' ≡ over (lent_append s) out → CommitIs outcome os out (Ok (length s + 6)) p out'
+          end_on a out out' p h w =
+              rw (ended, a, ← stepped-size) (refl, h, w ∙ ap (λ (r : List ℕ). over r out) (sym stepped-append))

@@ -4,5 +4,4 @@ pub mod Sounds
 pub mod Older
 pub mod Calls
 pub mod Lent
-pub mod Committing
 pub mod AsLines

@@ -10,12 +10,11 @@ use Rattle.manifest.specs.Operations.{Operation, torn}
 use Rattle.manifest.specs.Lines.{line_text}
 use Rattle.ids.specs.Limits.{last_epoch, longest_manifest, most_operations}
 use Rattle.ids.specs.Results.{and_then}
+use Rattle.version_state.specs.declared.VersionManagerInner.{VersionManagerInner}
 use Rattle.version_state.specs.State.{State, with_epoch, Hands}
 use Rattle.version_state.specs.Sound.{left_behind}
 use Rattle.operations.specs.Steps.{steps_of}
-use Rattle.version_state.specs.Columns.{Columns, inner_in}
 use Rattle.frames.specs.Frames.{frame_of}
-use Rattle.commit.specs.declared.Done.{Done}
 
 -- the bytes that a commit of os appends to the manifest: `!`, which ends the line that an append before it was cut off in, and a frame
 abbrev pub append_of : List Operation → List ℕ
@@ -42,8 +41,8 @@ finish_of e os room s =
 abbrev pub commit_of : State → ℕ → List Operation → ℕ → Result State Refusal
 commit_of s n os room = result_and (judged (first_rules s n)) (and_then (steps_of 0 (s.epoch + 1) os s) (finish_of (s.epoch + 1) os room))
 
--- Internal: a commit of os over columns, into the lent buffer. What is left stands in the columns, and the bytes to append in the
--- buffer; or a refusal, and nothing written.
-abbrev pub CommitIs : Result State Refusal → List Operation → List ℕ → Done → Columns → List ℕ → Type 0
-CommitIs (Ok s) os out r c out' = (r.verdict ≡ Ok tt) × (r.length ≡ length (append_of os)) × Hands (inner_in r.held c) s × (out' ≡ over (append_of os) out)
-CommitIs (Err k) os out r c out' = (r.verdict ≡ Err k) × (out' ≡ out)
+-- Internal: a commit of os into the lent buffer answers the append's length, and leaves the state and the bytes to append; or a refusal,
+-- and nothing written.
+abbrev pub CommitIs : Result State Refusal → List Operation → List ℕ → Result ℕ Refusal → VersionManagerInner → List ℕ → Type 0
+CommitIs (Ok s) os out r m out' = (r ≡ Ok (length (append_of os))) × Hands m s × (out' ≡ over (append_of os) out)
+CommitIs (Err k) os out r m out' = (r ≡ Err k) × (out' ≡ out)

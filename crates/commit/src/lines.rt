@@ -4,17 +4,16 @@ ghost use Rattle.text.specs.Class.{Classes};
 ghost use Rattle.manifest.specs.Operations.{next_ids, operation_of, well_formed};
 ghost use Rattle.manifest.specs.Lines.{line_of};
 ghost use Rattle.operations.specs.Steps.{steps_of};
-ghost use Rattle.version_state.specs.Columns.{columns, state_in};
-ghost use Rattle.operations.specs.Columns.{Ready, StepIs};
+ghost use Rattle.version_state.specs.State.{state_of};
+ghost use Rattle.operations.specs.Ready.{Ready, StepIs};
 ghost use Rattle.commit.specs.Lent.{operation_said, operations_in};
 
-use ids::limits::{MOST_HELD, MOST_TABLES, NAME_BYTES};
 use ids::name::Name;
+use ids::refusal::Refusal;
 use ids::{RowsetNo, TableNo, VectorNo};
 use manifest::operation::{Change, EpochOp, ManifestOperation, ParsedLine};
 use manifest::reader::LineAt;
-use operations::Stepped;
-use version_state::Held;
+use version_state::VersionManagerInner;
 
 // An operation, and the place after its line.
 #[derive(Clone, Copy)]
@@ -102,63 +101,24 @@ pub fn count(classes: &[u8; 256], ops: &[u8]) -> usize
     n
 }
 
-// Each operation in order, over lent columns.
+// Each operation in order.
 pub fn steps(
-    ids: &mut [u32; MOST_TABLES],
-    shapes: &mut [u32; MOST_TABLES],
-    lengths: &mut [u32; MOST_TABLES],
-    names: &mut [u8; NAME_BYTES],
-    locked: &mut [bool; MOST_TABLES],
-    pair_tables: &mut [u32; MOST_HELD],
-    pair_rowsets: &mut [u32; MOST_HELD],
-    pair_added: &mut [u32; MOST_HELD],
-    pair_deleted: &mut [u32; MOST_HELD],
-    tables: &mut [u32; MOST_HELD],
-    rowsets: &mut [u32; MOST_HELD],
-    vectors: &mut [u64; MOST_HELD],
-    added: &mut [u32; MOST_HELD],
-    deleted: &mut [u32; MOST_HELD],
-    held: Held,
+    inner: &mut VersionManagerInner,
     epoch: u32,
     classes: &[u8; 256],
     ops: &[u8],
-) -> Stepped
-    requires { Classes classes.now × Ready held (columns ids.old shapes.old lengths.old names.old locked.old pair_tables.old pair_rowsets.old pair_added.old pair_deleted.old tables.old rowsets.old vectors.old added.old deleted.old) }
-    ensures { StepIs (steps_of 0 epoch (operations_in ops.now) (state_in held (columns ids.old shapes.old lengths.old names.old locked.old pair_tables.old pair_rowsets.old pair_added.old pair_deleted.old tables.old rowsets.old vectors.old added.old deleted.old))) result (columns ids.new shapes.new lengths.new names.new locked.new pair_tables.new pair_rowsets.new pair_added.new pair_deleted.new tables.new rowsets.new vectors.new added.new deleted.new) }
+) -> Result<(), Refusal>
+    requires classes { Classes classes.now }
+    requires ready { Ready inner.old }
+    ensures { StepIs (steps_of 0 epoch (operations_in ops.now) (state_of inner.old)) result inner.new }
 {
-    let mut held = held;
     let mut i: usize = 0;
     let mut at: usize = 0;
     while at < ops.len() {
         let found = read(classes, ops, at);
-        let change = found.change;
-        let step = operations::step(
-            ids,
-            shapes,
-            lengths,
-            names,
-            locked,
-            pair_tables,
-            pair_rowsets,
-            pair_added,
-            pair_deleted,
-            tables,
-            rowsets,
-            vectors,
-            added,
-            deleted,
-            held,
-            i,
-            epoch,
-            change,
-        );
-        let verdict = step.verdict;
-        if verdict.is_err() {
-            return step;
-        }
-        held = step.held;
+        operations::step(inner, i, epoch, found.change)?;
         at = found.next;
         i += 1;
     }
-    operations::accepted(held)
+    Ok(())
 }
