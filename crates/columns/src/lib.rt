@@ -15,13 +15,7 @@ ghost use Rattle.columns.specs.Rows.{rows, column, marks, across, plain, PutIn, 
 pub fn before(a: u32, b: u32, x: u32, y: u32) -> bool
     ensures { result ≡ less (a ∷ b ∷ []) (x ∷ y ∷ []) }
 {
-    if a < x {
-        return true;
-    }
-    if x < a {
-        return false;
-    }
-    b < y
+    (a, b) < (x, y)
 }
 
 // The place of the first row that is not before (x, y), by halves.

@@ -10,19 +10,7 @@ use ids::limits::MOST_HELD;
 pub fn before(a: u32, b: u32, c: u64, x: u32, y: u32, z: u64) -> bool
     ensures { result ≡ less (a ∷ b ∷ c ∷ []) (x ∷ y ∷ z ∷ []) }
 {
-    if a < x {
-        return true;
-    }
-    if x < a {
-        return false;
-    }
-    if b < y {
-        return true;
-    }
-    if y < b {
-        return false;
-    }
-    c < z
+    (a, b, c) < (x, y, z)
 }
 
 // The place of the first row that is not before (x, y, z), by halves.

@@ -18,9 +18,9 @@ use Rattle.lists.proofs.Keyed.{any_of-map, All, all_map, After, Ascending, ascen
 use lib.Seq.{take_all}
 use Rattle.lists.proofs.Places.{has_here, drop-view, drop-end}
 use Rattle.columns.specs.Rows.{rows, column, across, plain, PutIn}
-use Rattle.columns.proofs.Rows.{rows-length, rows_at, rows_all, rows-map, rows-column}
+use Rattle.columns.proofs.Rows.{rows-length, rows_at, rows_all, rows-map, rows-column, rows_seen, rows_end}
 use Rattle.snapshot.specs.Entries.{Entry, by_ids, nothing, added_at, deleted_at, shown_by, of_table, entry_at, entries}
-use Rattle.snapshot.specs.Found.{FoundAt}
+use Rattle.snapshot.specs.Found.{FoundAt, drop_below, leads}
 use Rattle.snapshot.proofs.Entries.{AllPutIn, rank-ids, ascending-ids, held-ids, put-entry, delete-entry, changed-ids}
 
 module _ {A : Type 0} (key : A → List ℕ) (p : A → Bool) (k : List ℕ) where
@@ -184,3 +184,28 @@ pub vector-ids : (x y z a d : List ℕ) (n v : ℕ) → any_of (λ e. eqb (get_o
 vector-ids x y z a d n v =
     sym (any_of-map (λ (e : Entry). get_or (by_ids e) 2 0) (λ i. eqb i v) (entries (x ∷ y ∷ z ∷ []) a d n))
     ∙ ap (any_of (λ i. eqb i v)) (rows-map (entry_at (x ∷ y ∷ z ∷ []) a d) (λ (e : Entry). get_or (by_ids e) 2 0) n)
+
+-- a list walked on from a place: what is below a key is passed, and what comes first is looked at
+module _ {A : Type 0} (key : A → List ℕ) (f : ℕ → A) (n i : ℕ) where
+  pub walk-stop : (k : List ℕ) → i < n → less (key (f i)) k ≡ false → drop i (rows f n) ≡ drop_below key k (drop i (rows f n))
+  walk-stop k h t = rw (rows_seen f n i h, t)
+
+  pub walk-on : (k : List ℕ) → i < n → less (key (f i)) k ≡ true → drop_below key k (drop (i + 1) (rows f n)) ≡ drop_below key k (drop i (rows f n))
+  walk-on k h t = rw (rows_seen f n i h, t)
+
+  pub walk-end : (k : List ℕ) → n ≤ i → drop n (rows f n) ≡ drop_below key k (drop i (rows f n))
+  walk-end k h = rw (rows_end f n i h, rows_end f n n (omega arith))
+
+  pub leads_at : (p : A → Bool) (k : List ℕ) → i < n → leads key p k (drop i (rows f n)) ≡ same (key (f i)) k && p (f i)
+  leads_at p k h = rw (rows_seen f n i h)
+
+  pub leads_none : (p : A → Bool) (k : List ℕ) → n ≤ i → leads key p k (drop i (rows f n)) ≡ false
+  leads_none p k h = rw (rows_end f n i h)
+
+-- what comes first from a place on, in columns
+pub leads-columns : (ks : List (List ℕ)) (a d : List ℕ) (n at : ℕ) (p : Entry → Bool) (k : List ℕ)
+    → leads by_ids p k (drop at (entries ks a d n)) ≡ (ltb at n && same (across ks at) k) && p (get_or (entries ks a d n) at nothing)
+leads-columns ks a d n at p k =
+    by_cases (ltb at n)
+    (λ t. let h = ltb-true at n t in rw (t, entry_there ks a d n at h) (leads_at by_ids (entry_at ks a d) n at p k h))
+    (λ t. rw t (leads_none by_ids (entry_at ks a d) n at p k (ltb-false at n t)))

@@ -1,5 +1,6 @@
 -- Where a key stands among entries that rise, as a search by halves answers it. Assumes nothing.
-use Rattle.std.specs.Prelude.{◌≡◌, Bool, true, false, List, [], ◌∷◌, ℕ, ◌+◌, ◌<◌, ◌≤◌, Option, Some, None, Result, Ok, Err, get_or, take, drop}
+use Rattle.std.specs.Prelude.{◌≡◌, Bool, true, false, cond, ◌&&◌, List, [], ◌∷◌, ℕ, ◌+◌, ◌<◌, ◌≤◌, Option, Some, None, Result, Ok, Err, get_or, take, drop}
+use Rattle.lists.specs.Order.{less, same}
 use Rattle.lists.specs.Keyed.{keep, has, rank}
 use Rattle.snapshot.specs.Entries.{Entry, by_ids, nothing}
 
@@ -12,3 +13,14 @@ FoundAt k l n (Err at) = (at ≡ rank by_ids k l) × (at ≤ n) × (has by_ids k
 abbrev pub NextShown : (Entry → Bool) → List Entry → ℕ → ℕ → Option ℕ → Type 0
 NextShown p l from end None = keep p (drop from (take end l)) ≡ []
 NextShown p l from end (Some i) = (i < end) × (keep p (drop from (take end l)) ≡ get_or l i nothing ∷ keep p (drop (i + 1) (take end l)))
+
+module _ {A : Type 0} (key : A → List ℕ) where
+  -- without the first ones that are below the key k
+  abbrev pub drop_below : List ℕ → List A → List A
+  drop_below k [] = []
+  drop_below k (x ∷ l) = cond (less (key x) k) (drop_below k l) (x ∷ l)
+
+  -- the first one has the key k, and passes a test
+  abbrev pub leads : (A → Bool) → List ℕ → List A → Bool
+  leads p k [] = false
+  leads p k (x ∷ l) = same (key x) k && p x

@@ -1,12 +1,12 @@
 // The rowsets that are held, in columns.
-ghost use Rattle.std.specs.Prelude.{◌≡◌, true, cond, not, [], ◌∷◌, ◌+◌, ◌≤◌, ◌<◌, Err, get_or};
+ghost use Rattle.std.specs.Prelude.{◌≡◌, true, cond, not, [], ◌∷◌, ◌+◌, ◌≤◌, ◌<◌, Err, get_or, drop};
 ghost use Rattle.std.specs.Iterator.{YieldsFirstBy, item_count};
 ghost use Rattle.ids.specs.Ids.{is_id32};
 ghost use Rattle.ids.specs.Limits.{most_held};
 ghost use Rattle.lists.specs.Keyed.{keep, all_of, has, put, changed, ascending};
 ghost use Rattle.columns.specs.Rows.{rows, marks, marked};
 ghost use Rattle.snapshot.specs.Entries.{by_ids, nothing, added_at, deleted_at, shown_by, gone_by, of_table, within};
-ghost use Rattle.snapshot.specs.Found.{FoundAt, NextShown};
+ghost use Rattle.snapshot.specs.Found.{FoundAt, NextShown, drop_below, leads};
 ghost use Rattle.snapshot.specs.Views.{rowsets_of, rowset_of};
 ghost use Rattle.snapshot.specs.Shown.{shown_rowsets};
 
@@ -128,6 +128,28 @@ impl Rowsets {
             Ok(at) => self.shown_at(at, epoch),
             Err(_) => false,
         }
+    }
+
+    // The first place from one on whose ids are not before these.
+    pub fn from_on(&self, from: usize, table: TableNo, rowset: RowsetNo) -> usize
+        requires fits { self.now.count ≤ most_held }
+        ensures { drop result (rowsets_of self.now) ≡ drop_below by_ids (table.0 ∷ rowset.0 ∷ []) (drop from (rowsets_of self.now)) }
+    {
+        for i in from..self.count {
+            if !columns::before(self.tables[i], self.rowsets[i], table.0, rowset.0) {
+                return i;
+            }
+        }
+        self.count
+    }
+
+    // Whether it stands at a place, and the epoch shows it.
+    pub fn shows_at(&self, at: usize, table: TableNo, rowset: RowsetNo, epoch: u32) -> bool
+        requires fits { self.now.count ≤ most_held }
+        ensures { result ≡ leads by_ids (shown_by epoch) (table.0 ∷ rowset.0 ∷ []) (drop at (rowsets_of self.now)) }
+    {
+        columns::stands(&self.tables, &self.rowsets, self.count, at, table.0, rowset.0)
+            && self.shown_at(at, epoch)
     }
 
     // The first place from one on, and before another, that the epoch shows.

@@ -7,6 +7,7 @@ ghost use Rattle.lists.specs.Keyed.{all_of, any_of, has, changed, without, ascen
 ghost use Rattle.lists.specs.Written.{written};
 ghost use Rattle.columns.specs.Rows.{rows, column, across, plain};
 ghost use Rattle.snapshot.specs.Tables.{by_table, created, no_table, name_taken, lock_held, with_lock, length_in, name_at, table_at, table_rows, name_bytes, Whole, RowMoved};
+ghost use Rattle.snapshot.specs.Found.{drop_below, leads};
 ghost use Rattle.snapshot.specs.Views.{tables_of, table_of};
 
 use ids::TableNo;
@@ -103,6 +104,27 @@ impl Tables {
         ensures { result ≡ all_of (λ t. ltb t.table next.0) (tables_of self.now) }
     {
         below(&self.ids, self.count, next)
+    }
+
+    // The first place from one on whose id is not before this one.
+    pub fn from_on(&self, from: usize, table: TableNo) -> usize
+        requires fits { self.now.count ≤ most_tables }
+        ensures { drop result (tables_of self.now) ≡ drop_below by_table (table.0 ∷ []) (drop from (tables_of self.now)) }
+    {
+        for i in from..self.count {
+            if self.ids[i] >= table.0 {
+                return i;
+            }
+        }
+        self.count
+    }
+
+    // Whether the table stands at a place.
+    pub fn stands_at(&self, at: usize, table: TableNo) -> bool
+        requires fits { self.now.count ≤ most_tables }
+        ensures { result ≡ leads by_table (λ x. true) (table.0 ∷ []) (drop at (tables_of self.now)) }
+    {
+        at < self.count && self.ids[at] == table.0
     }
 
     // Whether the lock of a live table with the id is held.

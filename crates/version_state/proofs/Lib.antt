@@ -2,3 +2,4 @@
 pub mod Facts
 pub mod Walks
 pub mod Within
+pub mod Stands

@@ -1,7 +1,6 @@
 // What a version manager holds, and what the specification's 29 judges of it.
 #![tactic(auto)]
 
-use ids::limits::{LONGEST_MANIFEST, MOST_HELD, MOST_TABLES, NAME_BYTES};
 use ids::{RowsetNo, TableNo, VectorNo};
 use snapshot::rowsets::Rowsets;
 use snapshot::tables::Tables;
@@ -11,10 +10,8 @@ pub mod behind;
 pub mod limits;
 pub mod stand;
 
-ghost use Rattle.std.specs.Prelude.{◌≡◌, Bool, List, ℕ, length};
-ghost use Rattle.snapshot.specs.Tables.{name_bytes};
+ghost use Rattle.std.specs.Prelude.{◌≡◌};
 ghost use Rattle.version_state.specs.State.{start, lengthened, Hands};
-ghost use Rattle.version_state.specs.Columns.{columns, numbers, inner_in};
 ghost use Rattle.version_state.specs.Sound.{bad_inner};
 
 // The next id of each kind.
@@ -49,85 +46,6 @@ pub struct Held {
     pub manifest: usize,
 }
 
-// Internal: 29 of the state that stands in columns that are lent, so that none is copied. It looks neither at shapes nor at locks.
-pub fn bad<'a>(
-    ids: &'a [u32; MOST_TABLES],
-    lengths: &'a [u32; MOST_TABLES],
-    names: &'a [u8; NAME_BYTES],
-    tables: usize,
-    rowset_tables: &'a [u32; MOST_HELD],
-    rowset_ids: &'a [u32; MOST_HELD],
-    rowset_added: &'a [u32; MOST_HELD],
-    rowset_deleted: &'a [u32; MOST_HELD],
-    rowsets: usize,
-    vector_tables: &'a [u32; MOST_HELD],
-    vector_rowsets: &'a [u32; MOST_HELD],
-    vector_ids: &'a [u64; MOST_HELD],
-    vector_added: &'a [u32; MOST_HELD],
-    vector_deleted: &'a [u32; MOST_HELD],
-    vectors: usize,
-    epoch: u32,
-    next: NextIds,
-    manifest: usize,
-) -> bool
-    requires { length names.now ≡ name_bytes }
-    ensures { (shapes : List ℕ) (locked : List Bool) → result ≡ bad_inner (inner_in (numbers epoch next tables rowsets vectors manifest)
-        (columns ids.now shapes lengths.now names.now locked
-        rowset_tables.now rowset_ids.now rowset_added.now rowset_deleted.now
-        vector_tables.now vector_rowsets.now vector_ids.now vector_added.now vector_deleted.now)) }
-{
-    if limits::beyond_limits(lengths, names, tables, rowsets, vectors, manifest) {
-        return true;
-    }
-    if limits::out_of_order(
-        ids,
-        tables,
-        rowset_tables,
-        rowset_ids,
-        rowsets,
-        vector_tables,
-        vector_rowsets,
-        vector_ids,
-        vectors,
-    ) {
-        return true;
-    }
-    if limits::above_own(
-        ids,
-        tables,
-        rowset_tables,
-        rowset_ids,
-        rowset_added,
-        rowset_deleted,
-        rowsets,
-        vector_tables,
-        vector_rowsets,
-        vector_ids,
-        vector_added,
-        vector_deleted,
-        vectors,
-        epoch,
-        next,
-    ) {
-        return true;
-    }
-    behind::left_behind(
-        ids,
-        tables,
-        rowset_tables,
-        rowset_ids,
-        rowset_added,
-        rowset_deleted,
-        rowsets,
-        vector_tables,
-        vector_rowsets,
-        vector_added,
-        vector_deleted,
-        vectors,
-        epoch,
-    )
-}
-
 impl VersionManagerInner {
     pub fn fresh() -> VersionManagerInner
         ensures { Hands result start }
@@ -151,43 +69,19 @@ impl VersionManagerInner {
     }
 
     // 29
-    pub fn bad(self) -> bool
-        ensures { result ≡ bad_inner self }
+    pub fn bad(&self) -> bool
+        ensures { result ≡ bad_inner self.now }
     {
         self.bad_with(0)
     }
 
-    // 29 with so many bytes more in the manifest. Each length is judged before the sum, which might wrap.
-    pub fn bad_with(self, bytes: usize) -> bool
-        ensures { result ≡ bad_inner (lengthened bytes self) }
+    // 29 with so many bytes more in the manifest. It looks neither at shapes nor at locks.
+    pub fn bad_with(&self, bytes: usize) -> bool
+        ensures { result ≡ bad_inner (lengthened bytes self.now) }
     {
-        if LONGEST_MANIFEST < bytes {
-            return true;
-        }
-        if LONGEST_MANIFEST < self.manifest {
-            return true;
-        }
-        let manifest = self.manifest + bytes;
-        let next = self.next;
-        bad(
-            &self.tables.ids,
-            &self.tables.lengths,
-            &self.tables.names,
-            self.tables.count,
-            &self.rowsets.tables,
-            &self.rowsets.rowsets,
-            &self.rowsets.added,
-            &self.rowsets.deleted,
-            self.rowsets.count,
-            &self.vectors.tables,
-            &self.vectors.rowsets,
-            &self.vectors.vectors,
-            &self.vectors.added,
-            &self.vectors.deleted,
-            self.vectors.count,
-            self.epoch,
-            next,
-            manifest,
-        )
+        self.beyond_limits(bytes)
+            || self.out_of_order()
+            || self.above_own()
+            || self.left_behind(self.epoch)
     }
 }

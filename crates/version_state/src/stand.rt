@@ -1,31 +1,51 @@
-// 17: what an epoch shows without what it rests on.
+// 17: what an epoch shows without what it rests on. All here is internal.
 ghost use Rattle.std.specs.Prelude.{◌≡◌, false};
-ghost use Rattle.version_state.specs.State.{state_of, Fit};
-ghost use Rattle.version_state.specs.Sound.{out_of_order, left_behind};
+ghost use Rattle.lists.specs.Keyed.{keep, all_of};
+ghost use Rattle.snapshot.specs.Entries.{shown_by};
+ghost use Rattle.version_state.specs.State.{State, state_of, Fit};
+ghost use Rattle.version_state.specs.Sound.{has_table, has_rowset, out_of_order, left_behind};
 
-use crate::{VersionManagerInner, behind};
+use crate::VersionManagerInner;
 
 impl VersionManagerInner {
+    // Each vector that the epoch shows has its rowset among those that it shows. The two lists are walked side by side.
+    fn vectors_stand(&self, epoch: u32) -> bool
+        requires fits { Fit self.now }
+        requires rises { out_of_order (state_of self.now) ≡ false }
+        ensures { result ≡ all_of (has_rowset (keep (shown_by epoch) (state_of self.now).pairs)) (keep (shown_by epoch) (state_of self.now).vectors) }
+    {
+        let mut at = 0;
+        for v in self.vectors.shown(epoch) {
+            at = self.rowsets.from_on(at, v.table, v.rowset);
+            if !self.rowsets.shows_at(at, v.table, v.rowset, epoch) {
+                return false;
+            }
+        }
+        true
+    }
+
+    // Each rowset that the epoch shows has its table. The two lists are walked side by side.
+    fn rowsets_stand(&self, epoch: u32) -> bool
+        requires fits { Fit self.now }
+        requires rises { out_of_order (state_of self.now) ≡ false }
+        ensures { result ≡ all_of (has_table (state_of self.now).tables) (keep (shown_by epoch) (state_of self.now).pairs) }
+    {
+        let mut at = 0;
+        for r in self.rowsets.shown(epoch) {
+            at = self.tables.from_on(at, r.table);
+            if !self.tables.stands_at(at, r.table) {
+                return false;
+            }
+        }
+        true
+    }
+
     // Whether the epoch shows a vector without its rowset, or a rowset without its table.
     pub fn left_behind(&self, epoch: u32) -> bool
         requires fits { Fit self.now }
         requires rises { out_of_order (state_of self.now) ≡ false }
         ensures { result ≡ left_behind epoch (state_of self.now) }
     {
-        behind::left_behind(
-            &self.tables.ids,
-            self.tables.count,
-            &self.rowsets.tables,
-            &self.rowsets.rowsets,
-            &self.rowsets.added,
-            &self.rowsets.deleted,
-            self.rowsets.count,
-            &self.vectors.tables,
-            &self.vectors.rowsets,
-            &self.vectors.added,
-            &self.vectors.deleted,
-            self.vectors.count,
-            epoch,
-        )
+        !(self.vectors_stand(epoch) && self.rowsets_stand(epoch))
     }
 }

@@ -1,0 +1,96 @@
+-- Two lists in order, walked side by side: whether each entry of the one has its key among what is shown of the other. Assumes nothing.
+use mathlib.Core.Path.{◌≡◌, refl, sym, ap, ap₂, ◌∙◌}
+use mathlib.Core.Bool.{Bool, true, false, cond, ◌&&◌}
+use mathlib.Core.List.{List, [], ◌∷◌}
+use Prim.Native.Nat.{ℕ, suc, ◌+◌, ◌≤◌, ◌<◌}
+use native.Mathlib.Omega.{arith}
+use native.Mathlib.Numerals.{add-one}
+use lib.ListN.{length, get_or, take, drop, drop_of_length-le}
+use lib.Seq.{drop-cons}
+use Rattle.lists.specs.Order.{less, same}
+use Rattle.lists.specs.Keyed.{keep, all_of, has, ascending}
+use Rattle.lists.proofs.Tests.{by_cases, clash}
+use Rattle.lists.proofs.Order.{less-trans, less-total, less-le, less-same, same_true, same-eq}
+use Rattle.lists.proofs.Keyed.{All, all_map, all_any, all_keep, keep_all, Ascending, Sorted, ascend-to, ascending-keep, ascending-sorted, after-absent}
+use Rattle.lists.proofs.Walk.{sorted-prefix, sorted-drop, ascending-drop}
+use Rattle.snapshot.specs.Entries.{Entry, by_ids}
+use Rattle.snapshot.specs.Found.{drop_below, leads}
+
+module _ {A B : Type 0} (f : A → List ℕ) (key : B → List ℕ) (p : B → Bool) where
+  abbrev pub stand : List A → List B → Bool
+  stand l m = all_of (λ w. has key (f w) (keep p m)) l
+
+  has-skip : (y : B) (m : List B) (k : List ℕ) → less (key y) k ≡ true → has key k (keep p (y ∷ m)) ≡ has key k (keep p m)
+  has-skip y m k h = by_cases (p y) (λ e. rw (e, less-same (key y) k h)) (λ e. rw e)
+
+  skip : (y : B) (m : List B) (l : List A) → All (λ w. less (key y) (f w) ≡ true) l → stand l (y ∷ m) ≡ stand l m
+  skip y m [] a = refl
+  skip y m (w ∷ l) a = ap₂ ◌&&◌ (has-skip y m (f w) a.0) (skip y m l a.1)
+
+  -- what is below the first key is below all of them
+  pass : (x : A) (l : List A) → Sorted f (x ∷ l) → (m : List B) → stand (x ∷ l) m ≡ stand (x ∷ l) (drop_below key (f x) m)
+  pass x l s [] = refl
+  pass x l s (y ∷ m) =
+      by_cases (less (key y) (f x))
+      (λ h. let e : drop_below key (f x) (y ∷ m) ≡ drop_below key (f x) m = rw h in
+      skip y m (x ∷ l) (h, all_map l (λ w t. less-le (key y) (f x) (f w) h t) s.0) ∙ pass x l s m ∙ ap (stand (x ∷ l)) (sym e))
+      (λ h. let e : drop_below key (f x) (y ∷ m) ≡ y ∷ m = rw h in ap (stand (x ∷ l)) (sym e))
+
+  -- what is not below a key comes after it, or begins with it
+  first : (k : List ℕ) (y : B) (m : List B) → Ascending key (y ∷ m) → less (key y) k ≡ false → has key k (keep p (y ∷ m)) ≡ same (key y) k && p y
+  first k y m s h =
+      by_cases (same (key y) k)
+      (λ e. let absent : has key k (keep p m) ≡ false = rw (← same_true (key y) k e) (after-absent key (key y) (keep p m) (all_keep (λ z. less (key y) (key z) ≡ true) p m s.0)) in
+      by_cases (p y) (λ t. rw (e, t, e)) (λ t. rw (e, t) absent))
+      (λ e. let t : less k (key y) ≡ true = by_cases (less k (key y)) (λ t. t) (λ t. clash (same-eq (key y) k (less-total (key y) k h t)) e) in
+      rw e (after-absent key k (keep p (y ∷ m)) (all_keep (λ z. less k (key z) ≡ true) p (y ∷ m) (t, all_map m (λ z. less-trans k (key y) (key z) t) s.0))))
+
+  led : (k : List ℕ) (m : List B) → Ascending key m → has key k (keep p (drop_below key k m)) ≡ leads key p k (drop_below key k m)
+  led k [] s = refl
+  led k (y ∷ m) s = by_cases (less (key y) k) (λ h. rw h (led k m s.1)) (λ h. rw h (first k y m s h))
+
+  -- one step of the walk
+  stand-step : (x : A) (l : List A) (m : List B) → Sorted f (x ∷ l) → Ascending key m → stand (x ∷ l) m ≡ leads key p (f x) (drop_below key (f x) m) && stand l (drop_below key (f x) m)
+  stand-step x l m s a = pass x l s m ∙ ap (λ (b : Bool). b && stand l (drop_below key (f x) m)) (led (f x) m a)
+
+  -- of the lists l and m, which are in order, what is left is to be found from n and from i on
+  module _ (l : List A) (m : List B) (s : Sorted f l) (a : Ascending key m) (n i j : ℕ) (x : A) (h : n < length l) (e : x ≡ get_or l n x)
+      (q : drop j m ≡ drop_below key (f x) (drop i m)) (w : stand l m ≡ stand (drop n l) (drop i m)) where
+    there : drop n l ≡ x ∷ drop (n + 1) l
+    there = rw add-one (drop-cons l n x h ∙ ap (λ (y : A). y ∷ drop (suc n) l) (sym e))
+
+    both_at : stand l m ≡ leads key p (f x) (drop j m) && stand (drop (n + 1) l) (drop j m)
+    both_at =
+        w
+        ∙ ap (λ (r : List A). stand r (drop i m)) there
+        ∙ stand-step x (drop (n + 1) l) (drop i m) (rw there at (sorted-drop f n l s)) (ascending-drop key i m a)
+        ∙ ap (λ (r : List B). leads key p (f x) r && stand (drop (n + 1) l) r) (sym q)
+
+    pub stand-stop : leads key p (f x) (drop j m) ≡ false → false ≡ stand l m
+    stand-stop t = sym (both_at ∙ rw t)
+
+    pub stand-more : leads key p (f x) (drop j m) ≡ true → stand l m ≡ stand (drop (n + 1) l) (drop j m)
+    stand-more t = both_at ∙ rw t
+
+-- what is kept of entries in order is in order by the first fields of their ids
+pub kept-prefix : (n : ℕ) (p : Entry → Bool) (l : List Entry) → ascending by_ids l ≡ true → Sorted (λ x. take n (by_ids x)) (keep p l)
+kept-prefix n p l up = sorted-prefix by_ids n (keep p l) (ascending-sorted by_ids (keep p l) (ascending-keep by_ids p l (ascend-to by_ids l up)))
+
+-- all of the other list is shown
+pub stand_all : {A B : Type 0} (f : A → List ℕ) (key : B → List ℕ) (l : List A) (m : List B) → stand f key (λ y. true) l m ≡ all_of (λ w. has key (f w) m) l
+stand_all f key l m = ap (λ r. all_of (λ w. has key (f w) r) l) (keep_all (λ y. true) m (all_any m (λ y. refl)))
+
+-- a test of each entry: of those from i on it is not known yet
+module _ {A : Type 0} (p : A → Bool) (l : List A) (i : ℕ) (w : all_of p l ≡ all_of p (drop i l)) where
+  pub each-stop : (d : A) → i < length l → p (get_or l i d) ≡ false → false ≡ all_of p l
+  each-stop d h t = sym (w ∙ rw (drop-cons l i d h, t))
+
+  pub each_more : (d : A) → i < length l → p (get_or l i d) ≡ true → all_of p l ≡ all_of p (drop (i + 1) l)
+  each_more d h t = w ∙ rw (drop-cons l i d h, t, add-one)
+
+  pub each-end : length l ≤ i → true ≡ all_of p l
+  each-end h = sym (w ∙ rw (drop_of_length-le l {i = i} h))
+
+-- the end of a walk
+pub stand-end : {A B : Type 0} (f : A → List ℕ) (key : B → List ℕ) (p : B → Bool) (l : List A) (m n : List B) (i : ℕ) → i ≡ length l → stand f key p l m ≡ stand f key p (drop i l) n → true ≡ stand f key p l m
+stand-end f key p l m n i e w = sym (w ∙ rw (drop_of_length-le l {i = i} (omega arith)))
