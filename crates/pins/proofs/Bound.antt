@@ -1,21 +1,26 @@
 -- The bound of a vacuum: not above an epoch that may be shown, and what is not blocked is at most the bound. Assumes nothing.
-use mathlib.Core.Path.{◌≡◌, refl, sym, ap}
+use mathlib.Core.Path.{◌≡◌, refl, sym, ap, ◌∙◌}
 use mathlib.Core.Bool.{true, not, ◌&&◌}
-use mathlib.Core.List.{List, [], ◌∷◌}
+use mathlib.Core.List.{List, [], ◌∷◌, map}
 use Prim.Native.Nat.{ℕ, ◌≤◌}
 use native.Mathlib.Omega.{arith}
+use denote.Ref.{Bor}
 use lib.Dec.{leb, ltb, eqb}
 use lib.ListN.{get_or}
 use borrow.Author.Tests.{ltb-true, ltb-false, leb-true, leb-false, eqb-true, eq-eqb, le-leb, lt-leb}
+use Rattle.std.specs.List.{slice_get}
+use Rattle.std.specs.Option.{option_copied, MatchOption}
+use Rattle.std.proofs.Common.{Option, None, Some}
 use Rattle.lists.specs.Order.{less}
 use Rattle.lists.specs.Keyed.{all_of, is_at, ascending}
 use Rattle.lists.proofs.Tests.{by_cases, clash, both}
 use Rattle.lists.proofs.Order.{lex-gt, same_true}
 use Rattle.lists.proofs.Keyed.{All, all_map, all_keep, all-put, After, ascend-to}
 use Rattle.version_state.specs.State.{State}
+use Rattle.pins.specs.declared.Pin.{Pin}
 use Rattle.pins.specs.declared.PinBook.{PinBook}
 use Rattle.pins.specs.declared.Place.{Place}
-use Rattle.pins.specs.Book.{PinEntry, pins_of, place_key, by_place, valid_pin, Keeps, has_place, pinned}
+use Rattle.pins.specs.Book.{PinEntry, pin_entry, pins_of, place_key, by_place, valid_pin, Keeps, has_place, pinned}
 use Rattle.pins.specs.Guards.{Guards, guards_by, guards_of, is_guarded, may_show, blocked, smallest, bound}
 use Rattle.pins.specs.Counts.{pins_on, recounted}
 
@@ -79,9 +84,14 @@ bound-first e p l v o =
     let s = ascend-to by_place (p ∷ l) o in
     omega (arith, above-first e p l (leb-true _ _ d.1) s.0)
 
--- the same of a book as it is read: p is its first entry
-pub bound-read : (e : ℕ) (b : List PinEntry) (p : PinEntry) (l : List PinEntry) → b ≡ p ∷ l → all_of (valid_pin e) b ≡ true → ascending by_place b ≡ true → p.epoch ≡ bound (guards_by e b)
-bound-read e b p l s v o = rw s (sym (bound-first e p l (rw s at v) (rw s at o)))
+-- the same of the first of the pins, where r is its epoch, and e if there is none
+pub bound-read : (e r : ℕ) (l : List Pin) (o : Option (Bor Pin)) (P : Bor Pin → Type 0) → option_copied o ≡ slice_get l 0 → MatchOption o (r ≡ e) P → ((x : Bor Pin) → P x → r ≡ x.now.epoch) → all_of (valid_pin e) (map pin_entry l) ≡ true → ascending by_place (map pin_entry l) ≡ true → r ≡ bound (guards_by e (map pin_entry l))
+bound-read e r [] None P q m f v s = m
+bound-read e r [] (Some x) P q m f v s = cc
+bound-read e r (y ∷ l) None P q m f v s = cc
+bound-read e r (y ∷ l) (Some x) P q m f v s =
+    let t : x.now ≡ y = cc in
+    f x m ∙ ap (λ (p : Pin). p.epoch) t ∙ sym (bound-first e (pin_entry y) (map pin_entry l) v s)
 
 -- the bound does not fall when the epoch rises
 smallest-rises : (e d : ℕ) (l : List PinEntry) → e ≤ d → smallest e l ≤ smallest d l

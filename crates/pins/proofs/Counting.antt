@@ -1,35 +1,25 @@
 -- Laws of counts: as a loop reads them, in a list that rises, and after one of them was changed. Assumes nothing.
 use mathlib.Core.Path.{◌≡◌, refl, sym, ap, ◌∙◌}
 use mathlib.Core.Bool.{Bool, true, false, cond, not, ◌&&◌}
-use mathlib.Core.List.{List, [], ◌∷◌, map}
-use Prim.Native.Nat.{ℕ, ◌+◌, ◌≤◌, ◌<◌}
+use mathlib.Core.List.{List, [], ◌∷◌}
+use Prim.Native.Nat.{ℕ, ◌≤◌, ◌<◌}
 use native.Mathlib.Omega.{arith}
-use borrow.Author.Tests.{lt-ltb, le-ltb, ne_eqb, ltb-true, ltb-false, leb-true, leb-false, eqb-true}
+use borrow.Author.Tests.{ne_eqb, ltb-true, ltb-false, leb-true, leb-false, eqb-true}
 use lib.Dec.{leb, ltb, eqb}
-use lib.ListN.{length, get_or, take, drop}
+use lib.ListN.{length, get_or}
 use Rattle.lists.specs.Order.{less, same}
 use Rattle.lists.specs.Keyed.{keep, all_of, is_at, put, without, ascending, rank}
 use Rattle.lists.proofs.Tests.{by_cases, clash, both, neither, past}
-use Rattle.lists.proofs.Order.{same_refl, same_true, same-sym, less-same, more_same}
+use Rattle.lists.proofs.Order.{same_refl, same_true, same-sym, more_same}
 use Rattle.lists.proofs.Keyed.{all_map, none-any_of, kept-all, ascend-to, has-put}
 use Rattle.lists.proofs.Places.{has_end, has_here}
-use Rattle.lists.proofs.Views.{seen, seen_end, view-length, view-at, rank-here, rank-next}
-use Rattle.pins.specs.declared.Pin.{Pin}
 use Rattle.pins.specs.declared.Place.{Place}
-use Rattle.pins.specs.Book.{PinEntry, pin_entry, place_on, place_key, by_place, most_pinned, valid_pin, has_place, pinned}
-use Rattle.pins.specs.Counts.{pins_on, pins_at, recounted, places_full, Placed}
+use Rattle.pins.specs.Book.{PinEntry, place_on, place_key, by_place, most_pinned, valid_pin, has_place, pinned}
+use Rattle.pins.specs.Counts.{pins_on, pins_at, recounted, places_full}
 use Rattle.pins.proofs.Bound.{held-pinned}
 
--- what is left of a view at i
-module _ (l : List Pin) (n i : ℕ) (d : Pin) (h : i < n) (k : n ≤ length l) (q : Place) where
-  pins-here : is_at by_place (place_key q) (pin_entry (get_or l i d)) ≡ true → pins_at q (drop i (map pin_entry (take n l))) ≡ (get_or l i d).count
-  pins-here t = rw (seen pin_entry l n i d h k, t)
-
-  pins-next : is_at by_place (place_key q) (pin_entry (get_or l i d)) ≡ false → pins_at q (drop i (map pin_entry (take n l))) ≡ pins_at q (drop (i + 1) (map pin_entry (take n l)))
-  pins-next t = rw (seen pin_entry l n i d h k, t)
-
 -- a place that does not stand where it would is not held
-absent : (q : Place) (l : List PinEntry) (d : PinEntry) → ascending by_place l ≡ true → ltb (rank by_place (place_key q) l) (length l) && is_at by_place (place_key q) (get_or l (rank by_place (place_key q) l) d) ≡ false → has_place q l ≡ false
+pub absent : (q : Place) (l : List PinEntry) (d : PinEntry) → ascending by_place l ≡ true → ltb (rank by_place (place_key q) l) (length l) && is_at by_place (place_key q) (get_or l (rank by_place (place_key q) l) d) ≡ false → has_place q l ≡ false
 absent q l d o h =
     by_cases (ltb (rank by_place (place_key q) l) (length l))
     (λ t. has_here by_place (place_key q) l d (ascend-to by_place l o) (ltb-true _ _ t) ∙ past (ltb (rank by_place (place_key q) l) (length l)) (is_at by_place (place_key q) (get_or l (rank by_place (place_key q) l) d)) h t)
@@ -64,7 +54,7 @@ counted c q (p ∷ l) v h =
     record { some = rw t r.some; first = r.first; last = r.last })
 
 -- a place has no pins where it is not held, and only there
-not-held : (q : Place) (l : List PinEntry) → has_place q l ≡ false → pins_at q l ≡ 0
+pub not-held : (q : Place) (l : List PinEntry) → has_place q l ≡ false → pins_at q l ≡ 0
 not-held q [] h = refl
 not-held q (p ∷ l) h =
     let a = neither (is_at by_place (place_key q) p) (has_place q l) h in
@@ -75,54 +65,6 @@ no_pins c q l v =
     by_cases (has_place q l)
     (λ t. let k = (counted c q l v t).some in rw (t, ne_eqb (pins_at q l) 0 (λ z. omega arith)))
     (λ t. rw (t, not-held q l t))
-
--- the walk that finds a place, at i of the first n pins of l
-pub record Finding (l : List Pin) (n : ℕ) (q : Place) (i : ℕ) : Type 0 where
-  pub within : i ≤ n
-  pub place : rank by_place (place_key q) (map pin_entry (take n l)) ≡ i + rank by_place (place_key q) (drop i (map pin_entry (take n l)))
-  pub count : pins_at q (map pin_entry (take n l)) ≡ pins_at q (drop i (map pin_entry (take n l)))
-
-pub find-start : (l : List Pin) (n : ℕ) (q : Place) → Finding l n q 0
-find-start l n q = record { within = omega arith; place = omega arith; count = refl }
-
-module _ (l : List Pin) (n : ℕ) (q : Place) (i : ℕ) (k : n ≤ length l) (f : Finding l n q i) where
-  abbrev view : List PinEntry
-  view = map pin_entry (take n l)
-
-  pub find-end : n ≤ i → Placed q view i false 0
-  find-end h =
-      let z : drop i view ≡ [] = seen_end pin_entry l n i h k in
-      let r = ap (rank by_place (place_key q)) z in
-      let w = view-length pin_entry l n k in
-      record { place = omega (arith, f.place, r); within = omega (arith, f.within, w); there = rw (w, le-ltb i n h); count = sym (f.count ∙ ap (pins_at q) z) }
-
-  module _ (d : Pin) (h : i < n) where
-    abbrev x : PinEntry
-    x = pin_entry (get_or l i d)
-
-    pub find-more : less (by_place x) (place_key q) ≡ true → Finding l n q (i + 1)
-    find-more b =
-        let r = rank-next pin_entry l n i d h k by_place (place_key q) b in
-        let a : is_at by_place (place_key q) x ≡ false = less-same (by_place x) (place_key q) b in
-        record { within = omega arith; place = omega (arith, f.place, r); count = f.count ∙ pins-next l n i d h k q a }
-
-    module _ (b : less (by_place x) (place_key q) ≡ false) where
-      found : rank by_place (place_key q) view ≡ i
-      found = let r = rank-here pin_entry l n i d h k by_place (place_key q) b in omega (arith, f.place, r)
-
-      inside : i ≤ length view
-      inside = let w = view-length pin_entry l n k in omega (arith, f.within, w)
-
-      here : (t : Bool) → is_at by_place (place_key q) x ≡ t → t ≡ ltb i (length view) && is_at by_place (place_key q) (get_or view i (pins_on q 0))
-      here t a = rw (view-length pin_entry l n k, lt-ltb i n h) (sym a ∙ ap (λ (y : PinEntry). is_at by_place (place_key q) y) (sym (view-at pin_entry l n i d (pins_on q 0) h k)))
-
-      pub find-here : is_at by_place (place_key q) x ≡ true → Placed q view i true x.count
-      find-here a = record { place = sym found; within = inside; there = here true a; count = sym (f.count ∙ pins-here l n i d h k q a) }
-
-      pub find-other : ascending by_place view ≡ true → is_at by_place (place_key q) x ≡ false → Placed q view i false 0
-      find-other o a =
-          let t = sym (here false a) in
-          record { place = sym found; within = inside; there = here false a; count = sym (not-held q view (absent q view (pins_on q 0) o (rw found t))) }
 
 -- the count of the place j after the place k was taken out, after an entry was put in, and after a count was changed
 pins-without : (k j : Place) (l : List PinEntry) → pins_at j (without by_place (place_key k) l) ≡ cond (same (place_key k) (place_key j)) 0 (pins_at j l)

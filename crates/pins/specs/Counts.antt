@@ -1,5 +1,5 @@
 -- The counts of a list of pins, and the list with one of them changed. Assumes nothing.
-use Rattle.std.specs.Prelude.{◌≡◌, Bool, cond, not, ◌&&◌, List, [], ◌∷◌, ℕ, ◌+◌, ◌-◌, ◌≤◌, leb, ltb, eqb, length, get_or}
+use Rattle.std.specs.Prelude.{◌≡◌, Bool, cond, not, ◌&&◌, List, [], ◌∷◌, ℕ, ◌+◌, ◌-◌, ◌≤◌, leb, ltb, eqb, length, get_or, Result, Ok, Err, is_ok}
 use Rattle.lists.specs.Keyed.{is_at, put, without, rank}
 use Rattle.pins.specs.declared.Place.{Place}
 use Rattle.pins.specs.Book.{PinEntry, place_key, by_place, most_pinned, most_pins, has_place}
@@ -37,9 +37,18 @@ pins_full k l = leb most_pins (pins_at k l)
 abbrev pub places_full : Place → List PinEntry → Bool
 places_full k l = not (has_place k l) && leb most_pinned (length l)
 
--- the place k has n pins in the list l, and `at` is where it stands there, or would stand
-pub record Placed (k : Place) (l : List PinEntry) (at : ℕ) (stands : Bool) (n : ℕ) : Type 0 where
-  pub place : at ≡ rank by_place (place_key k) l
-  pub within : at ≤ length l
-  pub there : stands ≡ ltb at (length l) && is_at by_place (place_key k) (get_or l at (pins_on k 0))
-  pub count : n ≡ pins_at k l
+-- the place in the list that a search tells, and the pins that stand there
+abbrev pub found_at : Result ℕ ℕ → ℕ
+found_at (Ok at) = at
+found_at (Err at) = at
+
+abbrev pub found_pins : Place → List PinEntry → Result ℕ ℕ → ℕ
+found_pins k l (Ok at) = (get_or l at (pins_on k 0)).count
+found_pins k l (Err at) = 0
+
+-- what a search for the place k in the list l tells: `Ok` of where it stands there, or `Err` of where it would
+pub record Placed (k : Place) (l : List PinEntry) (r : Result ℕ ℕ) : Type 0 where
+  pub place : found_at r ≡ rank by_place (place_key k) l
+  pub within : found_at r ≤ length l
+  pub there : is_ok r ≡ ltb (found_at r) (length l) && is_at by_place (place_key k) (get_or l (found_at r) (pins_on k 0))
+  pub count : found_pins k l r ≡ pins_at k l

@@ -1,10 +1,8 @@
 // The pin book: what the specification's 28 judges of it, the epochs that it guards, and its counts.
 #![tactic(auto)]
 
-ghost use Rattle.std.specs.Prelude.{◌≡◌, ◌&&◌, [], ◌≤◌};
-ghost use Rattle.lists.specs.Order.{less};
-ghost use Rattle.lists.specs.Keyed.{all_of, is_at, ascending};
-ghost use Rattle.pins.specs.Book.{pin_entry, pins_of, place_key, by_place, most_pinned, valid_pin, bad_book, GoodBook, pinned};
+ghost use Rattle.std.specs.Prelude.{◌≡◌, [], take};
+ghost use Rattle.pins.specs.Book.{pin_entry, pins_of, place_on, valid_pin, bad_book, GoodBook, pinned};
 ghost use Rattle.pins.specs.Guards.{guards_by, may_show, bound};
 ghost use Rattle.pins.specs.Laws.{BookLaws};
 
@@ -22,13 +20,13 @@ pub struct Pin {
     pub count: u16,
 }
 
-// The place of a book for the pins on an epoch.
-#[derive(Clone, Copy)]
+// The place of a book for the pins on an epoch: a type of its own, so that what tells places apart stands here alone.
+#[derive(Clone, Copy, PartialEq, Eq, PartialOrd, Ord)]
 pub struct Place {
     pub epoch: u32,
 }
 
-// Pinned epochs with their counts, ascending.
+// Pinned epochs with their counts, ascending. An array and any number beside it: the C interface hands it over so, and there is no heap.
 #[repr(C)]
 #[derive(Clone, Copy)]
 pub struct PinBook {
@@ -42,29 +40,17 @@ pub fn holds()
 {}
 
 impl Pin {
-    pub fn is_at(self, place: Place) -> bool
-        ensures { result ≡ is_at by_place (place_key place) (pin_entry self) }
+    fn place(&self) -> Place
+        ensures { result ≡ place_on self.now.epoch }
     {
-        self.epoch == place.epoch
+        Place { epoch: self.epoch }
     }
 
-    pub fn before(self, place: Place) -> bool
-        ensures { result ≡ less (by_place (pin_entry self)) (place_key place) }
+    // A count that is not 0, and an epoch that is neither 0 nor above the current one.
+    fn is_valid(&self, current: u32) -> bool
+        ensures { result ≡ valid_pin current (pin_entry self.now) }
     {
-        self.epoch < place.epoch
-    }
-
-    // A count that is not 0, a place after the last one, and an epoch that is neither 0 nor above the current one.
-    fn follows(self, last: Place, current: u32) -> bool
-        ensures { result ≡ valid_pin current (pin_entry self) && less (place_key last) (by_place (pin_entry self)) }
-    {
-        if self.count == 0 {
-            return false;
-        }
-        if self.epoch <= last.epoch {
-            return false;
-        }
-        self.epoch <= current
+        self.count != 0 && self.epoch != 0 && self.epoch <= current
     }
 }
 
@@ -79,74 +65,42 @@ impl PinBook {
         }
     }
 
-    // Internal: the count is within the array. Every place is valid, and the epochs rise strictly. No epoch is 0, so the first one is
-    // after 0.
-    fn sound(self, current: u32) -> bool
-        requires { self.count ≤ most_pinned }
-        ensures { result ≡ all_of (valid_pin current) (pins_of self) && ascending by_place (pins_of self) }
+    // A count above the array stands for all of it.
+    fn pins(&self) -> &[Pin]
+        ensures { result.now ≡ take self.now.count self.now.items }
     {
-        let count = self.count;
-        let mut last = Place { epoch: 0 };
-        let mut i = 0;
-        while i < count {
-            let x = self.items[i];
-            if !x.follows(last, current) {
-                return false;
-            }
-            last = Place { epoch: x.epoch };
-            i += 1;
-        }
-        true
+        &self.items[..self.count.min(MOST_PINNED)]
     }
 
     // The specification's 28 at an epoch, of any value whatsoever.
-    pub fn bad(self, current: u32) -> bool
-        ensures { result ≡ bad_book current self }
+    pub fn bad(&self, current: u32) -> bool
+        ensures { result ≡ bad_book current self.now }
     {
-        if MOST_PINNED < self.count {
-            return true;
-        }
-        !self.sound(current)
+        let pins = self.pins();
+        let valid = pins.iter().all(|pin| pin.is_valid(current));
+        let rises = pins.is_sorted_by(|a, b| a.place() < b.place());
+        MOST_PINNED < self.count || !(valid && rises)
     }
 
-    // Internal, as is what follows: the count is within the array. Whether the epoch is pinned.
-    pub fn is_pinned(self, epoch: u32) -> bool
-        requires { self.count ≤ most_pinned }
-        ensures { result ≡ pinned epoch (pins_of self) }
+    // Whether the epoch is pinned.
+    pub fn is_pinned(&self, epoch: u32) -> bool
+        ensures { result ≡ pinned epoch (pins_of self.now) }
     {
-        let count = self.count;
-        let mut i = 0;
-        while i < count {
-            let x = self.items[i];
-            if x.epoch == epoch {
-                return true;
-            }
-            i += 1;
-        }
-        false
+        self.pins().iter().any(|pin| pin.epoch == epoch)
     }
 
     // Whether pairs and vectors of the epoch may be shown.
-    pub fn may_show(self, current: u32, epoch: u32) -> bool
-        requires { self.count ≤ most_pinned }
-        ensures { result ≡ may_show (guards_by current (pins_of self)) epoch }
+    pub fn may_show(&self, current: u32, epoch: u32) -> bool
+        ensures { result ≡ may_show (guards_by current (pins_of self.now)) epoch }
     {
-        if epoch == current {
-            return true;
-        }
-        self.is_pinned(epoch)
+        epoch == current || self.is_pinned(epoch)
     }
 
     // The book has passed 28. The epoch up to which a vacuum lets go: the first of an ascending book is the smallest.
-    pub fn bound(self, current: u32) -> u32
-        requires { GoodBook current self }
-        ensures { result ≡ bound (guards_by current (pins_of self)) }
+    pub fn bound(&self, current: u32) -> u32
+        requires { GoodBook current self.now }
+        ensures { result ≡ bound (guards_by current (pins_of self.now)) }
     {
-        let count = self.count;
-        if count == 0 {
-            return current;
-        }
-        let first = self.items[0];
-        first.epoch
+        self.pins().first().map_or(current, |first| first.epoch)
     }
 }
