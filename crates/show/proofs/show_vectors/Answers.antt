@@ -23,9 +23,6 @@ returns-then-bad c =
     let a = c.args in
     vectors-refuse (state_of c.args.inner) c.args.book c.args.epoch c.args.tables.now c.args.rowsets.now c.args.vectors.now _ (book-bad (state_of c.args.inner) c.args.book (unseen (state_of c.args.inner) c.args.book c.args.epoch) (ltb (length c.args.tables.now) (length (vectors_at c.args.epoch (state_of c.args.inner))) || (ltb (length c.args.rowsets.now) (length (vectors_at c.args.epoch (state_of c.args.inner))) || ltb (length c.args.vectors.now) (length (vectors_at c.args.epoch (state_of c.args.inner))))) (sym c.bad.ensures ∙ c.if-bad.true))
 
-pub may_show-requires : goal.may_show-requires
-may_show-requires c = (good_book _ _ (sym c.bad.ensures ∙ c.if-bad.false)).fits
-
 pub returns-then-not-may_show : goal.returns-then-not-may_show
 returns-then-not-may_show c =
     let a = c.args in

@@ -31,9 +31,6 @@ returns-then-self-landed c =
     let n = le-leb _ _ c.if-self-landed.true in
     record { answer = rw (b, k, n); manager = rw (b, k, n) refl }
 
-pub is_pinned-requires : goal.is_pinned-requires
-is_pinned-requires c = (good_book _ _ (sym c.bad-2.ensures ∙ c.if-bad-2.false)).fits
-
 pub returns-then-is_pinned : goal.returns-then-is_pinned
 returns-then-is_pinned c =
     let b = sym c.bad.ensures ∙ c.if-bad.false in
