@@ -1,6 +1,6 @@
 -- The verdicts of pin and unpin, what an accepted one tells, and what each call then says. Assumes nothing.
 use mathlib.Core.Path.{◌≡◌, refl, sym, ap, ap₂, ◌∙◌}
-use mathlib.Core.Bool.{Bool, true, false, not, ◌&&◌}
+use mathlib.Core.Bool.{Bool, true, false, cond, not, ◌&&◌}
 use mathlib.Core.List.{List, [], ◌∷◌}
 use Prim.Native.Nat.{ℕ, ◌≤◌, ◌<◌}
 use native.Mathlib.Omega.{arith}
@@ -8,7 +8,7 @@ use borrow.Author.Tests.{eq-eqb, ne_eqb, leb-false, eqb-false, not-false}
 use lib.Dec.{leb, eqb}
 use lib.ListN.{length}
 use Rattle.std.specs.Prelude.{Ok, Err}
-use Rattle.std.specs.Result.{result_and}
+use Rattle.std.specs.Result.{IsErrAnd, result_and}
 use Rattle.ids.specs.declared.refusal.Refusal.{Refusal}
 use Rattle.ids.specs.declared.refusal.Refusal.TheVariants.{BadManager, BadPinBook, PinAtEpochZero, PinsFull, PinnedEpochsFull, EpochNotPinned}
 use Rattle.ids.specs.Verdicts.{Rule, ◌⇒◌, judged, Verdict}
@@ -24,7 +24,8 @@ use Rattle.pins.proofs.Facts.{good_book}
 use Rattle.pins.proofs.Counting.{Counted, counted, no_pins, place-had, pinned-after}
 use Rattle.vacuum.specs.Says.{list_of}
 use Rattle.version_manager.specs.declared.VersionManager.{VersionManager}
-use Rattle.pinning.specs.Says.{current, pin_rules, pin_verdict, PinSays, unpin_rules, unpin_verdict, is_due, UnpinSays}
+use Rattle.pinning.specs.declared.Readiness.{Readiness}
+use Rattle.pinning.specs.Says.{PinAnswer, UnpinAnswer, current, pin_rules, pin_verdict, PinSays, unpin_rules, unpin_verdict, is_due, UnpinSays}
 
 module _ (m : VersionManager) (b : PinBook) where
   -- 29 and 28, which both calls judge first, and what pin judges after them
@@ -44,18 +45,15 @@ module _ (m : VersionManager) (b : PinBook) where
   pin-early k h = pin-split ∙ ap (λ (v : Verdict). result_and v (judged pin-rest)) h
 
   -- the rest over the numbers that a call has read
-  pub pin-late : (n : ℕ) → n ≡ pins_at (place_on (current m)) (pins_of b) → length (pins_of b) ≡ b.count → judged first_two ≡ Ok tt
-      → pin_verdict m b ≡ judged ((eqb (current m) 0 ⇒ PinAtEpochZero) ∷ (leb most_pins n ⇒ PinsFull) ∷ ((eqb n 0 && leb most_pinned b.count) ⇒ PinnedEpochsFull) ∷ [])
-  pin-late n e l h =
+  pub pin-late : (n : ℕ) (f : Bool) → n ≡ pins_at (place_on (current m)) (pins_of b) → f ≡ leb most_pinned (length (pins_of b)) → judged first_two ≡ Ok tt
+      → pin_verdict m b ≡ judged ((eqb (current m) 0 ⇒ PinAtEpochZero) ∷ (leb most_pins n ⇒ PinsFull) ∷ ((eqb n 0 && f) ⇒ PinnedEpochsFull) ∷ [])
+  pin-late n f e full h =
       let v : pins_full (place_on (current m)) (pins_of b) ≡ leb most_pins n = ap (leb most_pins) (sym e) in
       let z : not (has_place (place_on (current m)) (pins_of b)) ≡ eqb n 0 = sym (ap (λ (k : ℕ). eqb k 0) e ∙ no_pins (current m) (place_on (current m)) (pins_of b) (two-passed h).valid) in
-      let w : places_full (place_on (current m)) (pins_of b) ≡ eqb n 0 && leb most_pinned b.count = ap₂ ◌&&◌ z (ap (leb most_pinned) l) in
+      let w : places_full (place_on (current m)) (pins_of b) ≡ eqb n 0 && f = ap₂ ◌&&◌ z (sym full) in
       pin-split
       ∙ ap (λ (d : Verdict). result_and d (judged pin-rest)) h
       ∙ ap₂ (λ (x y : Bool). judged ((eqb (current m) 0 ⇒ PinAtEpochZero) ∷ (x ⇒ PinsFull) ∷ (y ⇒ PinnedEpochsFull) ∷ [])) v w
-
-  pub pin-10 : bad_manager m ≡ false → bad_book (current m) b ≡ false → eqb (current m) 0 ≡ true → Err PinAtEpochZero ≡ pin_verdict m b
-  pin-10 p q r = sym (rw (p, q, r))
 
   -- what is known where pin is accepted
   pub record Pinnable : Type 0 where
@@ -75,8 +73,9 @@ module _ (m : VersionManager) (b : PinBook) where
         place = h.1.1.1.1.0;
       }
 
-  pub pin-refuses : (k : Refusal) → pin_verdict m b ≡ Err k → PinSays m b (Err k) b
-  pin-refuses k d = record { answer = rw d; book = rw d }
+  pub pin-refuses : (a : PinAnswer) (k : Refusal) → IsErrAnd a (λ q. q ≡ k) → pin_verdict m b ≡ Err k → PinSays m b a b
+  pin-refuses (Ok e) k h d = absurd h
+  pin-refuses (Err q) k h d = record { answer = rw (h, d); book = rw d }
 
   pub pin-accepts : (b' : PinBook) → pin_verdict m b ≡ Ok tt → Keeps b' (with_pin (place_on (current m)) (pins_of b)) → PinSays m b (Ok (current m)) b'
   pin-accepts b' d k = record { answer = rw d; book = rw d k }
@@ -124,8 +123,9 @@ module _ (m : VersionManager) (b : PinBook) where
           place = place-had (place_on e) (pins_of b) p;
         }
 
-    pub unpin-refuses : (k : Refusal) → unpin_verdict m e b ≡ Err k → UnpinSays m e b (Err k) b
-    unpin-refuses k d = record { answer = rw d; ready = omega arith; book = rw d }
+    pub unpin-refuses : (a : UnpinAnswer) (k : Refusal) → IsErrAnd a (λ q. q ≡ k) → unpin_verdict m e b ≡ Err k → UnpinSays m e b a b
+    unpin-refuses (Ok u) k h d = absurd h
+    unpin-refuses (Err q) k h d = record { answer = rw (h, d); ready = omega arith; book = rw d }
 
     -- the count of the epoch's one place tells whether it is pinned still
     due-by : is_due m e b ≡ eqb (left_on (place_on e) (pins_of b)) 0 && not (eqb e (current m))
@@ -135,6 +135,11 @@ module _ (m : VersionManager) (b : PinBook) where
         not-not true = refl
         not-not false = refl
 
-    pub unpin-accepts : (b' : PinBook) (y : Bool) (n : ℕ) → unpin_verdict m e b ≡ Ok tt → y ≡ eqb (left_on (place_on e) (pins_of b)) 0 && not (eqb e (current m)) → n ≤ length (list_of (held_by m) b')
-        → Keeps b' (without_pin (place_on e) (pins_of b)) → UnpinSays m e b (Ok (record { due = y; ready = n })) b'
-    unpin-accepts b' y n d u r k = record { answer = rw (d, u ∙ sym due-by); ready = r; book = rw d k }
+    -- a number that is one or none is not above the one
+    at_most : (y : Bool) (n k : ℕ) → n ≡ cond y k 0 → n ≤ k
+    at_most true n k h = omega arith
+    at_most false n k h = omega arith
+
+    pub unpin-accepts : (b' : PinBook) (r : Readiness) → unpin_verdict m e b ≡ Ok tt → r.due ≡ eqb (left_on (place_on e) (pins_of b)) 0 && not (eqb e (current m)) → r.ready ≡ cond r.due (length (list_of (held_by m) b')) 0
+        → Keeps b' (without_pin (place_on e) (pins_of b)) → UnpinSays m e b (Ok r) b'
+    unpin-accepts b' r d u n k = record { answer = rw (d, u ∙ sym due-by); ready = at_most r.due r.ready (length (list_of (held_by m) b')) n; book = rw d k }

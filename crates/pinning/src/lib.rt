@@ -1,5 +1,4 @@
-// Pin and unpin, lent the pin book and altering it there. The work is done by functions that take the book and hand it back by
-// value.
+// Pin and unpin, lent the pin book and altering it there.
 #![tactic(auto)]
 
 ghost use Rattle.std.specs.Prelude.{◌≡◌, cond, not, ◌&&◌, [], ◌∷◌, leb, eqb, length, ◌≤◌};
@@ -9,16 +8,16 @@ ghost use Rattle.ids.specs.declared.refusal.Refusal.TheVariants.{BadManager, Bad
 ghost use Rattle.ids.specs.Verdicts.{◌⇒◌, judged};
 ghost use Rattle.columns.specs.Rows.{rows, column};
 ghost use Rattle.snapshot.specs.Entries.{gone_at};
-ghost use Rattle.pins.specs.Book.{pins_of, most_pinned, most_pins, bad_book, GoodBook};
+ghost use Rattle.pins.specs.Book.{pins_of, most_pins, bad_book, GoodBook};
 ghost use Rattle.pins.specs.Guards.{guards_by, bound};
 ghost use Rattle.version_manager.specs.Managers.{bad_manager};
 ghost use Rattle.pinning.specs.Says.{current, PinSays, UnpinSays};
 ghost use Rattle.pinning.specs.Laws.{PinLaws};
 
-use ids::limits::MOST_HELD;
 use ids::refusal::Refusal;
-use pins::{MOST_PINNED, MOST_PINS, PinBook, Place, counts};
+use pins::{MOST_PINS, PinBook, Place};
 use version_manager::VersionManager;
+use version_state::VersionManagerInner;
 
 #[derive(Drop)]
 pub struct PinStep {
@@ -46,8 +45,8 @@ pub fn holds()
 {}
 
 // 29, 28
-fn judge(manager: VersionManager, book: PinBook) -> Result<(), Refusal>
-    ensures { result ≡ judged ((bad_manager manager ⇒ BadManager) ∷ (bad_book (current manager) book ⇒ BadPinBook) ∷ []) }
+fn judge(manager: &VersionManager, book: &PinBook) -> Result<(), Refusal>
+    ensures { result ≡ judged ((bad_manager manager.now ⇒ BadManager) ∷ (bad_book (current manager.now) book.now ⇒ BadPinBook) ∷ []) }
 {
     if manager.bad() {
         return Err(Refusal::BadManager);
@@ -58,9 +57,9 @@ fn judge(manager: VersionManager, book: PinBook) -> Result<(), Refusal>
     Ok(())
 }
 
-// 10, 18, 19 of an epoch with so many pins, where so many epochs are pinned. One without pins needs a place.
-fn judge_pin(epoch: u32, pins: u16, pinned: usize) -> Result<(), Refusal>
-    ensures { result ≡ judged ((eqb epoch 0 ⇒ PinAtEpochZero) ∷ (leb most_pins pins ⇒ PinsFull) ∷ ((eqb pins 0 && leb most_pinned pinned) ⇒ PinnedEpochsFull) ∷ []) }
+// 10, 18, 19 of an epoch with so many pins. One without pins needs a place in the book.
+fn judge_pin(epoch: u32, pins: u16, full: bool) -> Result<(), Refusal>
+    ensures { result ≡ judged ((eqb epoch 0 ⇒ PinAtEpochZero) ∷ (leb most_pins pins ⇒ PinsFull) ∷ ((eqb pins 0 && full) ⇒ PinnedEpochsFull) ∷ []) }
 {
     if epoch == 0 {
         return Err(Refusal::PinAtEpochZero);
@@ -68,115 +67,58 @@ fn judge_pin(epoch: u32, pins: u16, pinned: usize) -> Result<(), Refusal>
     if MOST_PINS <= pins {
         return Err(Refusal::PinsFull);
     }
-    if pins != 0 {
-        return Ok(());
-    }
-    if MOST_PINNED <= pinned {
+    if pins == 0 && full {
         return Err(Refusal::PinnedEpochsFull);
     }
     Ok(())
 }
 
-// Pin, by value.
-pub fn after_pin(manager: VersionManager, book: PinBook) -> PinStep
-    ensures { PinSays manager book result.answer result.book }
-{
-    let verdict = judge(manager, book);
-    if let Err(why) = verdict {
-        return PinStep {
-            book,
-            answer: Err(why),
-        };
-    }
-    let epoch = manager.inner.epoch;
-    let place = Place { epoch };
-    let found = counts::find(book, place);
-    let full = judge_pin(epoch, found.pins, book.count);
-    if let Err(why) = full {
-        return PinStep {
-            book,
-            answer: Err(why),
-        };
-    }
-    let next = counts::recounted(book, found, place, found.pins + 1);
-    PinStep {
-        book: next,
-        answer: Ok(epoch),
-    }
-}
-
-// Internal: the count is within the column, and the book has passed 28. How many deletions a vacuum would list where one is due,
-// and else 0.
-fn ready(deleted: &[u32; MOST_HELD], count: usize, current: u32, book: PinBook, due: bool) -> usize
-    requires { (count ≤ most_held) × GoodBook current book }
-    ensures { result ≡ cond due (length (keep (gone_at (bound (guards_by current (pins_of book)))) (rows (column deleted.now) count))) 0 }
-{
-    if !due {
-        return 0;
-    }
-    let bound = book.bound(current);
-    vacuum::counted(deleted, count, bound)
-}
-
-fn is_due(epoch: u32, current: u32, left: u16) -> bool
-    ensures { result ≡ eqb left 0 && not (eqb epoch current) }
-{
-    if left != 0 {
-        return false;
-    }
-    epoch != current
-}
-
-// Unpin, by value.
-pub fn after_unpin(manager: VersionManager, book: PinBook, epoch: u32) -> UnpinStep
-    ensures { UnpinSays manager epoch book result.answer result.book }
-{
-    let verdict = judge(manager, book);
-    if let Err(why) = verdict {
-        return UnpinStep {
-            book,
-            answer: Err(why),
-        };
-    }
-    let place = Place { epoch };
-    let found = counts::find(book, place);
-    if found.pins == 0 {
-        return UnpinStep {
-            book,
-            answer: Err(Refusal::EpochNotPinned),
-        };
-    }
-    let current = manager.inner.epoch;
-    let left = found.pins - 1;
-    let next = counts::recounted(book, found, place, left);
-    let due = is_due(epoch, current, left);
-    // One column is moved out: lending it from the manager would keep a copy of the whole.
-    let rowsets = manager.inner.rowsets;
-    let deleted = rowsets.deleted;
-    let ready = ready(&deleted, rowsets.count, current, next, due);
-    UnpinStep {
-        book: next,
-        answer: Ok(Readiness { due, ready }),
-    }
-}
-
-// The book at entry is read whole, and what the step makes of it is stored whole.
 pub fn pin(manager: VersionManager, book: &mut PinBook) -> Result<u32, Refusal>
     ensures { PinSays manager book.old result book.new }
 {
-    let old = *book;
-    let step = after_pin(manager, old);
-    *book = step.book;
-    step.answer
+    judge(&manager, book)?;
+    let epoch = manager.inner.epoch;
+    let place = Place { epoch };
+    let pins = book.pins_at(place);
+    judge_pin(epoch, pins, book.is_full())?;
+    book.recount(place, pins + 1);
+    Ok(epoch)
+}
+
+impl Readiness {
+    // Internal: the count is within the column, and the book has passed 28. Whether a vacuum is due where an unpin left so many pins, and
+    // how many deletions it would list: none where it is not.
+    fn after(inner: &VersionManagerInner, book: &PinBook, epoch: u32, left: u16) -> Readiness
+        requires { (inner.now.rowsets.count ≤ most_held) × GoodBook inner.now.epoch book.now }
+        ensures due { result.due ≡ eqb left 0 && not (eqb epoch inner.now.epoch) }
+        ensures ready { result.ready ≡ cond result.due (length (keep (gone_at (bound (guards_by inner.now.epoch (pins_of book.now)))) (rows (column inner.now.rowsets.deleted) inner.now.rowsets.count))) 0 }
+    {
+        let current = inner.epoch;
+        if left != 0 || epoch == current {
+            return Readiness {
+                due: false,
+                ready: 0,
+            };
+        }
+        let rowsets = &inner.rowsets;
+        let bound = book.bound(current);
+        let ready = vacuum::counted(&rowsets.deleted, rowsets.count, bound);
+        Readiness { due: true, ready }
+    }
 }
 
 pub fn unpin(manager: VersionManager, book: &mut PinBook, epoch: u32) -> Result<Readiness, Refusal>
     ensures { UnpinSays manager epoch book.old result book.new }
 {
-    let old = *book;
-    let step = after_unpin(manager, old, epoch);
-    *book = step.book;
-    step.answer
+    judge(&manager, book)?;
+    let place = Place { epoch };
+    let pins = book.pins_at(place);
+    if pins == 0 {
+        return Err(Refusal::EpochNotPinned);
+    }
+    let left = pins - 1;
+    book.recount(place, left);
+    Ok(Readiness::after(&manager.inner, book, epoch, left))
 }
 
 // For callers that go by value: a book of one's own is lent to `pin`, and handed back beside the answer.

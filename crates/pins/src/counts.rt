@@ -1,11 +1,11 @@
 // The counts of a book, and a change of one of them. The places are in order.
-ghost use Rattle.std.specs.Prelude.{◌≡◌, true, false, ◌+◌, ◌≤◌, ◌<◌};
+ghost use Rattle.std.specs.Prelude.{◌≡◌, true, false, ◌+◌, ◌≤◌, ◌<◌, leb, length};
 ghost use Rattle.lists.specs.Keyed.{ascending};
 ghost use Rattle.lists.specs.Places.{insert_at, remove_at};
 ghost use Rattle.pins.specs.Book.{pin_entry, pins_of, by_place, most_pinned, Keeps};
 ghost use Rattle.pins.specs.Counts.{pins_at, recounted, places_full, Placed};
 
-use crate::{Pin, PinBook, Place};
+use crate::{MOST_PINNED, Pin, PinBook, Place};
 
 impl PinBook {
     // Where a place stands, or else would.
@@ -24,6 +24,13 @@ impl PinBook {
             Ok(at) => self.items[at].count,
             Err(_) => 0,
         }
+    }
+
+    // Whether every place is taken.
+    pub fn is_full(&self) -> bool
+        ensures { result ≡ leb most_pinned (length (pins_of self.now)) }
+    {
+        MOST_PINNED <= self.pins().len()
     }
 
     fn insert(&mut self, at: usize, pin: Pin)

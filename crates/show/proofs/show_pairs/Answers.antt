@@ -10,7 +10,6 @@ use Rattle.lists.specs.Written.{over}
 use Rattle.lists.proofs.Places.{known}
 use Rattle.version_state.specs.State.{state_of, pairs_at}
 use Rattle.version_state.proofs.Facts.{sound-of}
-use Rattle.pins.proofs.Facts.{good_book}
 use Rattle.show.specs.Says.{unseen}
 use Rattle.show.proofs.Says.{shown-count, shown-numbers, book-bad, not_seen, pairs-short-1, pairs-short-2, pairs-room, pairs-refuse, pairs-accept}
 use Rattle.show.proofs.show_pairs.Goals as goal

@@ -10,7 +10,6 @@ use Rattle.lists.specs.Written.{over}
 use Rattle.lists.proofs.Places.{known}
 use Rattle.version_state.specs.State.{state_of, vectors_at}
 use Rattle.version_state.proofs.Facts.{sound-of}
-use Rattle.pins.proofs.Facts.{good_book}
 use Rattle.show.specs.Says.{unseen}
 use Rattle.show.proofs.Says.{shown-count, shown-numbers, book-bad, not_seen, vectors-short-1, vectors-short-2, vectors-short-3, vectors-room, vectors-refuse, vectors-accept}
 use Rattle.show.proofs.show_vectors.Goals as goal

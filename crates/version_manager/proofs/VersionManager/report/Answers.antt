@@ -3,7 +3,6 @@ use mathlib.Core.Path.{refl, sym, ◌∙◌}
 use native.Mathlib.Omega.{arith}
 use borrow.Author.Tests.{le-leb, lt-leb}
 use Rattle.lists.proofs.Places.{known}
-use Rattle.pins.proofs.Facts.{good_book}
 use Rattle.version_state.specs.State.{lengthened}
 use Rattle.version_state.proofs.Facts.{sound-of}
 use Rattle.version_manager.proofs.Managers.{kept-passes, manages}
