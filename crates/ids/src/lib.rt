@@ -9,25 +9,26 @@ pub mod name;
 pub mod refusal;
 
 #[repr(C)]
-#[derive(Clone, Copy)]
+#[derive(Clone, Copy, PartialEq, Eq, PartialOrd, Ord)]
 pub struct TableNo(pub u32);
 
 #[repr(C)]
-#[derive(Clone, Copy)]
+#[derive(Clone, Copy, PartialEq, Eq, PartialOrd, Ord)]
 pub struct RowsetNo(pub u32);
 
 #[repr(C)]
-#[derive(Clone, Copy)]
+#[derive(Clone, Copy, PartialEq, Eq, PartialOrd, Ord)]
 pub struct RowNo(pub u32);
 
 #[repr(C)]
-#[derive(Clone, Copy)]
+#[derive(Clone, Copy, PartialEq, Eq, PartialOrd, Ord)]
 pub struct VectorNo(pub u64);
 
 // A row of a rowset.
-#[derive(Clone, Copy)]
+#[derive(Clone, Copy, PartialEq, Eq, PartialOrd, Ord)]
 pub struct SecondaryRowHandler(pub RowsetNo, pub RowNo);
 
+// Each is one comparison with its width's own limit: a trait over the widths would be longer than the three.
 impl TableNo {
     pub fn is_id(self) -> bool
         ensures { result ≡ is_id32 self.0 }

@@ -18,12 +18,12 @@ pub const LONGEST_LINE: usize = 57;
 // The lines of a commit.
 pub const LINE_BYTES: usize = MOST_OPERATIONS * LONGEST_LINE;
 
-pub const LAST_EPOCH: u32 = 4294967295;
+pub const LAST_EPOCH: u32 = u32::MAX;
 
 // The largest value of each width: no id.
-pub const LARGEST_32: u32 = 4294967295;
+pub const LARGEST_32: u32 = u32::MAX;
 
-pub const LARGEST_64: u64 = 18446744073709551615;
+pub const LARGEST_64: u64 = u64::MAX;
 
 // Bytes of a manifest.
 pub const LONGEST_MANIFEST: usize = 65536;

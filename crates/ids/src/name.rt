@@ -1,6 +1,9 @@
 // Names of tables.
-ghost use Rattle.std.specs.Prelude.{◌≡◌, ◌≤◌, [], length};
-ghost use Rattle.lists.specs.Order.{same};
+ghost use Rattle.std.specs.Prelude.{◌≡◌, ◌≤◌, [], length, nat_eq};
+ghost use Rattle.std.specs.Cmp.Rules.{comparing};
+ghost use Rattle.std.specs.Ordering.{on};
+ghost use Rattle.std.specs.Cmp.Lexicographic.{pointwise};
+ghost use Rattle.std.proofs.Common.{rules};
 ghost use Rattle.ids.specs.Names.{longest_name, name_of};
 
 use crate::limits::LONGEST_NAME;
@@ -14,8 +17,33 @@ pub struct Name {
 }
 
 impl Name {
-    // The name that a change without one carries.
-    pub fn none() -> Name
+    // Internal: the caller has looked at the length.
+    #[tactic(auto, unfolding(crate::specs::Names::name_of))]
+    pub fn of(src: &[u8]) -> Name
+        requires { length src.now ≤ longest_name }
+        ensures { name_of result ≡ src.now }
+    {
+        let mut bytes = [0u8; LONGEST_NAME];
+        bytes[..src.len()].copy_from_slice(src);
+        Name {
+            bytes,
+            len: src.len(),
+        }
+    }
+
+    // The bytes of the name: none, where `len` is no name's.
+    #[tactic(auto, unfolding(crate::specs::Names::name_of))]
+    pub fn as_slice(&self) -> &[u8]
+        ensures { result.now ≡ name_of self.now }
+    {
+        self.bytes.get(..self.len).unwrap_or(&[])
+    }
+}
+
+// The name that a change without one carries.
+impl Default for Name {
+    #[tactic(auto, unfolding(crate::specs::Names::name_of))]
+    fn default() -> Name
         ensures { name_of result ≡ [] }
     {
         Name {
@@ -23,51 +51,18 @@ impl Name {
             len: 0,
         }
     }
+}
 
-    // Internal: the caller has looked at the length.
-    pub fn of(src: &[u8]) -> Name
-        requires { length src.now ≤ longest_name }
-        ensures { name_of result ≡ src.now }
-    {
-        let n = src.len();
-        let mut bytes = [0u8; LONGEST_NAME];
-        let mut i = 0;
-        while i < n {
-            bytes[i] = src[i];
-            i += 1;
-        }
-        Name { bytes, len: n }
-    }
+impl PartialEq for Name {
+    ghost eq = { on name_of (pointwise nat_eq) };
 
-    pub fn length(self) -> usize
-        ensures { result ≡ length (name_of self) }
-    {
-        if self.len <= LONGEST_NAME {
-            return self.len;
-        }
-        0
-    }
+    ghost laws = { Prim.search (comparing, rules) };
 
-    pub fn same(self, other: Name) -> bool
-        ensures { result ≡ same (name_of self) (name_of other) }
-    {
-        let n = self.length();
-        let m = other.length();
-        let mut i = 0;
-        while i < n {
-            if m <= i {
-                return false;
-            }
-            let a = self.bytes[i];
-            let b = other.bytes[i];
-            if a != b {
-                return false;
-            }
-            i += 1;
-        }
-        if m <= i {
-            return true;
-        }
-        false
+    fn eq(&self, other: &Name) -> bool {
+        self.as_slice() == other.as_slice()
     }
+}
+
+impl Eq for Name {
+    ghost laws = { Prim.search (comparing, rules) };
 }
