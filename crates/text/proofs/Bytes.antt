@@ -89,15 +89,18 @@ pub class-digit : (b : ℕ) → eqb (class_of b) 1 ≡ is_digit b
 unfolding class_of
 class-digit b = first (is_digit b) (is_lower b) (is_capital b) (is_comma b) (is_newline b) (is_mark b)
 
-pub name-digit : (b k : ℕ) → k ≡ class_of b → k ≡ 1 → true ≡ is_name_byte b
+pub name-digit : (b : ℕ) → class_of b ≡ 1 → is_name_byte b ≡ true
 unfolding is_name_byte
-name-digit b k e h = rw (← class-digit b, ← e, h)
+name-digit b h = rw (← class-digit b, h)
 
-pub name-other : (b k : ℕ) → k ≡ class_of b → (k ≡ 1 → ⊥) → eqb k 2 ≡ is_name_byte b
+pub name-other : (b : ℕ) → (class_of b ≡ 1 → ⊥) → is_name_byte b ≡ eqb (class_of b) 2
 unfolding is_name_byte class_of
-name-other b k e h =
-    let d : is_digit b ≡ false = sym (class-digit b) ∙ rw (← e) (ne_eqb k 1 h) in
-    rw (e, d) (second (is_lower b) (is_capital b) (is_comma b) (is_newline b) (is_mark b))
+name-other b h =
+    let d : is_digit b ≡ false = sym (class-digit b) ∙ ne_eqb (class_of b) 1 h in
+    rw d (sym (second (is_lower b) (is_capital b) (is_comma b) (is_newline b) (is_mark b)))
+
+-- what a test of the class says
+pub ruleset class_tests = (class-digit, class-comma, class-newline, class-mark, name-digit, name-other)
 
 -- Bytes of names and digits are none of those that part fields and lines.
 pub name-byte-digit : (b : ℕ) → is_digit b ≡ true → is_name_byte b ≡ true

@@ -1,4 +1,5 @@
 -- What is written is read back, and what is read is what would be written. Assumes nothing.
+use Rattle.std.specs.Prelude.{Option, Some, None}
 use mathlib.Core.Path.{◌≡◌, refl, ap, ◌∙◌}
 use mathlib.Core.Bool.{Bool, true, false, cond, ◌&&◌}
 use mathlib.Core.List.{List, [], ◌∷◌, ◌++◌, append_assoc}
@@ -8,11 +9,10 @@ use native.Mathlib.Omega.{arith}
 use native.Mathlib.Decide.{dec_lt}
 use lib.Dec.{leb, ltb, eqb}
 use lib.ListN.{length, length-append}
-use borrow.Author.Tests.{lt-ltb, le-leb, ltb-true, leb-true}
-use Rattle.text.specs.declared.Number.TheVariants.{At, Nothing}
+use borrow.Author.Tests.{ltb-false, lt-ltb, le-leb, ltb-true, leb-true}
 use Rattle.text.specs.Class.{is_digit}
 use Rattle.text.specs.Decimal.{digits, read_on, read_in, Stops, Starts}
-use Rattle.lists.proofs.Tests.{both}
+use Rattle.lists.proofs.Tests.{by_cases, both}
 use Rattle.lists.specs.Keyed.{all_of, any_of}
 use Rattle.text.specs.Name.{is_name_byte}
 use Rattle.text.proofs.Bytes.{digit-of, digit-bounds, name-byte-digit, name-bytes-without}
@@ -38,13 +38,13 @@ over limit i (suc f) n (no h) rest p q =
     let pos : 0 < n / 10 = omega arith in
     rw (length-big n big, digits-big n big, append_assoc, over limit i f (n / 10) (dec_lt (n / 10) 10) ((48 + n % 10) ∷ rest) (omega arith) (omega arith), digit-of (n % 10) m, lt-ltb 0 (n / 10) pos, e, le-leb n limit q, add_assoc)
 
-stop : (limit : ℕ) (s : List ℕ) (n i : ℕ) → Stops s → read_on limit s n i ≡ At n i
+stop : (limit : ℕ) (s : List ℕ) (n i : ℕ) → Stops s → read_on limit s n i ≡ Some (n, i)
 unfolding read_on
 stop limit [] n i h = refl
 stop limit (b ∷ s) n i h = rw h
 
 -- what is written is read back
-pub read-digits : (limit i n : ℕ) (rest : List ℕ) → n ≤ limit → Stops rest → read_in limit (digits n ++ rest) i ≡ At n (i + length (digits n))
+pub read-digits : (limit i n : ℕ) (rest : List ℕ) → n ≤ limit → Stops rest → read_in limit (digits n ++ rest) i ≡ Some (n, i + length (digits n))
 read-digits limit i n rest q h = over limit i n n (dec_lt n 10) rest (omega arith) q ∙ stop limit rest n (i + length (digits n)) h
 
 digits-snoc : (m b : ℕ) → 0 < m → is_digit b ≡ true → digits (m * 10 + (b - 48)) ≡ digits m ++ (b ∷ [])
@@ -62,24 +62,25 @@ record Onward (limit : ℕ) (s : List ℕ) (m i n j : ℕ) : Type 0 where
   next : j + length (digits m) ≡ i + length (digits n)
   small : n ≤ limit
 
-here : (limit : ℕ) (s : List ℕ) (m i n j : ℕ) → m ≤ limit → Stops s → At m i ≡ At n j → Onward limit s m i n j
+here : (limit : ℕ) (s : List ℕ) (m i n j : ℕ) → m ≤ limit → Stops s → ◌≡◌ {A = Option (ℕ × ℕ)} (Some (m, i)) (Some (n, j)) → Onward limit s m i n j
 here limit s m i n j q h e =
-    let en : m ≡ n = cc in
-    let ei : i ≡ j = cc in
+    let p : ◌≡◌ {A = ℕ × ℕ} (m, i) (n, j) = cc in
+    let en : m ≡ n = ap (λ (x : ℕ × ℕ). x.0) p in
+    let ei : i ≡ j = ap (λ (x : ℕ × ℕ). x.1) p in
     record { rest = s; text = rw en; stops = h; next = rw (en, ei); small = omega arith }
 
-never : {n j : ℕ} → Nothing ≡ At n j → ⊥
+never : {n j : ℕ} → ◌≡◌ {A = Option (ℕ × ℕ)} None (Some (n, j)) → ⊥
 never e = let z : ◌≡◌ {A = ℕ} 0 1 = cc in omega arith
 
-onward : (limit : ℕ) (s : List ℕ) (m i n j : ℕ) → m ≤ limit → read_on limit s m i ≡ At n j → Onward limit s m i n j
+onward : (limit : ℕ) (s : List ℕ) (m i n j : ℕ) → m ≤ limit → read_on limit s m i ≡ Some (n, j) → Onward limit s m i n j
 unfolding read_on
 onward limit [] m i n j q e = here limit [] m i n j q tt e
 onward limit (b ∷ s) m i n j q e =
     digit (is_digit b) (ltb 0 m && leb (m * 10 + (b - 48)) limit) refl refl e (λ l. onward limit s (m * 10 + (b - 48)) (i + 1) n j l)
   where
     digit : (t u : Bool) → is_digit b ≡ t → ltb 0 m && leb (m * 10 + (b - 48)) limit ≡ u
-        → cond t (cond u (read_on limit s (m * 10 + (b - 48)) (i + 1)) Nothing) (At m i) ≡ At n j
-        → (m * 10 + (b - 48) ≤ limit → read_on limit s (m * 10 + (b - 48)) (i + 1) ≡ At n j → Onward limit s (m * 10 + (b - 48)) (i + 1) n j)
+        → cond t (cond u (read_on limit s (m * 10 + (b - 48)) (i + 1)) None) (Some (m, i)) ≡ Some (n, j)
+        → (m * 10 + (b - 48) ≤ limit → read_on limit s (m * 10 + (b - 48)) (i + 1) ≡ Some (n, j) → Onward limit s (m * 10 + (b - 48)) (i + 1) n j)
         → Onward limit (b ∷ s) m i n j
     digit false u d o e ih = here limit (b ∷ s) m i n j q d e
     digit true false d o e ih = absurd (never e)
@@ -91,13 +92,13 @@ onward limit (b ∷ s) m i n j q e =
         record { rest = r.rest; text = rw (x, append_assoc) at r.text; stops = r.stops; next = omega (arith, r.next, ap length x ∙ length-append (digits m) (b ∷ [])); small = r.small }
 
 -- what is read is what would be written
-pub read-converse : (limit : ℕ) (s : List ℕ) (i n j : ℕ) → read_in limit s i ≡ At n j → Starts limit s i n j
+pub read-converse : (limit : ℕ) (s : List ℕ) (i n j : ℕ) → read_in limit s i ≡ Some (n, j) → Starts limit s i n j
 unfolding read_in
 read-converse limit [] i n j e = absurd (never e)
 read-converse limit (b ∷ s) i n j e = digit (is_digit b) (leb (b - 48) limit) refl refl e
   where
     digit : (t u : Bool) → is_digit b ≡ t → leb (b - 48) limit ≡ u
-        → cond t (cond u (read_on limit s (b - 48) (i + 1)) Nothing) Nothing ≡ At n j → Starts limit (b ∷ s) i n j
+        → cond t (cond u (read_on limit s (b - 48) (i + 1)) None) None ≡ Some (n, j) → Starts limit (b ∷ s) i n j
     digit false u d o e = absurd (never e)
     digit true false d o e = absurd (never e)
     digit true true d o e =
@@ -118,6 +119,32 @@ fit (suc k) n (no l) h =
 -- k digits hold a number below 10 ^ k
 pub digits-fit : (k n : ℕ) → n < 10 ^ suc k → length (digits n) ≤ suc k
 digits-fit k n h = fit k n (dec_lt n 10) h
+
+-- and one that is no less has more
+pow-pos : (k : ℕ) → 0 < 10 ^ k
+pow-pos zero = omega arith
+pow-pos (suc k) = omega (arith, pow-suc 10 k, pow-pos k)
+
+digits-least : (k n : ℕ) → 10 ^ k ≤ n → k < length (digits n)
+digits-least zero n h =
+    by_cases (ltb n 10)
+    (λ e. omega (arith, length-small n (ltb-true n 10 e)))
+    (λ e. omega (arith, length-big n (ltb-false n 10 e)))
+digits-least (suc k) n h =
+    let p = pow-suc 10 k in
+    let q = pow-pos k in
+    omega (arith, length-big n (omega arith), digits-least k (n / 10) (omega arith))
+
+pub digits-count : (k n : ℕ) → 10 ^ k ≤ n → n < 10 * 10 ^ k → length (digits n) ≡ k + 1
+digits-count k n h l =
+    let p = pow-suc 10 k in
+    omega (arith, digits-least k n h, digits-fit k n (omega arith))
+
+pub digits-none : (n : ℕ) → n ≡ 0 → length (digits n) ≡ 1
+digits-none n h = length-small n (omega arith)
+
+-- how many digits there are, by a logarithm
+pub ruleset digit_counts = (digits-count, digits-none)
 
 -- every byte of a number's text is a digit, hence none another byte
 all_snoc : (l : List ℕ) (b : ℕ) → all_of is_name_byte l ≡ true → is_digit b ≡ true → all_of is_name_byte (l ++ (b ∷ [])) ≡ true

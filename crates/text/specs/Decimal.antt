@@ -1,7 +1,5 @@
--- Decimal numbers as text: the digits of a number, and what reading at a place finds. Assumes nothing.
-use Rattle.std.specs.Prelude.{ℕ, zero, suc, ◌+◌, ◌-◌, ◌*◌, ◌/◌, ◌%◌, ◌≤◌, ◌≡◌, Bool, true, false, cond, ◌&&◌, List, [], ◌∷◌, ◌++◌, leb, ltb, length, drop}
-use Rattle.text.specs.declared.Number.{Number}
-use Rattle.text.specs.declared.Number.TheVariants.{At, Nothing}
+-- Decimal numbers as text: the digits of a number, and what reading at a place finds, the number and the place after it. Assumes nothing.
+use Rattle.std.specs.Prelude.{Option, Some, None, ℕ, zero, suc, ◌+◌, ◌-◌, ◌*◌, ◌/◌, ◌%◌, ◌≤◌, ◌≡◌, Bool, true, false, cond, ◌&&◌, List, [], ◌∷◌, ◌++◌, leb, ltb, length, drop}
 use Rattle.text.specs.Class.{is_digit}
 
 -- the count f bounds the digits, and the Bool says whether n is below 10: as a clause's own argument, so that a call computes no further than it must
@@ -15,21 +13,21 @@ unfoldable pub digits : ℕ → List ℕ
 digits n = digits_by n (ltb n 10) n
 
 -- reading goes on at the text s, whose first byte stands at i; n is the value of the digits before it
-unfoldable pub read_on : ℕ → List ℕ → ℕ → ℕ → Number
-read_on limit [] n i = At n i
+unfoldable pub read_on : ℕ → List ℕ → ℕ → ℕ → Option (ℕ × ℕ)
+read_on limit [] n i = Some (n, i)
 read_on limit (b ∷ s) n i =
     cond (is_digit b)
-    (cond (ltb 0 n && leb (n * 10 + (b - 48)) limit) (read_on limit s (n * 10 + (b - 48)) (i + 1)) Nothing)
-    (At n i)
+    (cond (ltb 0 n && leb (n * 10 + (b - 48)) limit) (read_on limit s (n * 10 + (b - 48)) (i + 1)) None)
+    (Some (n, i))
 
 -- the number at the start of the text s, whose first byte stands at i: at most limit, and 0 is only written 0
-unfoldable pub read_in : ℕ → List ℕ → ℕ → Number
-read_in limit [] i = Nothing
+unfoldable pub read_in : ℕ → List ℕ → ℕ → Option (ℕ × ℕ)
+read_in limit [] i = None
 read_in limit (b ∷ s) i =
-    cond (is_digit b) (cond (leb (b - 48) limit) (read_on limit s (b - 48) (i + 1)) Nothing) Nothing
+    cond (is_digit b) (cond (leb (b - 48) limit) (read_on limit s (b - 48) (i + 1)) None) None
 
 -- the number at the place i of s
-unfoldable pub read_at : ℕ → List ℕ → ℕ → Number
+unfoldable pub read_at : ℕ → List ℕ → ℕ → Option (ℕ × ℕ)
 read_at limit s i = read_in limit (drop i s) i
 
 -- the text s does not go on with a digit
