@@ -1,4 +1,5 @@
 -- A line that is written is read back, and a line that is read is what would be written. Assumes nothing.
+use Rattle.std.specs.Prelude.{Option, Some, None}
 use mathlib.Core.Path.{◌≡◌, refl, sym, ap, ◌∙◌}
 use mathlib.Core.Bool.{Bool, true, false, cond, ◌&&◌}
 use mathlib.Core.List.{List, [], ◌∷◌, ◌++◌, append_assoc, append-nil, map}
@@ -11,8 +12,6 @@ use Rattle.lists.specs.Keyed.{all_of, any_of}
 use Rattle.lists.proofs.Keyed.{All}
 use Rattle.lists.proofs.Tests.{clash, both, join, neither}
 use Rattle.ids.specs.Ids.{is_id32, is_id64}
-use Rattle.text.specs.declared.Number.{Number}
-use Rattle.text.specs.declared.Number.TheVariants.{At, Nothing}
 use Rattle.text.specs.Class.{is_digit, is_comma, is_mark}
 use Rattle.text.specs.Decimal.{digits, Stops}
 use Rattle.text.specs.Name.{is_name}
@@ -36,7 +35,7 @@ module _ (l : ℕ) (s : List ℕ) (i n : ℕ) (ns rest : List ℕ) (e : drop i s
   unfolding fields_text
   first-text = e ∙ rw append_assoc
 
-  first_read : n ≤ l → Stops rest → field_at l s i ≡ At n (i + suc (length (digits n)))
+  first_read : n ≤ l → Stops rest → field_at l s i ≡ Some (n, i + suc (length (digits n)))
   first_read q h = field-round l s i n (fields_text ns ++ rest) first-text q (stops-fields ns rest h)
 
   first_rest : drop (i + suc (length (digits n))) s ≡ fields_text ns ++ rest
@@ -147,9 +146,9 @@ module _ (s : List ℕ) where
   says-field : (l i : ℕ) (f : ℕ → ℕ → Line) → ((n j : ℕ) → FieldRead l s i n j → Says (f n j) s) → Says (field l s i f) s
   says-field l i f p = go (field_at l s i) refl
     where
-      go : (m : Number) → field_at l s i ≡ m → Says (and_then m f) s
-      go (At n j) e = p n j (field-converse l s i n j e)
-      go Nothing e = tt
+      go : (m : Option (ℕ × ℕ)) → field_at l s i ≡ m → Says (and_then m f) s
+      go (Some q) e = p q.0 q.1 (field-converse l s i q.0 q.1 e)
+      go None e = tt
 
   says-letter : (b : ℕ) (t : List ℕ) → 0 < b → get_or s 0 0 ≡ b → drop 1 s ≡ t → s ≡ b ∷ t
   says-letter b t p h e = byte_at s 0 b p h ∙ ap (λ (u : List ℕ). b ∷ u) e

@@ -1,21 +1,22 @@
 -- Laws of lines. Assumes nothing.
+use Rattle.std.specs.Prelude.{Option, Some, None}
 use mathlib.Core.Path.{◌≡◌, refl, sym, ap, ◌∙◌}
 use mathlib.Core.Bool.{Bool, true, false, cond}
 use mathlib.Core.List.{List, [], ◌∷◌, ◌++◌, append_assoc, append-nil}
 use Prim.Native.Nat.{ℕ, zero, suc, ◌+◌, ◌-◌, ◌<◌, ◌≤◌}
 use native.Mathlib.Nat.{zero-add, suc-add}
-use native.Mathlib.Numerals.{add-one}
 use native.Mathlib.Omega.{arith}
-use lib.ListN.{length, get_or, take, drop, drop_of_length-le, length-append, length-drop}
-use lib.Seq.{take-append-le, take-append_seam, drop-cons}
+use lib.ListN.{length, take, drop, drop_of_length-le, length-append, length-drop}
+use lib.Seq.{take-append-le, take-append_seam}
 use borrow.Author.Tests.{eqb-true, leb-true, leb-false}
 use lib.Dec.{leb}
+use Rattle.std.specs.List.{position, position_from}
+use Rattle.std.proofs.lemmas.Iterator.Adapters.{position_from-zero}
 use Rattle.lists.specs.Keyed.{any_of}
 use Rattle.lists.proofs.Keyed.{All}
 use Rattle.lists.proofs.Tests.{by_cases, either, neither}
 use Rattle.text.specs.Class.{is_newline}
 use Rattle.manifest.specs.declared.reader.LineAt.{LineAt}
-use Rattle.manifest.specs.declared.reader.LineAt.TheVariants as found
 use Rattle.manifest.specs.Split.{lines_on, rest_on, lines, lines_from, joined, line_in, line_at}
 use Rattle.manifest.proofs.Fields.{drop_past}
 
@@ -130,54 +131,63 @@ joined-lines so (b ∷ s) = go (is_newline b) refl (joined-lines [] s) (joined-l
 
 -- The line at a place.
 
--- the line that starts at `at`, where the bytes from i on are left to look at
-unfoldable pub line_on : List ℕ → ℕ → ℕ → LineAt
-line_on s at i = line_in at (drop i s) i
+-- where `position` finds the newline k bytes after i, the line is there
+abbrev pub line_found : ℕ → ℕ → Option ℕ → Option LineAt
+line_found at i (Some k) = Some (record { start = at; end = i + k; next = i + k + 1 })
+line_found at i None = None
 
-pub line-start : (s : List ℕ) (at : ℕ) → line_on s at at ≡ line_at s at
-unfolding line_on line_at
-line-start s at = refl
+line-in : (at : ℕ) (w : List ℕ) (i j : ℕ) → line_in at w (i + j) ≡ line_found at i (position_from is_newline j w)
+unfolding line_in
+line-in at [] i j = refl
+line-in at (b ∷ w) i j =
+    let k : i + j + 1 ≡ i + (j + 1) = omega arith in
+    by_cases (is_newline b) (λ e. rw e) (λ e. rw (e, k) (line-in at w i (j + 1)))
 
-module _ (s : List ℕ) (at i : ℕ) (r : LineAt) (so : line_on s at i ≡ r) where
-  pub line-none : length s ≤ i → found.None ≡ r
-  unfolding line_on line_in
-  line-none h = rw (drop_of_length-le s h) at so
+pub line-at : (s : List ℕ) (at : ℕ) (r : Option ℕ) → r ≡ position is_newline (drop at s) → line_at s at ≡ line_found at at r
+unfolding line_at
+line-at s at r e =
+    let z : at + 0 ≡ at = omega arith in
+    let p = rw z at (line-in at (drop at s) at 0) in
+    p ∙ ap (line_found at at) (sym (e ∙ position_from-zero is_newline (drop at s)))
 
-  pub line-here : i < length s → is_newline (get_or s i 0) ≡ true → found.Line at i (i + 1) ≡ r
-  unfolding line_on line_in
-  line-here h d = rw (drop-cons s i 0 h, d) at so
-
-  pub line-more : i < length s → is_newline (get_or s i 0) ≡ false → line_on s at (i + 1) ≡ r
-  unfolding line_on line_in
-  line-more h d = rw add-one (rw (drop-cons s i 0 h, d, add-one) at so)
+pub line-past : (s : List ℕ) (at : ℕ) → length s < at → line_at s at ≡ None
+unfolding line_at line_in
+line-past s at h = rw (drop_of_length-le s {i = at} (omega arith))
 
 -- the first newline ends the first line
-record Ended (w : List ℕ) (i at start e next : ℕ) : Type 0 where
+record Ended (w : List ℕ) (i at : ℕ) (l : LineAt) : Type 0 where
   line : List ℕ
   rest : List ℕ
   text : w ≡ line ++ (10 ∷ rest)
   one : OneLine line
-  from : start ≡ at
-  end : e ≡ i + length line
-  on : next ≡ e + 1
+  from : l.start ≡ at
+  end : l.end ≡ i + length line
+  on : l.next ≡ l.end + 1
 
-never : {a e n : ℕ} → found.None ≡ found.Line a e n → ⊥
+never : {l : LineAt} → ◌≡◌ {A = Option LineAt} None (Some l) → ⊥
 never h = let z : ◌≡◌ {A = ℕ} 0 1 = cc in omega arith
 
-ended : (w : List ℕ) (i at start e next : ℕ) → line_in at w i ≡ found.Line start e next → Ended w i at start e next
+ended : (w : List ℕ) (i at : ℕ) (l : LineAt) → line_in at w i ≡ Some l → Ended w i at l
 unfolding line_in
-ended [] i at start e next h = absurd (never h)
-ended (b ∷ w) i at start e next h =
+ended [] i at l h = absurd (never h)
+ended (b ∷ w) i at l h =
     by_cases (is_newline b)
-    (λ d. let h2 : found.Line at i (i + 1) ≡ found.Line start e next = rw d at h in
-    let a : at ≡ start = cc in
-    let k : i ≡ e = cc in
-    let n : i + 1 ≡ next = cc in
-    record { line = []; rest = w; text = ap (λ (x : ℕ). x ∷ w) (eqb-true b 10 d); one = refl; from = sym a; end = omega arith; on = omega arith })
-    (λ d. let r = ended w (i + 1) at start e next (rw d at h) in
+    (λ d. let m : LineAt = record { start = at; end = i; next = i + 1 } in
+    let q : ◌≡◌ {A = Option LineAt} (Some m) (Some l) = rw d at h in
+    let e : m ≡ l = cc in
+    record {
+      line = [];
+      rest = w;
+      text = ap (λ (x : ℕ). x ∷ w) (eqb-true b 10 d);
+      one = refl;
+      from = sym (ap (λ (x : LineAt). x.start) e);
+      end = omega (arith, ap (λ (x : LineAt). x.end) e);
+      on = omega (arith, ap (λ (x : LineAt). x.end) e, ap (λ (x : LineAt). x.next) e);
+    })
+    (λ d. let r = ended w (i + 1) at l (rw d at h) in
     record { line = b ∷ r.line; rest = r.rest; text = ap (λ (x : List ℕ). b ∷ x) r.text; one = rw d r.one; from = r.from; end = omega (arith, r.end); on = r.on })
 
-endless : (w : List ℕ) (at i : ℕ) → line_in at w i ≡ found.None → OneLine w
+endless : (w : List ℕ) (at i : ℕ) → line_in at w i ≡ None → OneLine w
 unfolding line_in
 endless [] at i h = refl
 endless (b ∷ w) at i h =
@@ -196,33 +206,33 @@ placed-split : (s : List ℕ) (i : ℕ) (line rest : List ℕ) (start e next : �
 placed-split s i line rest start e next text one p q r = rw (r, q, p) (at_split s i line rest text one)
 
 -- where a line starts, ends and goes on
-pub record Placed (s : List ℕ) (at start end next : ℕ) : Type 0 where
-  pub from : start ≡ at
-  pub within : at ≤ end
-  pub on : next ≡ end + 1
-  pub inside : next ≤ length s
+pub record Placed (s : List ℕ) (at : ℕ) (l : LineAt) : Type 0 where
+  pub from : l.start ≡ at
+  pub within : at ≤ l.end
+  pub on : l.next ≡ l.end + 1
+  pub inside : l.next ≤ length s
 
-module _ (s : List ℕ) (at start end next : ℕ) (h : line_at s at ≡ found.Line start end next) where
-  pub line-placed : Placed s at start end next
+module _ (s : List ℕ) (at : ℕ) (l : LineAt) (h : line_at s at ≡ Some l) where
+  pub line-placed : Placed s at l
   unfolding line_at
   line-placed =
-      let r = ended (drop at s) at at start end next h in
+      let r = ended (drop at s) at at l h in
       let n = ap length r.text ∙ length-append r.line (10 ∷ r.rest) in
       record { from = r.from; within = omega (arith, r.end); on = r.on; inside = omega (arith, r.end, r.on, length-drop at s) }
 
   -- a walk goes on
-  pub line-further : (at < next) × (next ≤ length s)
+  pub line-further : (at < l.next) × (l.next ≤ length s)
   line-further = let p = line-placed in (omega arith, p.inside)
 
   -- the lines from a place on are the line there and the lines from the next place on
-  pub lines_at : lines_from s at ≡ take (end - start) (drop start s) ∷ lines_from s next
+  pub lines_at : lines_from s at ≡ take (l.end - l.start) (drop l.start s) ∷ lines_from s l.next
   unfolding line_at
   lines_at =
-      let r = ended (drop at s) at at start end next h in
-      placed-split s at r.line r.rest start end next r.text r.one r.from r.end r.on
+      let r = ended (drop at s) at at l h in
+      placed-split s at r.line r.rest l.start l.end l.next r.text r.one r.from r.end r.on
 
 -- and where there is none there are no lines
-pub lines_none : (s : List ℕ) (at : ℕ) → line_at s at ≡ found.None → lines_from s at ≡ []
+pub lines_none : (s : List ℕ) (at : ℕ) → line_at s at ≡ None → lines_from s at ≡ []
 unfolding line_at lines_from lines
 lines_none s at h = on_one [] (drop at s) (endless (drop at s) at at h)
 

@@ -1,16 +1,19 @@
 -- Laws of a line's text: its length, and which bytes it has not. Assumes nothing.
-use mathlib.Core.Path.{◌≡◌, refl}
+use mathlib.Core.Path.{◌≡◌, refl, ap, ◌∙◌}
 use mathlib.Core.Bool.{true, false, ◌&&◌}
 use mathlib.Core.List.{List, [], ◌∷◌, ◌++◌, append_assoc, append-nil}
-use Prim.Native.Nat.{ℕ, ◌+◌, ◌≤◌}
+use Prim.Native.Nat.{ℕ, suc, ◌+◌, ◌<◌, ◌≤◌}
 use native.Mathlib.Omega.{arith}
 use lib.Dec.{leb, eqb}
-use lib.ListN.{length, length-append}
+use lib.ListN.{get_or, take, drop, take-append-drop, length, length-append}
+use lib.Seq.{take-suc, take_all}
+use native.Mathlib.Numerals.{add-one}
 use borrow.Author.Tests.{leb-true, ltb-true}
 use Rattle.lists.specs.Keyed.{any_of}
 use Rattle.lists.proofs.Keyed.{any_of-append}
 use Rattle.lists.proofs.Tests.{both}
 use Rattle.ids.specs.Ids.{is_id32, is_id64}
+use Rattle.ids.proofs.Names.{name-room}
 use Rattle.text.specs.Class.{is_digit, is_lower, is_newline, is_mark}
 use Rattle.text.specs.Decimal.{digits}
 use Rattle.text.specs.Name.{is_name_byte, is_name}
@@ -39,6 +42,36 @@ length_two x y = omega (arith, length_fields (x ∷ []) (y ∷ []), length-one x
 
 pub length_three : (x y z : ℕ) → length (fields_text (x ∷ y ∷ z ∷ [])) ≡ 3 + length (digits x) + length (digits y) + length (digits z)
 length_three x y z = omega (arith, length_fields (x ∷ y ∷ []) (z ∷ []), length_two x y, length-one z)
+
+-- one field more
+pub fields_none : fields_text [] ≡ []
+unfolding fields_text
+fields_none = refl
+
+pub fields_more : (ns : List ℕ) (i : ℕ) → i < length ns → fields_text (take (i + 1) ns) ≡ fields_text (take i ns) ++ (44 ∷ digits (get_or ns i 0))
+fields_more ns i h = rw (add-one, take-suc ns i 0 h, fields-append (take i ns) (get_or ns i 0 ∷ []), text-one)
+
+pub fields_all : (ns : List ℕ) (i : ℕ) → length ns ≤ i → fields_text (take i ns) ≡ fields_text ns
+fields_all ns i h = rw (take_all i ns h)
+
+-- the fields up to a place are no longer than all
+pub fields-room : (ns : List ℕ) (i : ℕ) → length (fields_text (take i ns)) + length (fields_text (drop i ns)) ≡ length (fields_text ns)
+fields-room ns i = rw (← length_fields (take i ns) (drop i ns), take-append-drop)
+
+pub lengths : (a b : List ℕ) → length (a ++ b) ≡ length a + length b
+lengths a b = length-append a b
+
+pub ruleset fields_steps = (fields_none, fields_more, fields_all, fields-room, lengths, digits-64)
+
+-- a field within all
+pub fields-text-room : (ns : List ℕ) (i : ℕ) → i < length ns
+    → length (fields_text (take i ns)) + suc (length (digits (get_or ns i 0))) ≤ length (fields_text ns)
+fields-text-room ns i h =
+    let m = ap length (fields_more ns i h) ∙ lengths (fields_text (take i ns)) (44 ∷ digits (get_or ns i 0)) in
+    omega (arith, fields-room ns (i + 1), m)
+
+-- how long each text is
+pub ruleset text_lengths = (length-one, length_two, length_three, digits-32, digits-64, name-room, lengths)
 
 -- Lengths: T is at most 56 bytes, X 12, A and D 23, V, W and N 44.
 module _ (x y : ℕ) (p : x ≤ 4294967295) (q : y ≤ 4294967295) where

@@ -1,31 +1,39 @@
--- What the parser's readers of fields answer: for each operation f that the fields may be of, the line. Assumes nothing.
-use Rattle.std.specs.Prelude.{ℕ, ◌≡◌, List}
-use Rattle.manifest.specs.declared.parser.One.{One}
-use Rattle.manifest.specs.declared.parser.One.TheVariants as one
-use Rattle.manifest.specs.declared.parser.Two.{Two}
-use Rattle.manifest.specs.declared.parser.Two.TheVariants as two
-use Rattle.manifest.specs.declared.parser.Three.{Three}
-use Rattle.manifest.specs.declared.parser.Three.TheVariants as three
+-- What the parser's readers of fields answer. Assumes nothing.
+use Rattle.std.specs.Prelude.{Option, Some, None, ℕ, cond, List, [], ◌∷◌, ◌++◌, eqb, length}
+use Rattle.ids.specs.declared.TableNo.{TableNo}
+use Rattle.ids.specs.declared.RowsetNo.{RowsetNo}
+use Rattle.ids.specs.declared.VectorNo.{VectorNo}
 use Rattle.manifest.specs.Operations.{Operation, Line, operation, bad}
-use Rattle.manifest.specs.Lines.{one_field, two_fields, three_fields}
+use Rattle.manifest.specs.Lines.{field_at}
 
-abbrev pub of_one : (ℕ → Operation) → One → Line
-of_one f (one.Of x) = operation (f x)
-of_one f one.Nothing = bad
+-- numbers, and those that are read after them
+abbrev pub read_after : List ℕ → Option (List ℕ) → Option (List ℕ)
+read_after ns (Some ms) = Some (ns ++ ms)
+read_after ns None = None
 
-abbrev pub of_two : (ℕ → ℕ → Operation) → Two → Line
-of_two f (two.Of x y) = operation (f x y)
-of_two f two.Nothing = bad
+abbrev pub then_read : Option (ℕ × ℕ) → (ℕ → ℕ → Option (List ℕ)) → Option (List ℕ)
+then_read (Some p) f = f p.0 p.1
+then_read None f = None
 
-abbrev pub of_three : (ℕ → ℕ → ℕ → Operation) → Three → Line
-of_three f (three.Of x y z) = operation (f x y z)
-of_three f three.Nothing = bad
+-- fields from i to the line's end, one for each limit
+unfoldable pub fields_at : List ℕ → List ℕ → ℕ → Option (List ℕ)
+fields_at [] s i = cond (eqb (length s) i) (Some []) None
+fields_at (l ∷ ls) s i = then_read (field_at l s i) (λ n j. read_after (n ∷ []) (fields_at ls s j))
 
-abbrev pub OneSays : ℕ → List ℕ → One → Type 0
-OneSays a s r = (f : ℕ → Operation) → of_one f r ≡ one_field a f s
+-- the numbers of ids
+abbrev pub two_numbers : Option (TableNo × RowsetNo) → Option (List ℕ)
+two_numbers (Some p) = Some (p.0.0 ∷ p.1.0 ∷ [])
+two_numbers None = None
 
-abbrev pub TwoSays : ℕ → ℕ → List ℕ → Two → Type 0
-TwoSays a b s r = (f : ℕ → ℕ → Operation) → of_two f r ≡ two_fields a b f s
+abbrev pub three_numbers : Option (TableNo × RowsetNo × VectorNo) → Option (List ℕ)
+three_numbers (Some p) = Some (p.0.0 ∷ p.1.0 ∷ p.2.0 ∷ [])
+three_numbers None = None
 
-abbrev pub ThreeSays : ℕ → ℕ → ℕ → List ℕ → Three → Type 0
-ThreeSays a b c s r = (f : ℕ → ℕ → ℕ → Operation) → of_three f r ≡ three_fields a b c f s
+-- for each operation f that the numbers may be of, the line
+abbrev pub of_two : (ℕ → ℕ → Operation) → Option (TableNo × RowsetNo) → Line
+of_two f (Some p) = operation (f p.0.0 p.1.0)
+of_two f None = bad
+
+abbrev pub of_three : (ℕ → ℕ → ℕ → Operation) → Option (TableNo × RowsetNo × VectorNo) → Line
+of_three f (Some p) = operation (f p.0.0 p.1.0 p.2.0)
+of_three f None = bad

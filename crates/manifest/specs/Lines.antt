@@ -1,8 +1,6 @@
 -- One line of a manifest, without its newline: what reading it finds, and how it is written. Assumes nothing.
-use Rattle.std.specs.Prelude.{ℕ, ◌+◌, ◌-◌, Bool, cond, ◌&&◌, List, [], ◌∷◌, ◌++◌, eqb, length, get_or, drop}
+use Rattle.std.specs.Prelude.{Option, Some, None, ℕ, ◌+◌, ◌-◌, Bool, cond, ◌&&◌, List, [], ◌∷◌, ◌++◌, eqb, length, get_or, drop}
 use Rattle.ids.specs.Ids.{largest32, largest64}
-use Rattle.text.specs.declared.Number.{Number}
-use Rattle.text.specs.declared.Number.TheVariants.{At, Nothing}
 use Rattle.text.specs.Class.{comma, mark, is_comma, is_mark}
 use Rattle.text.specs.Decimal.{digits, read_at}
 use Rattle.text.specs.Name.{is_name}
@@ -46,12 +44,12 @@ last_id64 = 18446744073709551614
 -- Reading.
 
 -- a field: a comma at i, and a number after it
-unfoldable pub field_at : ℕ → List ℕ → ℕ → Number
-field_at limit s i = cond (is_comma (get_or s i 0)) (read_at limit s (i + 1)) Nothing
+unfoldable pub field_at : ℕ → List ℕ → ℕ → Option (ℕ × ℕ)
+field_at limit s i = cond (is_comma (get_or s i 0)) (read_at limit s (i + 1)) None
 
-abbrev pub and_then : Number → (ℕ → ℕ → Line) → Line
-and_then (At n i) f = f n i
-and_then Nothing f = bad
+abbrev pub and_then : Option (ℕ × ℕ) → (ℕ → ℕ → Line) → Line
+and_then (Some p) f = f p.0 p.1
+and_then None f = bad
 
 -- f of the field's value and the place after it
 abbrev pub field : ℕ → List ℕ → ℕ → (ℕ → ℕ → Line) → Line

@@ -1,17 +1,13 @@
 -- The operations of a manifest and its lines, as a reader believes them. Assumes nothing.
-use Rattle.std.specs.Prelude.{ℕ, Bool, true, false, ◌&&◌, List, map, leb, take}
+use Rattle.std.specs.Prelude.{Option, Some, None, ℕ, Bool, true, false, ◌&&◌, List, map, leb, take}
 use Rattle.ids.specs.Ids.{largest32, largest64, is_id32, is_id64}
 use Rattle.ids.specs.Names.{name_of}
 use Rattle.text.specs.Name.{is_name}
 use Rattle.manifest.specs.declared.operation.EpochOp.{EpochOp}
 use Rattle.manifest.specs.declared.operation.EpochOp.TheVariants.{CreateTable, DropTable, AddRowSet, DeleteRowSet, AddDV, DeleteDV, NextIds}
-use Rattle.manifest.specs.declared.operation.Change.{Change}
 use Rattle.manifest.specs.declared.operation.Batch.{Batch}
 use Rattle.manifest.specs.declared.operation.ManifestOperation.{ManifestOperation}
 use Rattle.manifest.specs.declared.operation.ManifestOperation.TheVariants.{Begin, End, Torn, Epoch}
-use Rattle.manifest.specs.declared.operation.ParsedLine.{ParsedLine}
-use Rattle.manifest.specs.declared.operation.ParsedLine.TheVariants as parsed
-use Rattle.manifest.specs.declared.operation.Parsed.{Parsed}
 
 -- T, X, A, D, V, W, N
 pub data Operation : Type 0 where
@@ -52,32 +48,26 @@ well_line torn = true
 well_line (operation o) = well_formed o
 well_line bad = false
 
--- the operation that the code's value stands for, with the bytes of the name beside it
-abbrev pub operation_by : List ℕ → EpochOp → Operation
-operation_by n (CreateTable t h) = create_table t.0 h n
-operation_by n (DropTable t) = drop_table t.0
-operation_by n (AddRowSet t r) = add_rowset t.0 r.0
-operation_by n (DeleteRowSet t r) = delete_rowset t.0 r.0
-operation_by n (AddDV t r v) = add_vector t.0 r.0 v.0
-operation_by n (DeleteDV t r v) = delete_vector t.0 r.0 v.0
-operation_by n (NextIds t r v) = next_ids t.0 r.0 v.0
-
-abbrev pub operation_of : Change → Operation
-operation_of c = operation_by (name_of c.name) c.op
+-- the operation that the code's value stands for
+abbrev pub operation_of : EpochOp → Operation
+operation_of (CreateTable t h n) = create_table t.0 h (name_of n)
+operation_of (DropTable t) = drop_table t.0
+operation_of (AddRowSet t r) = add_rowset t.0 r.0
+operation_of (DeleteRowSet t r) = delete_rowset t.0 r.0
+operation_of (AddDV t r v) = add_vector t.0 r.0 v.0
+operation_of (DeleteDV t r v) = delete_vector t.0 r.0 v.0
+operation_of (NextIds t r v) = next_ids t.0 r.0 v.0
 
 abbrev pub batch_of : Batch → List Operation
 batch_of b = map operation_of (take b.count b.changes)
 
-abbrev pub said_of : List ℕ → ManifestOperation → Line
-said_of n Begin = begin
-said_of n End = end
-said_of n Torn = torn
-said_of n (Epoch o) = operation (operation_by n o)
-
-abbrev pub said_by : List ℕ → ParsedLine → Line
-said_by n (parsed.Line m) = said_of n m
-said_by n parsed.Bad = bad
+abbrev pub said_of : ManifestOperation → Line
+said_of Begin = begin
+said_of End = end
+said_of Torn = torn
+said_of (Epoch o) = operation (operation_of o)
 
 -- what the parser's answer says
-abbrev pub line_said : Parsed → Line
-line_said p = said_by (name_of p.name) p.line
+abbrev pub line_said : Option ManifestOperation → Line
+line_said (Some m) = said_of m
+line_said None = bad

@@ -1,8 +1,7 @@
 -- The lines of a byte list, and the line at a place. Assumes nothing.
-use Rattle.std.specs.Prelude.{ℕ, ◌+◌, cond, List, [], ◌∷◌, ◌++◌, drop}
+use Rattle.std.specs.Prelude.{Option, Some, None, ℕ, ◌+◌, cond, List, [], ◌∷◌, ◌++◌, drop}
 use Rattle.text.specs.Class.{newline, is_newline}
 use Rattle.manifest.specs.declared.reader.LineAt.{LineAt}
-use Rattle.manifest.specs.declared.reader.LineAt.TheVariants as found
 
 -- the complete lines of what follows `so`, the start of a line
 unfoldable pub lines_on : List ℕ → List ℕ → List (List ℕ)
@@ -28,10 +27,10 @@ joined [] = []
 joined (l ∷ ls) = l ++ (newline ∷ joined ls)
 
 -- the line that starts at `at`, where the bytes s from i on are left to look at
-unfoldable pub line_in : ℕ → List ℕ → ℕ → LineAt
-line_in at [] i = found.None
-line_in at (b ∷ s) i = cond (is_newline b) (found.Line at i (i + 1)) (line_in at s (i + 1))
+unfoldable pub line_in : ℕ → List ℕ → ℕ → Option LineAt
+line_in at [] i = None
+line_in at (b ∷ s) i = cond (is_newline b) (Some (record { start = at; end = i; next = i + 1 })) (line_in at s (i + 1))
 
 -- the line that starts at `at`
-unfoldable pub line_at : List ℕ → ℕ → LineAt
+unfoldable pub line_at : List ℕ → ℕ → Option LineAt
 line_at s at = line_in at (drop at s) at
