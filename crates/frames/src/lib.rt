@@ -6,15 +6,15 @@ ghost use Rattle.lists.specs.Written.{over, Wrote};
 ghost use Rattle.manifest.specs.Operations.{operation_of};
 ghost use Rattle.manifest.specs.Lines.{text_of};
 
-use manifest::operation::Change;
+use manifest::operation::EpochOp;
 
 // Internal, as is all here: the caller has looked for room.
-pub fn put_line(out: &mut [u8], at: usize, change: Change) -> usize
+pub fn put_line(out: &mut [u8], at: usize, change: EpochOp) -> usize
     requires { at + length (text_of (operation_of change) ++ (10 ∷ [])) ≤ length out.old }
     ensures { Wrote out.old at (text_of (operation_of change) ++ (10 ∷ [])) out.new result }
 {
     let i = manifest::printer::print(out, at, change);
-    text::put_byte(out, i, 10)
+    text::put_byte(out, i, b'\n')
 }
 
 pub fn put_letter(out: &mut [u8], at: usize, letter: u8) -> usize
@@ -22,7 +22,7 @@ pub fn put_letter(out: &mut [u8], at: usize, letter: u8) -> usize
     ensures { Wrote out.old at (letter ∷ 10 ∷ []) out.new result }
 {
     let i = text::put_byte(out, at, letter);
-    text::put_byte(out, i, 10)
+    text::put_byte(out, i, b'\n')
 }
 
 // What a commit of lines appends: `!`, which ends the line that an append before it was cut off in, and the frame `B`, the lines, `E`.

@@ -1,45 +1,40 @@
-// The line reader: it holds the lent manifest and a place in it. Each function over it is thin; the work is done by
-// `manifest::reader::line_at`. Callers go by `next_line`.
+// The line reader: it holds the lent manifest and a place in it, and hands out the lines from there on, one after another.
 #![tactic(auto)]
 
 ghost use Rattle.std.specs.Prelude.{◌≡◌};
-ghost use Rattle.text.specs.Class.{Classes};
-ghost use Rattle.manifest.specs.Split.{line_at};
 
 use manifest::reader::LineAt;
+use text::ByteClasses;
 
-#[derive(Drop)]
+#[derive(Clone, Copy)]
 pub struct ManifestLines<'a> {
+    pub classes: &'a ByteClasses,
     pub src: &'a [u8],
     pub at: usize,
 }
 
-// A reader at the first line.
-pub fn new<'a>(src: &'a [u8]) -> ManifestLines<'a>
-    ensures { (result.src ≡ src.entry) × (result.at ≡ 0) }
-{
-    ManifestLines { src, at: 0 }
+impl<'a> ManifestLines<'a> {
+    // The lines from a place on.
+    pub fn new(classes: &'a ByteClasses, src: &'a [u8], at: usize) -> ManifestLines<'a>
+        ensures src { result.src ≡ src.entry }
+        ensures at { result.at ≡ at }
+    {
+        ManifestLines { classes, src, at }
+    }
 }
 
-// The same manifest, at another place.
-pub fn moved<'a>(lines: ManifestLines<'a>, at: usize) -> ManifestLines<'a>
-    ensures { (result.src ≡ lines.entry.src) × (result.at ≡ at) }
-{
-    ManifestLines { src: lines.src, at }
-}
+impl<'a> Iterator for ManifestLines<'a> {
+    ghost use Rattle.manifest_lines.specs.Reader.{NextLine, lines_left};
 
-// Internal, as is the next: it is lent the table of classes. The line at the reader's place.
-pub fn line<'t, 'a>(classes: &'t [u8; 256], lines: ManifestLines<'a>) -> LineAt
-    requires { Classes classes.now }
-    ensures { result ≡ line_at lines.entry.src.now lines.entry.at }
-{
-    manifest::reader::line_at(classes, lines.src, lines.at)
-}
+    type Item = LineAt;
 
-// The line that starts at a place of a manifest.
-pub fn next_line(classes: &[u8; 256], src: &[u8], at: usize) -> LineAt
-    requires { Classes classes.now }
-    ensures { result ≡ line_at src.now at }
-{
-    line(classes, moved(new(src), at))
+    ghost next_gives = { NextLine };
+
+    ghost remaining = { lines_left };
+
+    fn next(&mut self) -> Option<LineAt> {
+        let line = manifest::reader::line_at(self.classes, self.src, self.at)?;
+        self.at = line.next;
+        Some(line)
+    }
 }
