@@ -1,9 +1,11 @@
 -- What the loops over a file's records need. Assumes nothing.
-use Rattle.std.proofs.Common.{◌≡◌, ℕ, ◌+◌, ◌<◌, ◌≤◌, min, true, false, List, [], ◌∷◌, ◌++◌, length, get_or, drop, sym, refl, ap, ◌∙◌, add-one, arith, length-append, length-drop, drop_of_length-le, drop-cons, drop-drop, le-ltb, lt-ltb}
+use Rattle.std.proofs.Common.{◌≡◌, ℕ, ◌+◌, ◌<◌, ◌≤◌, min, true, false, List, [], ◌∷◌, ◌++◌, length, get_or, take, drop, set, ◌-◌, suc, sym, refl, ap, ◌∙◌, add-one, arith, length-append, length-drop, drop_of_length-le, drop-cons, take-suc, take-suc-set, take_all, Bool, Result, MatchOption, le-ltb, lt-ltb, Ok, Err}
+use Rattle.std.specs.Bool.{then_some}
+use Rattle.std.proofs.lemmas.Slice.{between_to_end}
+use Rattle.ids.specs.declared.RowNo.{RowNo}
 use Rattle.lists.specs.Written.{written, Wrote}
 use Rattle.lists.proofs.Tests.{by_cases, clash}
 use Rattle.lists.proofs.Written.{written_on}
-use Rattle.delete_vector.specs.declared.file.Scanned.TheVariants.{Records as Whole, Bad as BadAt}
 use Rattle.delete_vector.specs.Records.{row_limit, record_of, records_of, starts_with, row_in, is_record, size_in, Records, Rows, Bad, and_row, records_at, is_bad, rows_in}
 use Rattle.delete_vector.specs.Answers.{scanned_of}
 use Rattle.delete_vector.proofs.Records.{good, read-end, read_more, read-bad}
@@ -29,13 +31,13 @@ rows_written s at rows i t j h l w =
     ∙ written_on s at x y (omega arith)
     ∙ ap (λ (p : List ℕ). written s at p) (sym (rows_more rows i h))
 
--- the value that is read of a record
+-- a record's row, by the value that is read
+pub in-limit : (s : List ℕ) (v : ℕ) → v ≡ min (row_in s) row_limit → v < row_limit → row_in s ≡ v
+in-limit s v e h = omega arith
+
 pub over-limit : (s : List ℕ) (v : ℕ) → v ≡ min (row_in s) row_limit → row_limit ≤ v → is_record s ≡ false
 unfolding is_record
 over-limit s v e h = rw (le-ltb (row_in s) row_limit (omega arith))
-
-pub in-limit : (s : List ℕ) (v : ℕ) → v ≡ min (row_in s) row_limit → v < row_limit → row_in s ≡ v
-in-limit s v e h = omega arith
 
 pub judge : (s : List ℕ) (v : ℕ) → v ≡ min (row_in s) row_limit → v < row_limit → is_record s ≡ starts_with (record_of v) s
 unfolding is_record
@@ -50,31 +52,23 @@ size_of s v e = ap (λ (k : ℕ). length (record_of k)) e
 pub value_of : (s : List ℕ) (v : ℕ) → v ≡ min (row_in s) row_limit → is_record s ≡ true → (row_in s ≡ v) × (v < row_limit)
 value_of s v e h = let g = (good s h).small in (omega arith, omega arith)
 
-module _ (s : List ℕ) (at : ℕ) (l : at < length s) where
-  left : 0 < length (drop at s)
-  left = omega (arith, length-drop at s)
+-- The records of a file from `at` on, where s is left.
+module _ (s : List ℕ) (at : ℕ) (l : 0 < length s) where
+  pub scan-bad : (n : ℕ) → is_record s ≡ false → scanned_of n (records_at s at) ≡ Err at
+  scan-bad n e = ap (scanned_of n) (read-bad s at l e)
 
-  pub scan-bad : (n : ℕ) → is_record (drop at s) ≡ false → scanned_of n (records_at (drop at s) at) ≡ BadAt at
-  scan-bad n e = ap (scanned_of n) (read-bad (drop at s) at left e)
+  on : (k : ℕ) → is_record s ≡ true → size_in s ≡ k → records_at s at ≡ and_row (row_in s) (records_at (drop k s) (at + k))
+  on k e z = read_more s at l e ∙ ap (λ (j : ℕ). and_row (row_in s) (records_at (drop j s) (at + j))) z
 
-  on : (k : ℕ) → is_record (drop at s) ≡ true → size_in (drop at s) ≡ k → records_at (drop at s) at ≡ and_row (row_in (drop at s)) (records_at (drop (at + k) s) (at + k))
-  on k e z =
-      read_more (drop at s) at left e
-      ∙ ap (λ (j : ℕ). and_row (row_in (drop at s)) (records_at (drop j (drop at s)) (at + j))) z
-      ∙ ap (λ (t : List ℕ). and_row (row_in (drop at s)) (records_at t (at + k))) (drop-drop k at s)
-
-  pub record-in : is_record (drop at s) ≡ true → at + size_in (drop at s) ≤ length s
-  record-in e = let g = (good (drop at s) e).fits in omega (arith, length-drop at s)
-
-  pub scan-more : (n k : ℕ) → is_record (drop at s) ≡ true → size_in (drop at s) ≡ k → scanned_of n (records_at (drop at s) at) ≡ scanned_of (n + 1) (records_at (drop (at + k) s) (at + k))
-  scan-more n k e z = ap (scanned_of n) (on k e z) ∙ counted n (row_in (drop at s)) (records_at (drop (at + k) s) (at + k))
+  pub scan-more : (n k : ℕ) → is_record s ≡ true → size_in s ≡ k → scanned_of n (records_at s at) ≡ scanned_of (n + 1) (records_at (drop k s) (at + k))
+  scan-more n k e z = ap (scanned_of n) (on k e z) ∙ counted n (row_in s) (records_at (drop k s) (at + k))
     where
       counted : (n row : ℕ) (r : Records) → scanned_of n (and_row row r) ≡ scanned_of (n + 1) r
-      counted n row (Rows rows) = ap Whole (omega arith)
+      counted n row (Rows rows) = ap Ok (omega arith)
       counted n row (Bad place) = refl
 
-  pub good-here : is_bad (records_at (drop at s) at) ≡ false → is_record (drop at s) ≡ true
-  good-here h = by_cases (is_record (drop at s)) (λ e. e) (λ e. clash (ap is_bad (read-bad (drop at s) at left e)) h)
+  pub good-here : is_bad (records_at s at) ≡ false → is_record s ≡ true
+  good-here h = by_cases (is_record s) (λ e. e) (λ e. clash (ap is_bad (read-bad s at l e)) h)
 
   bad-row : (row : ℕ) (r : Records) → is_bad (and_row row r) ≡ is_bad r
   bad-row row (Rows rows) = refl
@@ -84,16 +78,85 @@ module _ (s : List ℕ) (at : ℕ) (l : at < length s) where
   row_of row (Rows rows) h = refl
   row_of row (Bad place) h = clash refl h
 
-  pub good-next : (k : ℕ) → size_in (drop at s) ≡ k → is_bad (records_at (drop at s) at) ≡ false → is_bad (records_at (drop (at + k) s) (at + k)) ≡ false
-  good-next k z h = sym (bad-row (row_in (drop at s)) (records_at (drop (at + k) s) (at + k))) ∙ sym (ap is_bad (on k (good-here h) z)) ∙ h
+  pub good-next : (k : ℕ) → size_in s ≡ k → is_bad (records_at s at) ≡ false → is_bad (records_at (drop k s) (at + k)) ≡ false
+  good-next k z h = sym (bad-row (row_in s) (records_at (drop k s) (at + k))) ∙ sym (ap is_bad (on k (good-here h) z)) ∙ h
 
-  pub rows-here : (k : ℕ) → size_in (drop at s) ≡ k → is_bad (records_at (drop at s) at) ≡ false
-      → rows_in (records_at (drop at s) at) ≡ row_in (drop at s) ∷ rows_in (records_at (drop (at + k) s) (at + k))
-  rows-here k z h = ap rows_in (on k (good-here h) z) ∙ row_of (row_in (drop at s)) (records_at (drop (at + k) s) (at + k)) (good-next k z h)
+  pub rows-here : (k : ℕ) → size_in s ≡ k → is_bad (records_at s at) ≡ false → rows_in (records_at s at) ≡ row_in s ∷ rows_in (records_at (drop k s) (at + k))
+  rows-here k z h = ap rows_in (on k (good-here h) z) ∙ row_of (row_in s) (records_at (drop k s) (at + k)) (good-next k z h)
 
-pub scan-end : (s : List ℕ) (at n : ℕ) → length s ≤ at → scanned_of n (records_at (drop at s) at) ≡ Whole n
-scan-end s at n h =
-    ap (λ (t : List ℕ). scanned_of n (records_at t at)) (drop_of_length-le s {i = at} h) ∙ ap (scanned_of n) (read-end at) ∙ ap Whole (omega arith)
+pub scan-end : (s : List ℕ) (at n : ℕ) → length s ≡ 0 → scanned_of n (records_at s at) ≡ Ok n
+scan-end [] at n h = ap (scanned_of n) (read-end at) ∙ ap Ok (omega arith)
+scan-end (b ∷ s) at n h = absurd (omega arith)
 
-pub end-rows : (s : List ℕ) (at : ℕ) → length s ≤ at → rows_in (records_at (drop at s) at) ≡ []
-end-rows s at h = ap (λ (t : List ℕ). rows_in (records_at t at)) (drop_of_length-le s {i = at} h) ∙ ap rows_in (read-end at)
+pub end-rows : (s : List ℕ) (at : ℕ) → length s ≡ 0 → rows_in (records_at s at) ≡ []
+end-rows [] at h = ap rows_in (read-end at)
+end-rows (b ∷ s) at h = absurd (omega arith)
+
+-- What is left of the file after a record.
+abbrev pub after : List ℕ → ℕ → List ℕ
+after s k = take (length s - k) (drop k s)
+
+left : (file s : List ℕ) (k : ℕ) → length s ≤ length file → k ≤ length s → (after s k ≡ drop k s) × (length file - length (after s k) ≡ length file - length s + k)
+left file s k h l = let e = between_to_end s k (length s) (omega arith) in (e, rw e (omega (arith, length-drop k s)))
+
+pub scan-turn : (file s : List ℕ) (n k : ℕ) (r : Result ℕ ℕ) → 0 < length s → is_record s ≡ true → size_in s ≡ k → n + length s ≤ length file → scanned_of n (records_at s (length file - length s)) ≡ r
+    → (n + 1 + length (after s k) ≤ length file) × (scanned_of (n + 1) (records_at (after s k) (length file - length (after s k))) ≡ r)
+scan-turn file s n k r p g z h e =
+    let o = good s g in
+    let f = o.fits in
+    let q = o.positive in
+    let t = left file s k (omega arith) (omega arith) in
+    (rw t.0 (omega (arith, length-drop k s)), rw (t.1, t.0) (sym (scan-more s (length file - length s) p n k g z) ∙ e))
+
+-- Rows put into their places: i are put, and those of s are to come.
+pub record Placing (file rows s : List ℕ) (i : ℕ) (out : List ℕ) : Type 0 where
+  pub within : length s ≤ length file
+  pub good : is_bad (records_at s (length file - length s)) ≡ false
+  pub put : take i out ≡ take i rows
+  pub left : rows_in (records_at s (length file - length s)) ≡ drop i rows
+
+more : (s : List ℕ) (at i : ℕ) (rows : List ℕ) → rows_in (records_at s at) ≡ drop i rows → i < length rows → 0 < length s
+more [] at i rows e h = absurd (let n = ap length (sym (end-rows [] at refl) ∙ e) in omega (arith, length-drop i rows))
+more (b ∷ s) at i rows e h = omega arith
+
+module _ (file rows s : List ℕ) (i : ℕ) (out : List ℕ) (h : i < length rows) (w : Placing file rows s i out) where
+  some : 0 < length s
+  some = more s (length file - length s) i rows w.left h
+
+  pub placing-record : is_record s ≡ true
+  placing-record = good-here s (length file - length s) some w.good
+
+  module _ (v k : ℕ) (q : row_in s ≡ v) (z : size_in s ≡ k) where
+    pub placing-room : k ≤ length s
+    placing-room = let f = (good s placing-record).fits in omega arith
+
+    next : row_in s ∷ rows_in (records_at (drop k s) (length file - length s + k)) ≡ get_or rows i 0 ∷ drop (suc i) rows
+    next = sym (rows-here s (length file - length s) some k z w.good) ∙ w.left ∙ drop-cons rows i 0 h
+
+    pub placing-more : length rows ≡ length out → Placing file rows (after s k) (i + 1) (set out i v)
+    placing-more l =
+        let b = w.within in
+        let t = left file s k b placing-room in
+        let e = next in
+        let r : v ≡ get_or rows i 0 = cc in
+        let m : rows_in (records_at (drop k s) (length file - length s + k)) ≡ drop (suc i) rows = cc in
+        record {
+          within = rw t.0 (omega (arith, length-drop k s));
+          good = rw (t.1, t.0) (good-next s (length file - length s) some k z w.good);
+          put = rw (add-one, take-suc-set out i v (omega arith), take-suc rows i 0 h, w.put, r);
+          left = rw (t.1, t.0, add-one) m;
+        }
+
+pub placing-start : (file out : List ℕ) → is_bad (records_at file 0) ≡ false → Placing file (rows_in (records_at file 0)) file 0 out
+placing-start file out h =
+    let z : length file - length file ≡ 0 = omega arith in
+    record { within = omega arith; good = rw z h; put = refl; left = rw z }
+
+pub placing-done : (file rows s : List ℕ) (i : ℕ) (out : List ℕ) → length rows ≤ i → length rows ≡ length out → Placing file rows s i out → out ≡ rows
+placing-done file rows s i out h l w = sym (take_all i out (omega arith)) ∙ w.put ∙ take_all i rows h
+
+-- the first record's row
+pub found : (s : List ℕ) (v : ℕ) → v ≡ min (row_in s) row_limit → v < row_limit → (b : Bool) → b ≡ starts_with (record_of v) s
+    → MatchOption (then_some b (record { 0 = v })) (is_record s ≡ false) (λ (r : RowNo). (is_record s ≡ true) × (r.0 ≡ row_in s))
+found s v e h true q = (judge s v e h ∙ sym q, sym (in-limit s v e h))
+found s v e h false q = judge s v e h ∙ sym q

@@ -6,7 +6,6 @@ pub mod Bytes
 pub mod Files
 pub mod InMemory
 pub mod Dedup
-pub mod Insertion
 pub mod Buckets
 pub mod Passes
 pub mod Masking

@@ -1,13 +1,10 @@
 -- What each entry point promises: its answer and its lent buffer afterwards, for all arguments. Assumes nothing.
-use Rattle.std.specs.Prelude.{◌≡◌, ℕ, List, [], ◌∷◌, length, nat_lt}
+use Rattle.std.specs.Prelude.{◌≡◌, ℕ, List, [], ◌∷◌, length, nat_lt, Result}
 use Rattle.lists.specs.Written.{over}
+use Rattle.ids.specs.declared.refusal.Refusal.{Refusal}
 use Rattle.ids.specs.declared.refusal.Refusal.TheVariants.{BadRecord, WrongCount, OutputTooShort}
 use Rattle.ids.specs.Verdicts.{Rule, ◌⇒◌, judged}
 use Rattle.ids.specs.Answers.{told, after}
-use Rattle.delete_vector.specs.declared.Written.{Written}
-use Rattle.delete_vector.specs.declared.Loaded.{Loaded}
-use Rattle.delete_vector.specs.declared.Held.{Held}
-use Rattle.delete_vector.specs.declared.Masked.{Masked}
 use Rattle.delete_vector.specs.Records.{records_of, records_in, is_bad, bad_place, rows_in}
 use Rattle.delete_vector.specs.Memory.{is_in, in_memory}
 use Rattle.delete_vector.specs.Mask.{masked}
@@ -32,27 +29,27 @@ bad_record file = is_bad (records_in file) ⇒ BadRecord (bad_place (records_in 
 abbrev pub write_rules : List ℕ → List ℕ → List Rule
 write_rules rows out = too_many rows ∷ (too_short out (records_of rows) ∷ [])
 
-pub record WriteSays (rows out : List ℕ) (r : Written) (out' : List ℕ) : Type 0 where
+pub record WriteSays (rows out : List ℕ) (r : Result ℕ Refusal) (out' : List ℕ) : Type 0 where
   pub answer : written_told r ≡ told (judged (write_rules rows out)) (length (records_of rows) ∷ [])
   pub bytes : out' ≡ after (judged (write_rules rows out)) (over (records_of rows) out) out
 
 abbrev pub read_rules : List ℕ → List ℕ → List Rule
 read_rules file rows = bad_record file ∷ (too_many (rows_in (records_in file)) ∷ (too_short rows (rows_in (records_in file)) ∷ []))
 
-pub record ReadSays (file rows : List ℕ) (r : Loaded) (rows' : List ℕ) : Type 0 where
+pub record ReadSays (file rows : List ℕ) (r : Result ℕ Refusal) (rows' : List ℕ) : Type 0 where
   pub answer : loaded_told r ≡ told (judged (read_rules file rows)) (length (rows_in (records_in file)) ∷ [])
   pub numbers : rows' ≡ after (judged (read_rules file rows)) (over (rows_in (records_in file)) rows) rows
 
 abbrev pub memory_rules : List ℕ → List ℕ → List Rule
 memory_rules rows out = too_many rows ∷ (too_short out (in_memory rows) ∷ [])
 
-pub record MemorySays (rows out : List ℕ) (r : Held) (out' : List ℕ) : Type 0 where
+pub record MemorySays (rows out : List ℕ) (r : Result ℕ Refusal) (out' : List ℕ) : Type 0 where
   pub answer : held_told r ≡ told (judged (memory_rules rows out)) (length (in_memory rows) ∷ [])
   pub numbers : out' ≡ after (judged (memory_rules rows out)) (over (in_memory rows) out) out
 
 abbrev pub mask_rules : List ℕ → List Rule
 mask_rules rows = too_many rows ∷ []
 
-pub record MaskSays (rows bits : List ℕ) (offset : ℕ) (r : Masked) (bits' : List ℕ) : Type 0 where
+pub record MaskSays (rows bits : List ℕ) (offset : ℕ) (r : Result (Unit {0}) Refusal) (bits' : List ℕ) : Type 0 where
   pub answer : masked_told r ≡ told (judged (mask_rules rows)) []
   pub mask : bits' ≡ after (judged (mask_rules rows)) (masked (is_in rows) offset bits) bits

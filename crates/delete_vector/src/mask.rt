@@ -12,14 +12,14 @@ pub fn row_at(offset: RowNo, i: usize) -> RowNo
     ensures { result.0 ≡ (offset.0 + i) % row_limit }
 {
     let low = (i % ROW_LIMIT as usize) as u32;
-    RowNo(std::num::wrapping_add_u32(offset.0, low))
+    RowNo(offset.0.wrapping_add(low))
 }
 
 // What one row clears: the bit that has its row number, unless that number has wrapped, as it has for every row below the offset.
 fn clear(bits: &mut [u8], offset: RowNo, row: RowNo)
     ensures { bits.new ≡ masked (is_in (row.0 ∷ [])) offset.0 bits.old }
 {
-    let i = std::num::wrapping_sub_u32(row.0, offset.0) as usize;
+    let i = row.0.wrapping_sub(offset.0) as usize;
     if i >= bits.len() {
         return;
     }
@@ -34,9 +34,7 @@ fn clear(bits: &mut [u8], offset: RowNo, row: RowNo)
 pub fn clear_all(rows: &[u32], bits: &mut [u8], offset: RowNo)
     ensures { bits.new ≡ masked (is_in rows.now) offset.0 bits.old }
 {
-    let mut i = 0;
-    while i < rows.len() {
-        clear(bits, offset, RowNo(rows[i]));
-        i += 1;
+    for row in rows {
+        clear(bits, offset, RowNo(*row));
     }
 }

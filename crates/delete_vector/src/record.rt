@@ -1,10 +1,9 @@
 // One delete record: its size, its bytes written, compared and read.
-ghost use Rattle.std.specs.Prelude.{◌≡◌, ◌+◌, ◌<◌, ◌≤◌, min, length, drop};
-ghost use Rattle.std.proofs.Math.Seq.{slice};
+ghost use Rattle.std.specs.Prelude.{◌≡◌, ◌+◌, ◌<◌, ◌≤◌, min, length, MatchOption, true, false};
 ghost use Rattle.lists.specs.Written.{Wrote};
 ghost use Rattle.delete_vector.specs.Encoding.{varint, value_of};
 ghost use Rattle.delete_vector.specs.Sizes.{row_bits, Significant, size_table};
-ghost use Rattle.delete_vector.specs.Records.{row_limit, record_of, Sized, starts_with, row_in};
+ghost use Rattle.delete_vector.specs.Records.{row_limit, record_of, Sized, starts_with, row_in, is_record};
 
 use ids::RowNo;
 
@@ -14,25 +13,39 @@ pub const ROW_BITS: usize = 32;
 // Row numbers are below this.
 pub const ROW_LIMIT: u64 = 4294967296;
 
-// The size of a record by the count of significant bits of its row. An entry point takes it into a local and lends that:
-// a constant that is indexed is stored to the stack at each read.
-pub const SIZES: [usize; ROW_BITS + 1] = [
-    1, 3, 3, 3, 3, 3, 3, 3, 4, 4, 4, 4, 4, 4, 4, 5, 5, 5, 5, 5, 5, 5, 6, 6, 6, 6, 6, 6, 6, 7, 7, 7,
-    7,
-];
+// The byte that begins a record's field: field 1, of wire type 0.
+const KEY: u8 = 8;
+
+// The size of a record by the count of significant bits of its row. An entry point makes it once and lends it: a constant that is
+// indexed is stored to the stack at each read.
+#[derive(Drop)]
+pub struct Sizes {
+    table: [usize; ROW_BITS + 1],
+    ghost rule: { table ≡ size_table },
+}
+
+impl Sizes {
+    pub fn new() -> Sizes {
+        Sizes {
+            table: [
+                1, 3, 3, 3, 3, 3, 3, 3, 4, 4, 4, 4, 4, 4, 4, 5, 5, 5, 5, 5, 5, 5, 6, 6, 6, 6, 6, 6,
+                6, 7, 7, 7, 7,
+            ],
+        }
+    }
+
+    // The one place that says how long a record is.
+    pub fn of(&self, row: RowNo) -> usize
+        ensures { Sized row.0 result }
+    {
+        self.table[significant_bits(row)]
+    }
+}
 
 fn significant_bits(row: RowNo) -> usize
     ensures { (result ≤ row_bits) × Significant row.0 result }
 {
-    ROW_BITS - u32::leading_zeros(row.0) as usize
-}
-
-// The one place that says how long a record is. Internal: the table is lent.
-pub fn record_size(row: RowNo, sizes: &[usize; ROW_BITS + 1]) -> usize
-    requires { sizes.now ≡ size_table }
-    ensures { Sized row.0 result }
-{
-    sizes[significant_bits(row)]
+    ROW_BITS - row.0.leading_zeros() as usize
 }
 
 // Internal: the caller has looked at the room.
@@ -42,6 +55,7 @@ fn put_varint(n: u32, out: &mut [u8], at: usize) -> usize
 {
     let mut left = n;
     let mut i = at;
+    // The groups are counted by hand: a `for` over the room would have to be left at the last group.
     while left >= 128 {
         out[i] = (128 + left % 128) as u8;
         left /= 128;
@@ -52,100 +66,90 @@ fn put_varint(n: u32, out: &mut [u8], at: usize) -> usize
 }
 
 // Internal: the caller has looked at the room.
-pub fn put_record(row: RowNo, out: &mut [u8], at: usize, sizes: &[usize; ROW_BITS + 1]) -> usize
-    requires { (at + length (record_of row.0) ≤ length out.old) × (sizes.now ≡ size_table) }
+pub fn put_record(row: RowNo, out: &mut [u8], at: usize, sizes: &Sizes) -> usize
+    requires { at + length (record_of row.0) ≤ length out.old }
     ensures { Wrote out.old at (record_of row.0) out.new result }
 {
-    let size = record_size(row, sizes);
+    let size = sizes.of(row);
     out[at] = (size - 1) as u8;
     if row.0 == 0 {
         return at + 1;
     }
-    out[at + 1] = 8;
+    out[at + 1] = KEY;
     put_varint(row.0, out, at + 2)
 }
 
-// Internal, as is what follows: the place is in the file or at its end. Whether the file has at `at` what the writer makes of
-// the number.
-fn holds_varint(file: &[u8], at: usize, n: u32) -> bool
-    requires { at ≤ length file.now }
-    ensures { result ≡ starts_with (varint n) (drop at file.now) }
+// Whether the file begins with what the writer makes of the number.
+fn holds_varint(file: &[u8], n: u32) -> bool
+    ensures { result ≡ starts_with (varint n) file.now }
 {
     let mut left = n;
-    let mut i = at;
-    while left >= 128 {
-        if i >= file.len() {
-            return false;
+    for byte in file {
+        if left < 128 {
+            return u32::from(*byte) == left;
         }
-        if file[i] as u32 != 128 + left % 128 {
+        if u32::from(*byte) != 128 + left % 128 {
             return false;
         }
         left /= 128;
-        i += 1;
     }
-    if i >= file.len() {
-        return false;
-    }
-    if file[i] as u32 != left {
-        return false;
-    }
-    true
+    false
 }
 
-// Whether the file has at `at` what the writer makes of the row.
-pub fn holds_record(file: &[u8], at: usize, row: RowNo, sizes: &[usize; ROW_BITS + 1]) -> bool
-    requires { (at < length file.now) × (sizes.now ≡ size_table) }
-    ensures { result ≡ starts_with (record_of row.0) (drop at file.now) }
+// Whether the file begins with what the writer makes of the row.
+fn holds_record(file: &[u8], row: RowNo, sizes: &Sizes) -> bool
+    ensures { result ≡ starts_with (record_of row.0) file.now }
 {
-    let size = record_size(row, sizes);
-    if file[at] as usize != size - 1 {
+    let [size, field @ ..] = file else {
+        return false;
+    };
+    if usize::from(*size) != sizes.of(row) - 1 {
         return false;
     }
     if row.0 == 0 {
         return true;
     }
-    if at + 1 >= file.len() {
+    let [key, groups @ ..] = field else {
+        return false;
+    };
+    if *key != KEY {
         return false;
     }
-    if file[at + 1] != 8 {
-        return false;
-    }
-    holds_varint(file, at + 2, row.0)
+    holds_varint(groups, row.0)
 }
 
-// The smaller of two numbers, for a minimum without a branch in the caller.
-fn smaller(a: u64, b: u64) -> u64
-    ensures { result ≡ min a b }
-{
-    if a < b {
-        return a;
-    }
-    b
-}
-
-// The number that the groups from `first` to before `end` stand for, or ROW_LIMIT where that is smaller.
-fn value_between(file: &[u8], first: usize, end: usize) -> u64
-    requires { end ≤ length file.now }
-    ensures { result ≡ min (value_of (slice first end file.now)) row_limit }
+// The number that the groups stand for, or ROW_LIMIT where that is smaller.
+fn value_in(groups: &[u8]) -> u64
+    ensures { result ≡ min (value_of groups.now) row_limit }
 {
     let mut value: u64 = 0;
-    let mut i = end;
-    while i > first {
-        i -= 1;
-        value = smaller(value * 128 + (file[i] % 128) as u64, ROW_LIMIT);
+    for group in groups.iter().rev() {
+        value = (value * 128 + u64::from(*group % 128)).min(ROW_LIMIT);
     }
     value
 }
 
-// The row that the record at `at` has room for, or ROW_LIMIT where that is smaller.
-pub fn row_in(file: &[u8], at: usize) -> u64
-    requires { at < length file.now }
-    ensures { result ≡ min (row_in (drop at file.now)) row_limit }
+// The row that the file's first record has room for, or ROW_LIMIT where that is smaller.
+pub fn row_in(file: &[u8]) -> u64
+    ensures { result ≡ min (row_in file.now) row_limit }
 {
-    let n = file[at] as usize;
-    let rest = file.len() - (at + 1);
-    if rest < n {
-        return value_between(file, at + 2, file.len());
+    let [size, rest @ ..] = file else {
+        return 0;
+    };
+    let n = rest.len().min(usize::from(*size));
+    match &rest[..n] {
+        [_, groups @ ..] => value_in(groups),
+        [] => 0,
     }
-    value_between(file, at + 2, at + 1 + n)
+}
+
+// The row of the file's first record, where the file begins with what the writer makes of a row.
+pub fn first_row(file: &[u8], sizes: &Sizes) -> Option<RowNo>
+    ensures { MatchOption result (is_record file.now ≡ false) (λ r. (is_record file.now ≡ true) × (r.0 ≡ row_in file.now)) }
+{
+    let Ok(row) = u32::try_from(row_in(file)) else {
+        return None;
+    };
+    let row = RowNo(row);
+    holds_record(file, row, sizes).then_some(row)
 }
