@@ -1,12 +1,11 @@
 // Reads a manifest on standard input and writes the rewritten one, or a line `refused,number,place`.
 #![tactic(auto)]
 
-use ids::limits::LONGEST_REWRITTEN;
+use ids::limits::{LONGEST_MANIFEST, LONGEST_REWRITTEN};
 use ids::refusal::Refusal;
 use status::Status;
 use std::io;
 use std::io::Input;
-use std::process::ExitCode;
 
 fn say(rt: &impl Print, refusal: Refusal) -> io::Result<()> {
     let number = refusal.number();
@@ -30,18 +29,12 @@ fn reopen(rt: &(impl Print + Eprint), src: &[u8], out: &mut [u8]) -> Status {
     }
 }
 
-fn run(rt: &(impl Input + Print + Eprint)) -> Status {
+fn main(rt: HostRuntime) -> Status {
     // One byte more than a manifest may have: of a longer one enough is read to be refused.
-    let mut src = [0u8; 65537];
-    let input = status::read_all(&mut rt.reader(), &mut src);
-    if input.failed {
-        return status::unreadable(rt);
-    }
-    let n = input.length;
+    let mut src = [0u8; LONGEST_MANIFEST + 1];
     let mut out = [0u8; LONGEST_REWRITTEN];
-    reopen(rt, &src[..n], &mut out)
-}
-
-fn main(rt: HostRuntime) -> ExitCode {
-    status::tell(run(&rt))
+    match status::read_all(&mut rt.reader(), &mut src) {
+        Ok(n) => reopen(&rt, &src[..n], &mut out),
+        Err(_) => status::unreadable(&rt),
+    }
 }

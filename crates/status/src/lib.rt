@@ -1,14 +1,14 @@
 // How a program ended, as its exit status, and input and output that may fail.
 #![tactic(auto)]
 
-ghost use Rattle.std.specs.Prelude.{◌≡◌, ◌≤◌, OnErr, OnOk, length};
+ghost use Rattle.std.specs.Prelude.{◌≡◌, ◌≤◌, IfOk, OnErr, OnOk, length};
 ghost use Rattle.std.specs.Process.{exit_status};
 ghost use Rattle.status.specs.Code.{code};
 ghost use Rattle.status.specs.declared.Status.TheVariants.{Done, Failed};
 
 use std::io;
-use std::io::Read;
-use std::process::ExitCode;
+use std::io::{ErrorKind, Read};
+use std::process::{ExitCode, Termination};
 
 #[derive(Clone, Copy)]
 pub enum Status {
@@ -18,21 +18,13 @@ pub enum Status {
     Failed,
 }
 
-fn digit(status: Status) -> u8
-    ensures { result ≡ code status }
-{
-    match status {
-        Status::Done => 0,
-        Status::Refused => 1,
-        Status::Failed => 2,
+// So that `main` may return it.
+impl Termination for Status {
+    fn report<R: Eprint>(self, _rt: &R) -> ExitCode
+        ensures { exit_status result ≡ code self }
+    {
+        ExitCode::from(self as u8)
     }
-}
-
-// What `main` returns.
-pub fn tell(status: Status) -> ExitCode
-    ensures { exit_status result ≡ code status }
-{
-    ExitCode::from(digit(status))
 }
 
 pub fn unreadable(rt: &impl Eprint) -> Status
@@ -60,52 +52,28 @@ pub fn printed(rt: &impl Eprint, all: io::Result<()>) -> Status
     }
 }
 
-// How many bytes were read, and whether a read failed.
-#[derive(Clone, Copy)]
-pub struct Input {
-    pub length: usize,
-    pub failed: bool,
-}
-
-// One read into a part of the buffer: how much of the buffer is filled then.
-pub fn read(from: &mut impl Read, buf: &mut [u8], filled: usize) -> Input
-    ensures { result.length ≤ length buf.new }
+// One read into the buffer behind what fills it: how much of it is filled then.
+pub fn read(from: &mut impl Read, buf: &mut [u8], filled: usize) -> io::Result<usize>
+    ensures { IfOk result (λ n. n ≤ length buf.new) }
 {
-    if buf.len() < filled {
-        return Input {
-            length: 0,
-            failed: true,
-        };
-    }
-    match from.read(&mut buf[filled..]) {
-        Ok(n) => Input {
-            length: filled + n,
-            failed: false,
-        },
-        Err(_) => Input {
-            length: filled,
-            failed: true,
-        },
-    }
+    let Some(rest) = buf.get_mut(filled..) else {
+        return Err(io::Error::from(ErrorKind::InvalidInput));
+    };
+    let n = from.read(rest)?;
+    Ok(filled + n)
 }
 
 // The input up to its end, or as much of it as the buffer holds.
-pub fn read_all(from: &mut impl Read, buf: &mut [u8]) -> Input
-    ensures { result.length ≤ length buf.new }
+pub fn read_all(from: &mut impl Read, buf: &mut [u8]) -> io::Result<usize>
+    ensures { IfOk result (λ n. n ≤ length buf.new) }
 {
     let mut filled: usize = 0;
     while filled < buf.len() {
-        let input = read(from, buf, filled);
-        if input.failed {
-            return input;
+        let n = read(from, buf, filled)?;
+        if n <= filled {
+            break;
         }
-        if input.length <= filled {
-            return input;
-        }
-        filled = input.length;
+        filled = n;
     }
-    Input {
-        length: filled,
-        failed: false,
-    }
+    Ok(filled)
 }

@@ -5,8 +5,8 @@
 ghost use Rattle.std.specs.Prelude.{◌≤◌};
 ghost use Rattle.text.specs.Class.{Classes};
 
+use status::Status;
 use std::io;
-use std::process::ExitCode;
 use text::Number;
 
 // Internal, as is the next: it is lent the table of classes.
@@ -34,14 +34,14 @@ fn show_number(rt: &impl Print, classes: &[u8; 256], s: &[u8], limit: u64) -> io
 fn show(rt: &impl Print, classes: &[u8; 256], s: &[u8]) -> io::Result<()>
     requires { Classes classes.now }
 {
-    if 0 < s.len() {
-        let class = text::class_of(classes, s[0]);
-        print!(rt; "{class}")?;
-    } else {
-        print!(rt; "-")?;
+    match s.first() {
+        Some(b) => {
+            let class = text::class_of(classes, *b);
+            print!(rt; "{class} ")?;
+        }
+        None => print!(rt; "- ")?,
     }
-    print!(rt; " ")?;
-    show_number(rt, classes, s, 18446744073709551615)?;
+    show_number(rt, classes, s, u64::MAX)?;
     print!(rt; " ")?;
     show_number(rt, classes, s, 4294967294)?;
     if text::is_name(classes, s) {
@@ -53,23 +53,18 @@ fn show(rt: &impl Print, classes: &[u8; 256], s: &[u8]) -> io::Result<()>
 
 fn show_all(rt: &impl Print, s: &[u8]) -> io::Result<()> {
     let classes = text::classes();
-    let mut from: usize = 0;
-    let mut i: usize = 0;
-    while i < s.len() {
-        if text::is_newline(&classes, s[i]) {
-            show(rt, &classes, &s[from..i])?;
-            from = i + 1;
+    for line in s.split_inclusive(|b| *b == b'\n') {
+        if let Some(line) = line.strip_suffix(b"\n") {
+            show(rt, &classes, line)?;
         }
-        i += 1;
     }
     Ok(())
 }
 
-fn main(rt: HostRuntime) -> ExitCode {
+fn main(rt: HostRuntime) -> Status {
     let mut buffer = [0u8; 4096];
-    let input = status::read_all(&mut rt.stdin(), &mut buffer);
-    if input.failed {
-        return status::tell(status::unreadable(&rt));
+    match status::read_all(&mut rt.stdin(), &mut buffer) {
+        Ok(n) => status::printed(&rt, show_all(&rt, &buffer[..n])),
+        Err(_) => status::unreadable(&rt),
     }
-    status::tell(status::printed(&rt, show_all(&rt, &buffer[..input.length])))
 }
