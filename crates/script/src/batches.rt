@@ -1,6 +1,7 @@
 // The operations of a commit, read from its line.
 ghost use Rattle.text.specs.Class.{Classes};
 
+use crate::words::Words;
 use ids::limits::MOST_OPERATIONS;
 use ids::name::Name;
 use ids::{RowsetNo, TableNo, VectorNo};
@@ -35,22 +36,12 @@ fn change(classes: &[u8; 256], s: &[u8]) -> Change
 // A blank before each operation. The count is that of all; the places hold the first that a commit may have.
 pub fn batch(s: &[u8]) -> Batch {
     let classes = text::classes();
-    let none = no_change();
-    let mut batch = Batch {
-        changes: [none; MOST_OPERATIONS],
-        count: 0,
-    };
-    let mut at: usize = 0;
-    let mut k: usize = 0;
-    while at < s.len() {
-        let from = at + 1;
-        let end = crate::word_end(s, from);
-        if k < MOST_OPERATIONS {
-            batch.changes[k] = change(&classes, &s[from..end]);
-        }
-        k += 1;
-        at = end;
+    let mut changes = [no_change(); MOST_OPERATIONS];
+    for (place, word) in changes.iter_mut().zip(Words(s)) {
+        *place = change(&classes, word);
     }
-    batch.count = k;
-    batch
+    Batch {
+        changes,
+        count: Words(s).count(),
+    }
 }

@@ -1,5 +1,25 @@
-// The first word of a line.
+// The words of a line.
+ghost use Rattle.std.specs.Prelude.{length};
+ghost use Rattle.std.specs.Iterator.{at_most};
 
+// Words with a blank before each.
+#[derive(Clone, Copy)]
+pub struct Words<'a>(pub &'a [u8]);
+
+impl<'a> Iterator for Words<'a> {
+    type Item = &'a [u8];
+
+    ghost remaining = { λ s. at_most (length s.0.now) };
+
+    fn next(&mut self) -> Option<&'a [u8]> {
+        let (_, s) = self.0.split_first()?;
+        let (word, rest) = crate::cut_word(s);
+        self.0 = rest;
+        Some(word)
+    }
+}
+
+// The first word of a line.
 #[derive(Clone, Copy)]
 pub enum Word {
     Fresh,
@@ -61,8 +81,6 @@ pub enum Plain {
     Stale,
     Write,
     Answered(Answered),
-    // No call.
-    Other,
 }
 
 // Those that are answered and change nothing.
@@ -74,105 +92,36 @@ pub enum Answered {
     Mask,
 }
 
-fn host_word(s: &[u8]) -> Plain {
-    if crate::same(s, b"room") {
-        return Plain::Room;
-    }
-    if crate::same(s, b"cut") {
-        return Plain::Cut;
-    }
-    if crate::same(s, b"stale") {
-        return Plain::Stale;
-    }
-    if crate::same(s, b"write") {
-        return Plain::Write;
-    }
-    Plain::Other
-}
-
-fn plain_word(s: &[u8]) -> Plain {
-    if crate::same(s, b"file") {
-        return Plain::Answered(Answered::File);
-    }
-    if crate::same(s, b"encode") {
-        return Plain::Answered(Answered::Encode);
-    }
-    if crate::same(s, b"decode") {
-        return Plain::Answered(Answered::Decode);
-    }
-    if crate::same(s, b"mask") {
-        return Plain::Answered(Answered::Mask);
-    }
-    host_word(s)
-}
-
-fn read_word(s: &[u8]) -> Word {
-    if crate::same(s, b"pin") {
-        return Word::Unwritten(Unwritten::Booked(Booked::Pin));
-    }
-    if crate::same(s, b"unpin") {
-        return Word::Unwritten(Unwritten::Booked(Booked::Unpin));
-    }
-    if crate::same(s, b"show") {
-        return Word::Unwritten(Unwritten::Told(Told::Show));
-    }
-    if crate::same(s, b"select") {
-        return Word::Unwritten(Unwritten::Told(Told::Select));
-    }
-    if crate::same(s, b"state") {
-        return Word::Unwritten(Unwritten::Told(Told::State));
-    }
-    let plain = plain_word(s);
-    Word::Plain(plain)
-}
-
-fn managed_word(s: &[u8]) -> Word {
-    if crate::same(s, b"draw") {
-        return Word::Unwritten(Unwritten::Managed(Managed::Draw));
-    }
-    if crate::same(s, b"vacuum") {
-        return Word::Unwritten(Unwritten::Managed(Managed::Vacuum));
-    }
-    if crate::same(s, b"lock") {
-        return Word::Unwritten(Unwritten::Managed(Managed::Lock));
-    }
-    if crate::same(s, b"unlock") {
-        return Word::Unwritten(Unwritten::Managed(Managed::Unlock));
-    }
-    if crate::same(s, b"group") {
-        return Word::Unwritten(Unwritten::Managed(Managed::Group));
-    }
-    read_word(s)
-}
-
-fn appended_word(s: &[u8]) -> Word {
-    if crate::same(s, b"commit") {
-        return Word::Appended(Appended::Commit);
-    }
-    if crate::same(s, b"create") {
-        return Word::Appended(Appended::Create);
-    }
-    if crate::same(s, b"drop") {
-        return Word::Appended(Appended::Drop);
-    }
-    if crate::same(s, b"compact") {
-        return Word::Appended(Appended::Compact);
-    }
-    managed_word(s)
-}
-
-pub fn first_word(s: &[u8]) -> Word {
-    if crate::same(s, b"fresh") {
-        return Word::Fresh;
-    }
-    if crate::same(s, b"checkpoint") {
-        return Word::Checkpoint;
-    }
-    if crate::same(s, b"reopen") {
-        return Word::Reopen;
-    }
-    if crate::same(s, b"report") {
-        return Word::Report;
-    }
-    appended_word(s)
+// Nothing where the word is no call.
+pub fn first_word(s: &[u8]) -> Option<Word> {
+    let word = match s {
+        b"fresh" => Word::Fresh,
+        b"checkpoint" => Word::Checkpoint,
+        b"reopen" => Word::Reopen,
+        b"report" => Word::Report,
+        b"commit" => Word::Appended(Appended::Commit),
+        b"create" => Word::Appended(Appended::Create),
+        b"drop" => Word::Appended(Appended::Drop),
+        b"compact" => Word::Appended(Appended::Compact),
+        b"draw" => Word::Unwritten(Unwritten::Managed(Managed::Draw)),
+        b"vacuum" => Word::Unwritten(Unwritten::Managed(Managed::Vacuum)),
+        b"lock" => Word::Unwritten(Unwritten::Managed(Managed::Lock)),
+        b"unlock" => Word::Unwritten(Unwritten::Managed(Managed::Unlock)),
+        b"group" => Word::Unwritten(Unwritten::Managed(Managed::Group)),
+        b"pin" => Word::Unwritten(Unwritten::Booked(Booked::Pin)),
+        b"unpin" => Word::Unwritten(Unwritten::Booked(Booked::Unpin)),
+        b"show" => Word::Unwritten(Unwritten::Told(Told::Show)),
+        b"select" => Word::Unwritten(Unwritten::Told(Told::Select)),
+        b"state" => Word::Unwritten(Unwritten::Told(Told::State)),
+        b"file" => Word::Plain(Plain::Answered(Answered::File)),
+        b"encode" => Word::Plain(Plain::Answered(Answered::Encode)),
+        b"decode" => Word::Plain(Plain::Answered(Answered::Decode)),
+        b"mask" => Word::Plain(Plain::Answered(Answered::Mask)),
+        b"room" => Word::Plain(Plain::Room),
+        b"cut" => Word::Plain(Plain::Cut),
+        b"stale" => Word::Plain(Plain::Stale),
+        b"write" => Word::Plain(Plain::Write),
+        _ => return None,
+    };
+    Some(word)
 }

@@ -1,9 +1,0 @@
--- Of `script::bit_run`. Assumes nothing.
-use Rattle.std.proofs.Common.{◌≤◌, length, ◌-◌}
-use Rattle.script.proofs.bit_run.Given as goal
-
-abbrev pub invariant-loop-i : goal.invariant-loop-i
-invariant-loop-i l = l.i ≤ length l.s
-
-abbrev pub decreases-loop-i : goal.decreases-loop-i
-decreases-loop-i l = length l.s - l.i
