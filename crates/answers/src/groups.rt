@@ -2,40 +2,26 @@
 use crate::output::Output;
 use crate::say;
 use ids::refusal::Refusal;
+use std::io::Write;
 use version_manager::NewVectors;
 
-// A vector's file, which begins at a place of all the files; where the next one begins.
-fn file(files: &[u8], at: usize, length: u64, output: &mut Output) -> usize {
-    let from = script::least(at, files.len());
-    let to = from + script::least(script::long(length), files.len() - from);
-    say::digits(&files[from..to], output);
-    to
+// The first so many, as far as there are any, and what comes after them.
+fn front<T>(s: &[T], n: u32) -> (&[T], &[T]) {
+    let n = s.len().min(n as usize);
+    s.split_at(n)
 }
 
-fn plus(i: usize, output: &mut Output) {
-    if 0 < i {
-        say::put(b'+', output);
+// A vector's rows in memory.
+fn memory(rows: &[u32], output: &mut Output) {
+    for (i, row) in rows.iter().enumerate() {
+        if 0 < i {
+            say::put(b'+', output);
+        }
+        say::number(*row, output);
     }
 }
 
-// A vector's rows in memory, in the same way.
-fn memory(rows: &[u32], at: usize, count: u64, output: &mut Output) -> usize {
-    let from = script::least(at, rows.len());
-    let n = script::least(script::long(count), rows.len() - from);
-    for i in 0..n {
-        plus(i, output);
-        say::number(say::at32(rows, from + i), output);
-    }
-    from + n
-}
-
-// A vector's id and its rowset.
-fn named(id: u64, rowset: u64, output: &mut Output) {
-    say::comma(id, output);
-    say::colon(rowset, output);
-    say::put(b':', output);
-}
-
+// The vectors' files lie one after another, and so do their rows in memory.
 fn vectors(
     count: usize,
     first: u64,
@@ -46,14 +32,19 @@ fn vectors(
     rows: &[u32],
     output: &mut Output,
 ) {
-    let mut at: usize = 0;
-    let mut k: usize = 0;
-    for i in 0..count {
-        let id = first.wrapping_add(i as u64);
-        named(id, say::at32(rowsets, i), output);
-        at = file(files, at, say::at32(lengths, i), output);
+    let mut id = first;
+    let mut files = files;
+    let mut rows = rows;
+    for ((rowset, length), n) in rowsets.iter().zip(lengths).zip(counts).take(count) {
+        let (file, next_files) = front(files, *length);
+        let (memory_rows, next_rows) = front(rows, *n);
+        let _ = write!(output, ",{id}:{rowset}:");
+        say::digits(file, output);
         say::put(b':', output);
-        k = memory(rows, k, say::at32(counts, i), output);
+        memory(memory_rows, output);
+        id = id.wrapping_add(1);
+        files = next_files;
+        rows = next_rows;
     }
     say::put(b'\n', output);
 }

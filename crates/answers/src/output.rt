@@ -2,12 +2,14 @@
 // that what was written is the beginning of the answers.
 ghost use Rattle.std.specs.Prelude.{◌≡◌, ◌≤◌, false, length};
 
+use std::fmt::Display;
 use std::io;
 use std::io::{Stdout, Write};
 
 // How many bytes the buffer holds.
 const ROOM: usize = 65536;
 
+// No `BufWriter`: that asks for memory, which may run out, and tries again after a write that failed, its drop too.
 #[derive(Drop)]
 pub struct Output {
     to: Stdout,
@@ -42,35 +44,22 @@ pub fn flush(output: &mut Output)
 {
     let n = output.count;
     output.count = 0;
-    if output.failed {
-        return;
-    }
-    if output.to.write_all(&output.text[..n]).is_err() {
-        output.failed = true;
-    }
-}
-
-pub fn put(b: u8, output: &mut Output) {
-    if output.count == ROOM {
-        flush(output);
-    }
-    output.text[output.count] = b;
-    output.count += 1;
-}
-
-pub fn say(s: &[u8], output: &mut Output) {
-    let mut i = 0;
-    while i < s.len() {
-        put(s[i], output);
-        i += 1;
+    if !output.failed {
+        output.failed = output.to.write_all(&output.text[..n]).is_err();
     }
 }
 
 // For `write!`. It takes all, also after a write that failed.
 impl Write for Output {
     fn write(&mut self, buf: &[u8]) -> io::Result<usize> {
-        say(buf, self);
-        Ok(buf.len())
+        if self.count == ROOM {
+            flush(self);
+        }
+        let at = self.count;
+        let n = buf.len().min(ROOM - at);
+        self.text[at..at + n].copy_from_slice(&buf[..n]);
+        self.count = at + n;
+        Ok(n)
     }
 
     fn flush(&mut self) -> io::Result<()> {
@@ -79,11 +68,14 @@ impl Write for Output {
     }
 }
 
-pub fn number(n: u64, output: &mut Output) {
-    let _ = write!(output, "{n}");
+pub fn say(s: &[u8], output: &mut Output) {
+    let _ = output.write_all(s);
 }
 
-// Two hex digits.
-pub fn hex_byte(b: u64, output: &mut Output) {
-    let _ = write!(output, "{b:02x}");
+pub fn put(b: u8, output: &mut Output) {
+    say(&[b], output);
+}
+
+pub fn number(n: impl Display + Drop, output: &mut Output) {
+    let _ = write!(output, "{n}");
 }

@@ -1,47 +1,41 @@
 // What is printed of answers.
-use crate::output;
 use crate::output::Output;
 pub use crate::output::{number, put, say};
+use ids::limits::LONGEST_NAME;
 use ids::refusal::Refusal;
 use ids::{RowsetNo, VectorNo};
 use pinning::Readiness;
+use std::fmt::Display;
+use std::io::Write;
 use version_manager::{Appended, NewTable, TakenBack};
 
-pub fn comma(n: u64, output: &mut Output) {
-    put(b',', output);
-    number(n, output);
-}
-
-pub fn colon(n: u64, output: &mut Output) {
-    put(b':', output);
-    number(n, output);
+pub fn comma(n: impl Display + Drop, output: &mut Output) {
+    let _ = write!(output, ",{n}");
 }
 
 // The last number of an answer.
-pub fn last(n: u64, output: &mut Output) {
-    comma(n, output);
-    put(b'\n', output);
+pub fn last(n: impl Display + Drop, output: &mut Output) {
+    let _ = writeln!(output, ",{n}");
 }
 
 // A word and one number, with which an answer begins.
-pub fn first(word: &[u8], n: u64, output: &mut Output) {
+pub fn first(word: &[u8], n: impl Display + Drop, output: &mut Output) {
     say(word, output);
     comma(n, output);
 }
 
 // An answer that is these two.
-pub fn one(word: &[u8], n: u64, output: &mut Output) {
+pub fn one(word: &[u8], n: impl Display + Drop, output: &mut Output) {
     say(word, output);
     last(n, output);
 }
 
-fn refused(number: u64, place: u64, output: &mut Output) {
-    first(b"refused", number, output);
-    last(place, output);
+fn refused(number: u32, place: usize, output: &mut Output) {
+    let _ = writeln!(output, "refused,{number},{place}");
 }
 
 pub fn refusal(why: Refusal, output: &mut Output) {
-    refused(why.number() as u64, why.place() as u64, output);
+    refused(why.number(), why.place(), output);
 }
 
 // A line that is no call.
@@ -51,11 +45,10 @@ pub fn no_call(output: &mut Output) {
 
 // Whether a line has no more words; else it is answered as no call.
 pub fn alone(s: &[u8], output: &mut Output) -> bool {
-    if s.len() == 0 {
-        return true;
+    if !s.is_empty() {
+        no_call(output);
     }
-    no_call(output);
-    false
+    s.is_empty()
 }
 
 pub fn rowset(answer: Result<RowsetNo, Refusal>, output: &mut Output) {
@@ -79,17 +72,10 @@ pub fn pinned(answer: Result<u32, Refusal>, output: &mut Output) {
     }
 }
 
-fn flag(due: bool) -> u64 {
-    if due {
-        return 1;
-    }
-    0
-}
-
 pub fn unpinned(answer: Result<Readiness, Refusal>, output: &mut Output) {
     match answer {
         Ok(Readiness { due, ready }) => {
-            first(b"unpinned", flag(due), output);
+            first(b"unpinned", u64::from(due), output);
             last(ready as u64, output);
         }
         Err(why) => refusal(why, output),
@@ -98,8 +84,8 @@ pub fn unpinned(answer: Result<Readiness, Refusal>, output: &mut Output) {
 
 // An epoch, and how many bytes are appended.
 fn append(epoch: u32, n: usize, output: &mut Output) -> usize {
-    comma(epoch as u64, output);
-    last(n as u64, output);
+    comma(epoch, output);
+    last(n, output);
     n
 }
 
@@ -152,32 +138,9 @@ pub fn accepted(word: &[u8], answer: Result<(), Refusal>, output: &mut Output) {
     }
 }
 
-fn wide(n: u32) -> u64 {
-    n as u64
-}
-
-pub fn at32(out: &[u32], i: usize) -> u64 {
-    if out.len() <= i {
-        return 0;
-    }
-    wide(out[i])
-}
-
-fn at64(out: &[u64], i: usize) -> u64 {
-    if out.len() <= i {
-        return 0;
-    }
-    out[i]
-}
-
-fn pair(tables: &[u32], rowsets: &[u32], i: usize, output: &mut Output) {
-    comma(at32(tables, i), output);
-    colon(at32(rowsets, i), output);
-}
-
 pub fn pairs(tables: &[u32], rowsets: &[u32], count: usize, output: &mut Output) {
-    for i in 0..count {
-        pair(tables, rowsets, i, output);
+    for (table, rowset) in tables.iter().zip(rowsets).take(count) {
+        let _ = write!(output, ",{table}:{rowset}");
     }
     put(b'\n', output);
 }
@@ -189,29 +152,13 @@ pub fn vectors(
     count: usize,
     output: &mut Output,
 ) {
-    for i in 0..count {
-        pair(tables, rowsets, i, output);
-        colon(at64(vectors, i), output);
+    for ((table, rowset), vector) in tables.iter().zip(rowsets).zip(vectors).take(count) {
+        let _ = write!(output, ",{table}:{rowset}:{vector}");
     }
     put(b'\n', output);
 }
 
-// The first bytes of the 32 that a name is lent.
-fn name(names: &[u8], i: usize, len: u64, output: &mut Output) {
-    if 16 <= i {
-        return;
-    }
-    if 32 < len {
-        return;
-    }
-    let from = 32 * i;
-    let to = from + len as usize;
-    if names.len() < to {
-        return;
-    }
-    say(&names[from..to], output);
-}
-
+// A name is the first bytes of what is lent for it.
 pub fn tables(
     ids: &[u32],
     shapes: &[u32],
@@ -220,27 +167,30 @@ pub fn tables(
     count: usize,
     output: &mut Output,
 ) {
-    for i in 0..count {
-        pair(ids, shapes, i, output);
-        put(b':', output);
-        name(names, i, at32(lengths, i), output);
+    let names = names.chunks_exact(LONGEST_NAME);
+    for (((id, shape), length), name) in ids
+        .iter()
+        .zip(shapes)
+        .zip(lengths)
+        .zip(names)
+        .take(count)
+    {
+        let _ = write!(output, ",{id}:{shape}:");
+        let n = name.len().min(*length as usize);
+        say(&name[..n], output);
     }
     put(b'\n', output);
 }
 
 pub fn rows(rows: &[u32], count: usize, output: &mut Output) {
-    for i in 0..count {
-        comma(at32(rows, i), output);
+    for row in rows.iter().take(count) {
+        comma(*row, output);
     }
     put(b'\n', output);
 }
 
-fn byte(b: u8) -> u64 {
-    b as u64
-}
-
 fn dash(s: &[u8], output: &mut Output) {
-    if s.len() == 0 {
+    if s.is_empty() {
         put(b'-', output);
     }
 }
@@ -248,7 +198,7 @@ fn dash(s: &[u8], output: &mut Output) {
 pub fn digits(s: &[u8], output: &mut Output) {
     dash(s, output);
     for b in s {
-        output::hex_byte(byte(*b), output);
+        let _ = write!(output, "{b:02x}");
     }
 }
 
@@ -261,27 +211,19 @@ pub fn hex(s: &[u8], output: &mut Output) {
 pub fn bits(s: &[u8], output: &mut Output) {
     dash(s, output);
     for b in s {
-        number(byte(*b), output);
+        number(*b, output);
     }
     put(b'\n', output);
-}
-
-fn lines(s: &[u8], output: &mut Output) {
-    let mut at: usize = 0;
-    loop {
-        let end = script::line_end(s, at, s.len());
-        say(&s[at..end], output);
-        if s.len() <= end {
-            return;
-        }
-        say(b"\\n", output);
-        at = end + 1;
-    }
 }
 
 // The bytes with `\n` for each newline.
 pub fn bytes(s: &[u8], output: &mut Output) {
     dash(s, output);
-    lines(s, output);
+    for (i, line) in s.split(|b| *b == b'\n').enumerate() {
+        if 0 < i {
+            say(b"\\n", output);
+        }
+        say(line, output);
+    }
     put(b'\n', output);
 }

@@ -4,8 +4,7 @@ use crate::{say, selects};
 use ids::limits::{LONGEST_NAME, MOST_HELD, MOST_TABLES, NAME_BYTES};
 use ids::refusal::Refusal;
 use pins::PinBook;
-use script::Found;
-use script::words::Told;
+use script::words::{Told, Words};
 use version_manager::VersionManager;
 use version_state::NextIds;
 
@@ -39,7 +38,7 @@ fn pairs_into(
 fn pairs(manager: VersionManager, book: PinBook, epoch: u32, room: usize, output: &mut Output) {
     let mut tables = [0u32; MOST_HELD];
     let mut rowsets = [0u32; MOST_HELD];
-    let n = script::least(room, MOST_HELD);
+    let n = room.min(MOST_HELD);
     pairs_into(
         manager,
         book,
@@ -83,7 +82,7 @@ fn vectors(manager: VersionManager, book: PinBook, epoch: u32, room: usize, outp
     let mut tables = [0u32; MOST_HELD];
     let mut rowsets = [0u32; MOST_HELD];
     let mut vectors = [0u64; MOST_HELD];
-    let n = script::least(room, MOST_HELD);
+    let n = room.min(MOST_HELD);
     vectors_into(
         manager,
         book,
@@ -132,8 +131,8 @@ fn tables(manager: VersionManager, book: PinBook, epoch: u32, room: usize, outpu
     let mut shapes = [0u32; MOST_TABLES];
     let mut lengths = [0u32; MOST_TABLES];
     let mut names = [0u8; NAME_BYTES];
-    let n = script::least(room, MOST_TABLES);
-    let bytes = script::least(LONGEST_NAME * n, NAME_BYTES);
+    let n = room.min(MOST_TABLES);
+    let bytes = NAME_BYTES.min(LONGEST_NAME * n);
     tables_into(
         manager,
         book,
@@ -146,51 +145,45 @@ fn tables(manager: VersionManager, book: PinBook, epoch: u32, room: usize, outpu
     );
 }
 
-// What a line shows, at which epoch.
 #[derive(Clone, Copy)]
-enum Showing {
-    Tables(u32),
-    Pairs(u32),
-    Vectors(u32),
-    Nothing,
+enum Shown {
+    Tables,
+    Pairs,
+    Vectors,
 }
 
-fn read_at(what: &[u8], epoch: u32) -> Showing {
-    if script::same(what, b" tables") {
-        return Showing::Tables(epoch);
+fn read_shown(word: &[u8]) -> Option<Shown> {
+    match word {
+        b"tables" => Some(Shown::Tables),
+        b"pairs" => Some(Shown::Pairs),
+        b"vectors" => Some(Shown::Vectors),
+        _ => None,
     }
-    if script::same(what, b" pairs") {
-        return Showing::Pairs(epoch);
-    }
-    if script::same(what, b" vectors") {
-        return Showing::Vectors(epoch);
-    }
-    Showing::Nothing
 }
 
-fn read(s: &[u8]) -> Showing {
-    let end = script::first_end(s);
-    match script::one(&s[end..], 4294967295) {
-        Found::Of(n) => read_at(&s[..end], script::narrow(n)),
-        Found::Nothing => Showing::Nothing,
-    }
+// What a line shows, at which epoch.
+fn read(s: &[u8]) -> Option<(Shown, u32)> {
+    let mut words = Words(s);
+    let what = read_shown(words.next()?)?;
+    let epoch = script::one(words.0)?;
+    Some((what, epoch))
 }
 
 fn show(manager: VersionManager, book: PinBook, s: &[u8], room: usize, output: &mut Output) {
     match read(s) {
-        Showing::Tables(epoch) => tables(manager, book, epoch, room, output),
-        Showing::Pairs(epoch) => pairs(manager, book, epoch, room, output),
-        Showing::Vectors(epoch) => vectors(manager, book, epoch, room, output),
-        Showing::Nothing => say::no_call(output),
+        Some((Shown::Tables, epoch)) => tables(manager, book, epoch, room, output),
+        Some((Shown::Pairs, epoch)) => pairs(manager, book, epoch, room, output),
+        Some((Shown::Vectors, epoch)) => vectors(manager, book, epoch, room, output),
+        None => say::no_call(output),
     }
 }
 
 fn state_line(epoch: u32, next: NextIds, manifest: usize, output: &mut Output) {
-    say::first(b"state", epoch as u64, output);
-    say::comma(next.table.0 as u64, output);
-    say::comma(next.rowset.0 as u64, output);
+    say::first(b"state", epoch, output);
+    say::comma(next.table.0, output);
+    say::comma(next.rowset.0, output);
     say::comma(next.vector.0, output);
-    say::last(manifest as u64, output);
+    say::last(manifest, output);
 }
 
 fn state(manager: VersionManager, s: &[u8], output: &mut Output) {

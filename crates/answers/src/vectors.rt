@@ -1,15 +1,17 @@
 // Calls on delete vectors: no manager.
+ghost use Rattle.std.specs.Prelude.{◌≤◌, IfSome, length};
+
 use crate::output::Output;
 use crate::say;
 use delete_vector::{Loaded, MOST_RECORDS, Masked, Written};
 use ids::RowNo;
-use script::{Count, Found};
+use script::words::Words;
 
 fn encode_into(rows: &[u32], out: &mut [u8], output: &mut Output) {
     match delete_vector::write_all(rows, out) {
         Written::Bytes(n) => {
             say::say(b"encoded,", output);
-            let n = script::least(n, out.len());
+            let n = n.min(out.len());
             say::hex(&out[..n], output);
         }
         Written::Refused(why) => say::refusal(why, output),
@@ -18,11 +20,11 @@ fn encode_into(rows: &[u32], out: &mut [u8], output: &mut Output) {
 
 fn encode_rows(s: &[u8], rows: &mut [u32], out: &mut [u8], output: &mut Output) {
     match script::numbers(s, rows) {
-        Count::Of(n) => {
-            let n = script::least(n, rows.len());
+        Some(n) => {
+            let n = n.min(rows.len());
             encode_into(&rows[..n], out, output);
         }
-        Count::Nothing => say::no_call(output),
+        None => say::no_call(output),
     }
 }
 
@@ -30,7 +32,7 @@ fn encode_rows(s: &[u8], rows: &mut [u32], out: &mut [u8], output: &mut Output) 
 pub fn encode(s: &[u8], room: usize, output: &mut Output) {
     let mut rows = [0u32; 4097];
     let mut out = [0u8; 28672];
-    let n = script::least(room, 28672);
+    let n = room.min(28672);
     encode_rows(s, &mut rows, &mut out[..n], output);
 }
 
@@ -46,21 +48,20 @@ fn decode_into(file: &[u8], rows: &mut [u32], output: &mut Output) {
 
 fn decode_run(file: &[u8], room: usize, output: &mut Output) {
     let mut rows = [0u32; MOST_RECORDS];
-    let room = script::least(room, MOST_RECORDS);
+    let room = room.min(MOST_RECORDS);
     decode_into(file, &mut rows[..room], output);
 }
 
+fn read_file(s: &[u8], scratch: &mut [u8]) -> Option<usize>
+    ensures { IfSome result (λ n. n ≤ length scratch.new) }
+{
+    script::hex(s.strip_prefix(b" ")?, scratch)
+}
+
 pub fn decode(s: &[u8], room: usize, scratch: &mut [u8], output: &mut Output) {
-    if s.len() == 0 {
-        say::no_call(output);
-        return;
-    }
-    match script::hex(&s[1..], scratch) {
-        Count::Of(n) => {
-            let n = script::least(n, scratch.len());
-            decode_run(&scratch[..n], room, output);
-        }
-        Count::Nothing => say::no_call(output),
+    match read_file(s, scratch) {
+        Some(n) => decode_run(&scratch[..n], room, output),
+        None => say::no_call(output),
     }
 }
 
@@ -74,41 +75,23 @@ fn mask_into(rows: &[u32], bits: &mut [u8], offset: u32, output: &mut Output) {
     }
 }
 
-fn mask_rows(s: &[u8], rows: &mut [u32], bits: &mut [u8], offset: u32, output: &mut Output) {
-    match script::numbers(s, rows) {
-        Count::Of(n) => {
-            let n = script::least(n, rows.len());
-            mask_into(&rows[..n], bits, offset, output);
-        }
-        Count::Nothing => say::no_call(output),
-    }
-}
-
-// The bits, and then the rows.
-fn mask_bits(s: &[u8], offset: u32, scratch: &mut [u8], output: &mut Output) {
-    if s.len() == 0 {
-        say::no_call(output);
-        return;
-    }
-    let end = script::word_end(s, 1);
-    let mut rows = [0u32; 4097];
-    match script::bits(&s[1..end], scratch) {
-        Count::Of(n) => {
-            let n = script::least(n, scratch.len());
-            mask_rows(&s[end..], &mut rows, &mut scratch[..n], offset, output);
-        }
-        Count::Nothing => say::no_call(output),
-    }
+// The offset, and how many bits and rows are read into what is lent for them.
+fn read_mask(s: &[u8], bits: &mut [u8], rows: &mut [u32]) -> Option<(u32, usize, usize)>
+    ensures { IfSome result (λ m. (m.1 ≤ length bits.new) × (m.2 ≤ length rows.new)) }
+{
+    let mut words = Words(s);
+    let offset = script::number(words.next()?)?;
+    let wide = script::bits(words.next()?, bits)?;
+    let count = script::numbers(words.0, rows)?;
+    Some((offset, wide, count.min(rows.len())))
 }
 
 pub fn mask(s: &[u8], scratch: &mut [u8], output: &mut Output) {
-    if s.len() == 0 {
-        say::no_call(output);
-        return;
-    }
-    let end = script::word_end(s, 1);
-    match script::one(&s[..end], 4294967295) {
-        Found::Of(n) => mask_bits(&s[end..], script::narrow(n), scratch, output),
-        Found::Nothing => say::no_call(output),
+    let mut rows = [0u32; 4097];
+    match read_mask(s, scratch, &mut rows) {
+        Some((offset, wide, count)) => {
+            mask_into(&rows[..count], &mut scratch[..wide], offset, output);
+        }
+        None => say::no_call(output),
     }
 }

@@ -1,9 +1,0 @@
--- Of `answers::say::lines`. Assumes nothing.
-use Rattle.std.proofs.Common.{◌≤◌, length, ◌-◌}
-use Rattle.answers.proofs.say.lines.Given as goal
-
-abbrev pub invariant-loop-at : goal.invariant-loop-at
-invariant-loop-at l = l.at ≤ length l.s
-
-abbrev pub decreases-loop-at : goal.decreases-loop-at
-decreases-loop-at l = length l.s - l.at
