@@ -1,13 +1,14 @@
 // Calls that append to the file.
 use crate::compactions;
-use crate::compactions::{Compaction, MOST_TAKEN};
+use crate::compactions::MOST_TAKEN;
 use crate::world::{Host, World};
 use answers::output::Output;
 use answers::say;
 use compaction::NewRowset;
 use ids::TableNo;
-use script::words::Appended;
-use script::{Found, batches};
+use ids::name::Name;
+use script::batches;
+use script::words::{Appended, Words};
 use version_manager::{Committed, Created, VersionManager};
 
 // What a call leaves: the length of its append is 0 where it is refused, and never else.
@@ -41,25 +42,23 @@ fn created(done: Created, output: &mut Output) -> Append {
     Append { manager, length }
 }
 
+fn read_create(s: &[u8]) -> Option<(u32, Name)> {
+    let mut words = Words(s);
+    let shape = script::number(words.next()?)?;
+    Some((shape, script::name(words.0)))
+}
+
 fn create(manager: VersionManager, s: &[u8], out: &mut [u8], output: &mut Output) -> Append {
-    let end = script::first_end(s);
-    match script::one(&s[..end], 4294967295) {
-        Found::Of(n) => created(
-            manager.create(script::narrow(n), script::name(&s[end..]), out),
-            output,
-        ),
-        Found::Nothing => no_call(manager, output),
+    match read_create(s) {
+        Some((shape, name)) => created(manager.create(shape, name, out), output),
+        None => no_call(manager, output),
     }
 }
 
 fn drop(manager: VersionManager, s: &[u8], out: &mut [u8], output: &mut Output) -> Append {
-    match script::one(s, 4294967295) {
-        Found::Of(n) => committed(
-            manager.drop(TableNo(script::narrow(n)), out),
-            b"dropped",
-            output,
-        ),
-        Found::Nothing => no_call(manager, output),
+    match script::one(s) {
+        Some(n) => committed(manager.drop(TableNo(n), out), b"dropped", output),
+        None => no_call(manager, output),
     }
 }
 
@@ -73,7 +72,7 @@ fn compacted(
     out: &mut [u8],
     output: &mut Output,
 ) -> Append {
-    let n = script::least(n, taken.len());
+    let n = n.min(taken.len());
     committed(
         manager.compact(table, new, &taken[..n], out),
         b"compacted",
@@ -89,8 +88,8 @@ fn compact_lent(
     output: &mut Output,
 ) -> Append {
     match compactions::read(s, taken) {
-        Compaction::Of(table, new, n) => compacted(manager, table, new, taken, n, out, output),
-        Compaction::Nothing => no_call(manager, output),
+        Some((table, new, n)) => compacted(manager, table, new, taken, n, out, output),
+        None => no_call(manager, output),
     }
 }
 
@@ -125,8 +124,8 @@ pub fn appended(
 ) -> World {
     let manager = world.manager;
     let len = world.host.len;
-    let start = script::least(len, file.len());
-    let end = start + script::least(room, file.len() - start);
+    let start = len.min(file.len());
+    let end = start + room.min(file.len() - start);
     let done = call(manager, word, s, &mut file[start..end], output);
     let n = done.length;
     if n == 0 {

@@ -2,7 +2,6 @@
 use answers::output::Output;
 use answers::say;
 use pins::PinBook;
-use script::Found;
 use script::words::Booked;
 use version_manager::VersionManager;
 
@@ -24,9 +23,9 @@ fn unpin_at(manager: VersionManager, book: PinBook, epoch: u32, output: &mut Out
 }
 
 fn unpin(manager: VersionManager, book: PinBook, s: &[u8], output: &mut Output) -> PinBook {
-    match script::one(s, 4294967295) {
-        Found::Of(n) => unpin_at(manager, book, script::narrow(n), output),
-        Found::Nothing => {
+    match script::one(s) {
+        Some(epoch) => unpin_at(manager, book, epoch, output),
+        None => {
             say::no_call(output);
             book
         }

@@ -7,7 +7,6 @@ use ids::TableNo;
 use ids::limits::MOST_HELD;
 use ids::refusal::Refusal;
 use pins::PinBook;
-use script::Found;
 use script::words::Managed;
 use version_manager::{Locked, VersionManager};
 
@@ -33,28 +32,11 @@ fn draw_vector(manager: VersionManager, output: &mut Output) -> VersionManager {
     drawn.manager
 }
 
-#[derive(Clone, Copy)]
-enum Drawing {
-    Rowset,
-    Vector,
-    Nothing,
-}
-
-fn read_draw(s: &[u8]) -> Drawing {
-    if script::same(s, b" rowset") {
-        return Drawing::Rowset;
-    }
-    if script::same(s, b" vector") {
-        return Drawing::Vector;
-    }
-    Drawing::Nothing
-}
-
 fn draw(manager: VersionManager, s: &[u8], output: &mut Output) -> VersionManager {
-    match read_draw(s) {
-        Drawing::Rowset => draw_rowset(manager, output),
-        Drawing::Vector => draw_vector(manager, output),
-        Drawing::Nothing => {
+    match s {
+        b" rowset" => draw_rowset(manager, output),
+        b" vector" => draw_vector(manager, output),
+        _ => {
             say::no_call(output);
             manager
         }
@@ -96,7 +78,7 @@ fn vacuum(
     }
     let mut tables = [0u32; MOST_HELD];
     let mut rowsets = [0u32; MOST_HELD];
-    let n = script::least(room, MOST_HELD);
+    let n = room.min(MOST_HELD);
     vacuum_into(manager, book, &mut tables[..n], &mut rowsets[..n], output)
 }
 
@@ -114,14 +96,14 @@ fn relock(
     word: &[u8],
     output: &mut Output,
 ) -> VersionManager {
-    match script::one(s, 4294967295) {
-        Found::Of(n) => {
-            let done = relocked(manager, TableNo(script::narrow(n)), held);
+    match script::one(s) {
+        Some(n) => {
+            let done = relocked(manager, TableNo(n), held);
             let answer = done.answer;
             say::accepted(word, answer, output);
             done.manager
         }
-        Found::Nothing => {
+        None => {
             say::no_call(output);
             manager
         }

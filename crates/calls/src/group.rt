@@ -30,19 +30,17 @@ pub fn group(
     room: usize,
     output: &mut Output,
 ) -> VersionManager {
-    let read = handles::handles(s);
-    if !read.whole {
+    let Some(handles) = handles::handles(s) else {
         say::no_call(output);
         return manager;
-    }
-    let handles = read.handles;
+    };
     let mut rowsets = [0u32; MOST_HANDLES];
     let mut lengths = [0u32; MOST_HANDLES];
     let mut counts = [0u32; MOST_HANDLES];
     let mut files = [0u8; FILE_BYTES];
     let mut rows = [0u32; MOST_HANDLES];
-    let n = script::least(room, MOST_HANDLES);
-    let bytes = script::least(room, FILE_BYTES);
+    let n = room.min(MOST_HANDLES);
+    let bytes = room.min(FILE_BYTES);
     group_into(
         manager,
         handles,

@@ -1,56 +1,60 @@
 // Lines that have no part in the manager: those that stand for the host and the disk, and the calls on delete vectors.
+ghost use Rattle.std.specs.Prelude.{◌≤◌, IfSome, length};
+
 use crate::world::{ENOUGH, Host};
 use answers::output::Output;
 use answers::{say, vectors};
 use script::words::{Answered, Plain};
-use script::{Count, Found};
 
 // A line that is no call is answered, and uses the room up.
-fn no_line(host: Host, output: &mut Output) -> Host {
+pub fn no_line(host: Host, output: &mut Output) -> Host {
     say::no_call(output);
     host.with_room(ENOUGH)
 }
 
 fn room_line(host: Host, s: &[u8], output: &mut Output) -> Host {
-    match script::one(s, 18446744073709551615) {
-        Found::Of(n) => host.with_room(script::long(n)),
-        Found::Nothing => no_line(host, output),
+    match script::one(s) {
+        Some(n) => host.with_room(n),
+        None => no_line(host, output),
     }
 }
 
 fn cut(host: Host, s: &[u8], output: &mut Output) -> Host {
-    match script::one(s, 18446744073709551615) {
-        Found::Of(n) => host.cut(script::long(n)),
-        Found::Nothing => no_line(host, output),
+    match script::one(s) {
+        Some(n) => host.cut(n),
+        None => no_line(host, output),
     }
 }
 
 fn stale(host: Host, s: &[u8], file: &mut [u8], old: &[u8], output: &mut Output) -> Host {
-    if s.len() != 0 {
+    if !s.is_empty() {
         return no_line(host, output);
     }
-    if !host.kept {
+    let Some(n) = host.old else {
         return host;
-    }
+    };
     let room = host.room;
-    let n = script::least(host.old, old.len());
+    let n = n.min(old.len());
     let n = script::copy(&old[..n], file);
     Host::replaced(n, n).with_room(room)
 }
 
-// All after the first blank is the text. It is looked through before the file is changed.
+// All after the first blank is the text.
+fn read_text(s: &[u8], scratch: &mut [u8]) -> Option<usize>
+    ensures { IfSome result (λ n. n ≤ length scratch.new) }
+{
+    script::written(s.strip_prefix(b" ")?, scratch)
+}
+
+// The text is looked through before the file is changed.
 fn write(host: Host, s: &[u8], file: &mut [u8], scratch: &mut [u8], output: &mut Output) -> Host {
-    if s.len() == 0 {
-        return no_line(host, output);
-    }
     let room = host.room;
-    match script::written(&s[1..], scratch) {
-        Count::Of(n) => {
-            let n = script::least(n, scratch.len());
+    match read_text(s, scratch) {
+        Some(n) => {
             let n = script::copy(&scratch[..n], file);
             Host::whole(n).with_room(room)
         }
-        Count::Nothing => no_line(host, output),
+        None => no_line(host, output),
     }
 }
 
@@ -58,8 +62,8 @@ fn file_line(len: usize, s: &[u8], file: &[u8], output: &mut Output) {
     if !say::alone(s, output) {
         return;
     }
-    let n = script::least(len, file.len());
-    say::first(b"file", n as u64, output);
+    let n = len.min(file.len());
+    say::first(b"file", n, output);
     say::put(b',', output);
     say::bytes(&file[..n], output);
 }
@@ -99,6 +103,5 @@ pub fn line(
             answered(word, host.room, host.len, s, file, scratch, output);
             host.with_room(ENOUGH)
         }
-        Plain::Other => no_line(host, output),
     }
 }

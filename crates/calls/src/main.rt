@@ -6,9 +6,9 @@ use answers::output::Output;
 use answers::{output, say, shows};
 use script::words;
 use script::words::{Booked, Managed, Plain, Told, Unwritten, Word};
-use status::{Input, Status};
-use std::io::Read;
-use std::process::ExitCode;
+use status::Status;
+use std::io;
+use std::io::{ErrorKind, Read};
 use world::{ENOUGH, File, Host, Line, World};
 
 mod appends;
@@ -92,15 +92,14 @@ fn line(
     scratch: &mut Line,
     output: &mut Output,
 ) -> World {
-    if s.len() == 0 {
+    if s.is_empty() || s.starts_with(b"#") {
         return world;
     }
-    if script::first(s) == b'#' {
-        return world;
+    let (word, rest) = script::cut_word(s);
+    match words::first_word(word) {
+        Some(word) => call(world, word, rest, file, old, scratch, output),
+        None => world.with_host(host::no_line(world.host, output)),
     }
-    let end = script::word_end(s, 0);
-    let word = words::first_word(&s[..end]);
-    call(world, word, &s[end..], file, old, scratch, output)
 }
 
 // The lines up to a place; the last may have no newline.
@@ -114,97 +113,76 @@ fn lines(
     output: &mut Output,
 ) -> World {
     let mut world = world;
-    let to = script::least(to, s.len());
-    let mut at: usize = 0;
-    while at < to {
-        let end = script::line_end(s, at, to);
-        world = line(world, &s[at..end], file, old, scratch, output);
-        if to <= end {
-            return world;
-        }
-        at = end + 1;
+    let to = to.min(s.len());
+    for s in s[..to].split(|b| *b == b'\n') {
+        world = line(world, s, file, old, scratch, output);
     }
     world
 }
 
 // One read behind the bytes that are there. It may wait, so that all answers are written before, for whoever waits for them.
-fn read(from: &mut impl Read, input: &mut Line, have: usize, output: &mut Output) -> Input {
+fn read(
+    from: &mut impl Read,
+    input: &mut Line,
+    have: usize,
+    output: &mut Output,
+) -> io::Result<usize> {
     output::flush(output);
     if output::failed(output) {
-        return Input {
-            length: have,
-            failed: true,
-        };
+        return Err(io::Error::from(ErrorKind::WriteZero));
     }
     status::read(from, input, have)
 }
 
 // A line that fills the buffer is too long, and is answered once: what comes of it then is passed over as a remark.
 fn too_long(host: Host, input: &[u8], have: usize, output: &mut Output) -> Host {
-    if have < input.len() {
+    if have < input.len() || input.starts_with(b"#") {
         return host;
     }
-    if script::first(input) == b'#' {
-        return host;
-    }
-    say::no_call(output);
-    host.with_room(ENOUGH)
+    host::no_line(host, output)
 }
 
-// What a turn leaves: the bytes in the buffer, unless the input has ended.
+// What a turn leaves, with how many bytes there are in the buffer.
 #[derive(Drop)]
 struct Turned {
     world: World,
     have: usize,
-    ended: bool,
 }
 
 // What comes after the lines that were gone through stays for the next turn.
-fn kept(
-    world: World,
-    whole: usize,
-    more: usize,
-    ended: bool,
-    input: &mut Line,
-    output: &mut Output,
-) -> Turned {
+fn kept(world: World, whole: usize, more: usize, input: &mut Line, output: &mut Output) -> Turned {
     let left = script::shift(input, whole, more);
     let host = too_long(world.host, input, left, output);
     let have = script::shortened(input, left);
     let world = world.with_host(host);
-    Turned { world, have, ended }
+    Turned { world, have }
 }
 
-// The end of the lines to go through: of those that are there whole, and of the last where nothing came after it. A read that failed ends
-// no line.
-fn reached(input: &[u8], have: usize, got: Input) -> usize {
-    if got.failed {
-        return 0;
-    }
-    if got.length <= have {
+// The end of the lines to go through: of those that are there whole, and of the last where nothing came after it.
+fn reached(input: &[u8], have: usize, more: usize) -> usize {
+    if more <= have {
         return have;
     }
-    script::last_line(input, got.length)
+    script::last_line(input, more)
 }
 
 // After a read.
 fn turn(
     world: World,
     have: usize,
-    got: Input,
+    more: usize,
     input: &mut Line,
     file: &mut File,
     old: &mut File,
     scratch: &mut Line,
     output: &mut Output,
 ) -> Turned {
-    let whole = reached(input, have, got);
+    let whole = reached(input, have, more);
     let world = lines(world, input, whole, file, old, scratch, output);
-    let more = got.length;
-    kept(world, whole, more, more <= have, input, output)
+    kept(world, whole, more, input, output)
 }
 
-// Whether the input was read to its end. A proved loop has to end, and nothing says that the input does: the turns are more than any
+// Reads the input to its end. A proved loop has to end, and nothing says that the input does: the turns are more than any
 // input has bytes.
 fn run(
     from: &mut impl Read,
@@ -213,37 +191,39 @@ fn run(
     old: &mut File,
     scratch: &mut Line,
     output: &mut Output,
-) -> bool {
+) -> io::Result<()> {
     let mut world = World::fresh();
     let mut have: usize = 0;
     for _ in 0..u64::MAX {
-        let got = read(from, input, have, output);
-        let done = turn(world, have, got, input, file, old, scratch, output);
-        if done.ended {
-            return !got.failed;
+        let more = read(from, input, have, output)?;
+        let done = turn(world, have, more, input, file, old, scratch, output);
+        if more <= have {
+            return Ok(());
         }
         world = done.world;
         have = done.have;
     }
-    false
+    Err(io::Error::from(ErrorKind::FileTooLarge))
 }
 
 // Where a write failed nothing was read any more.
-fn ending(rt: &impl Eprint, whole: bool, output: &Output) -> Status {
+fn ending(rt: &impl Eprint, whole: io::Result<()>, output: &Output) -> Status {
     if output::failed(output) {
         return status::unwritable(rt);
     }
-    if !whole {
-        return status::unreadable(rt);
+    match whole {
+        Ok(()) => Status::Done,
+        Err(_) => status::unreadable(rt),
     }
-    Status::Done
 }
 
-fn main(rt: HostRuntime) -> ExitCode {
-    let mut input = script::line_buffer();
-    let mut scratch = script::line_buffer();
-    let mut file = script::file_buffer();
-    let mut old = script::file_buffer();
+fn main(rt: HostRuntime) -> Status {
+    // The longest line, and its newline.
+    let mut input: Line = script::buffer();
+    let mut scratch: Line = script::buffer();
+    // As many bytes as a line can write to a file, and as a manager appends to it.
+    let mut file: File = script::buffer();
+    let mut old: File = script::buffer();
     let mut output = output::empty(rt.stdout());
     let whole = run(
         &mut rt.stdin(),
@@ -254,5 +234,5 @@ fn main(rt: HostRuntime) -> ExitCode {
         &mut output,
     );
     output::flush(&mut output);
-    status::tell(ending(&rt, whole, &output))
+    ending(&rt, whole, &output)
 }

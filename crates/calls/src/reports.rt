@@ -3,7 +3,6 @@ use crate::world::World;
 use answers::output::Output;
 use answers::say;
 use pins::PinBook;
-use script::Found;
 use version_manager::VersionManager;
 
 // What a report leaves.
@@ -32,9 +31,9 @@ fn landed(world: World, n: usize, output: &mut Output) -> World {
 }
 
 pub fn report(world: World, s: &[u8], output: &mut Output) -> World {
-    match script::one(s, 18446744073709551615) {
-        Found::Of(n) => landed(world, script::long(n), output),
-        Found::Nothing => {
+    match script::one(s) {
+        Some(n) => landed(world, n, output),
+        None => {
             say::no_call(output);
             world
         }

@@ -36,17 +36,17 @@ fn checkpointed(answer: Result<usize, Refusal>, output: &mut Output) -> usize {
 
 // The file is kept, and the rewritten manifest takes its place.
 fn replaced(len: usize, n: usize, out: &[u8], file: &mut [u8], old: &mut [u8]) -> Host {
-    let len = script::least(len, file.len());
+    let len = len.min(file.len());
     let kept = script::copy(&file[..len], old);
-    let n = script::least(n, out.len());
+    let n = n.min(out.len());
     let n = script::copy(&out[..n], file);
     Host::replaced(kept, n)
 }
 
 // The file is opened; of what is lent for the rewritten manifest so much is used as the room allows.
 fn opened(file: &[u8], len: usize, out: &mut [u8], room: usize) -> Reopened {
-    let len = script::least(len, file.len());
-    let n = script::least(room, out.len());
+    let len = len.min(file.len());
+    let n = room.min(out.len());
     storage::bootstrap(&file[..len], &mut out[..n])
 }
 
@@ -99,7 +99,7 @@ struct Rewritten {
 
 // Of what is lent so much is used as the room allows.
 fn taken(manager: VersionManager, out: &mut [u8], room: usize) -> Checkpointed {
-    let n = script::least(room, out.len());
+    let n = room.min(out.len());
     manager.checkpoint(&mut out[..n])
 }
 

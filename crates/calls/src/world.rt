@@ -3,7 +3,7 @@ use pins::PinBook;
 use version_manager::VersionManager;
 
 // Room that is more than any output is lent.
-pub const ENOUGH: usize = 18446744073709551615;
+pub const ENOUGH: usize = usize::MAX;
 
 // The buffers by their arrays: of a slice each function that is lent it has to prove that its length stays. A line, and the file or the one
 // that it replaced.
@@ -18,9 +18,8 @@ pub struct Host {
     // Where the last append begins and ends, both the file's end where there was none.
     pub start: usize,
     pub end: usize,
-    // Whether the file that the last accepted reopen or checkpoint replaced is kept for `stale`, and its length.
-    pub kept: bool,
-    pub old: usize,
+    // The length of the file that the last accepted reopen or checkpoint replaced, where it is kept for `stale`.
+    pub old: Option<usize>,
     // The room that the next answered call is lent for each of its outputs.
     pub room: usize,
 }
@@ -34,10 +33,7 @@ pub struct World {
 
 // So many places on from `start`, and not past `end`.
 fn place(start: usize, n: usize, end: usize) -> usize {
-    if end <= start {
-        return start;
-    }
-    start + script::least(n, end - start)
+    start + n.min(end.saturating_sub(start))
 }
 
 impl Host {
@@ -47,8 +43,7 @@ impl Host {
             len,
             start: len,
             end: len,
-            kept: false,
-            old: 0,
+            old: None,
             room: ENOUGH,
         }
     }
@@ -59,8 +54,7 @@ impl Host {
             len,
             start: len,
             end: len,
-            kept: true,
-            old,
+            old: Some(old),
             room: ENOUGH,
         }
     }
@@ -72,8 +66,7 @@ impl Host {
             len: end,
             start,
             end,
-            kept: false,
-            old: 0,
+            old: None,
             room: ENOUGH,
         }
     }

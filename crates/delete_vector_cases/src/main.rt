@@ -4,8 +4,8 @@
 use delete_vector::{Held, Loaded, Masked, Written};
 use ids::RowNo;
 use ids::refusal::Refusal;
+use status::Status;
 use std::io;
-use std::process::ExitCode;
 
 fn say(rt: &impl Print, word: &str, n: usize) -> io::Result<()> {
     println!(rt; "{word},{n}")
@@ -267,6 +267,6 @@ fn run(rt: &impl Print) -> io::Result<()> {
     masks(rt)
 }
 
-fn main(rt: HostRuntime) -> ExitCode {
-    status::tell(status::printed(&rt, run(&rt)))
+fn main(rt: HostRuntime) -> Status {
+    status::printed(&rt, run(&rt))
 }

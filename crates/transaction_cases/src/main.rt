@@ -7,8 +7,8 @@ ghost use Rattle.std.specs.Prelude.{◌≤◌};
 use ids::limits::{LARGEST_32, LARGEST_64};
 use ids::refusal::Refusal;
 use ids::{RowNo, RowsetNo, SecondaryRowHandler, VectorNo};
+use status::Status;
 use std::io;
-use std::process::ExitCode;
 use transaction::{Handles, MOST_HANDLES};
 use version_manager::{NewVectors, VersionManager};
 
@@ -411,6 +411,6 @@ fn run(rt: &impl Print) -> io::Result<()> {
     large(rt)
 }
 
-fn main(rt: HostRuntime) -> ExitCode {
-    status::tell(status::printed(&rt, run(&rt)))
+fn main(rt: HostRuntime) -> Status {
+    status::printed(&rt, run(&rt))
 }
