@@ -8,9 +8,8 @@ use ids::limits::LONGEST_NAME;
 use ids::name::Name;
 use ids::{RowsetNo, TableNo, VectorNo};
 use manifest::operation::{Change, EpochOp, ManifestOperation, ParsedLine};
-use manifest::reader::LineAt;
+use status::Status;
 use std::io;
-use std::process::ExitCode;
 
 fn show_change(rt: &impl Print, change: Change) -> io::Result<()> {
     let n = manifest::printer::text_length(change);
@@ -47,16 +46,12 @@ fn show(rt: &impl Print, classes: &[u8; 256], s: &[u8]) -> io::Result<()>
 
 fn show_all(rt: &impl Print, s: &[u8]) -> io::Result<()> {
     let classes = text::classes();
-    let mut at: usize = 0;
-    loop {
-        match manifest::reader::line_at(&classes, s, at) {
-            LineAt::Line { start, end, next } => {
-                show(rt, &classes, &s[start..end])?;
-                at = next;
-            }
-            LineAt::None => return Ok(()),
+    for line in s.split_inclusive(|b| *b == b'\n') {
+        if let Some(line) = line.strip_suffix(b"\n") {
+            show(rt, &classes, line)?;
         }
     }
+    Ok(())
 }
 
 // A create with the first `len` of as many bytes `a` as a name may have.
@@ -114,11 +109,10 @@ fn run(rt: &impl Print, s: &[u8]) -> io::Result<()> {
     show_changes(rt)
 }
 
-fn main(rt: HostRuntime) -> ExitCode {
+fn main(rt: HostRuntime) -> Status {
     let mut buffer = [0u8; 4096];
-    let input = status::read_all(&mut rt.stdin(), &mut buffer);
-    if input.failed {
-        return status::tell(status::unreadable(&rt));
+    match status::read_all(&mut rt.stdin(), &mut buffer) {
+        Ok(n) => status::printed(&rt, run(&rt, &buffer[..n])),
+        Err(_) => status::unreadable(&rt),
     }
-    status::tell(status::printed(&rt, run(&rt, &buffer[..input.length])))
 }
