@@ -9,68 +9,50 @@ pub fn say(rt: &impl Print, s: &[u8]) -> io::Result<()> {
     rt.write_all(s)
 }
 
-fn number(rt: &impl Print, n: usize) -> io::Result<()> {
-    print!(rt; "{n}")
-}
+// The length where accepted, else the refusal's number and place.
+type Told = Result<usize, (u32, usize)>;
 
-// Number 0 and the length where accepted, else the refusal's number and place.
-#[derive(Clone, Copy)]
-struct Told {
-    number: u32,
-    value: usize,
-}
-
-fn refused(refusal: Refusal) -> Told {
-    Told {
-        number: refusal.number(),
-        value: refusal.place(),
-    }
+fn refused(refusal: Refusal) -> (u32, usize) {
+    (refusal.number(), refusal.place())
 }
 
 fn reopened(src: &[u8], out: &mut [u8]) -> Told {
     let opened = storage::bootstrap(src, out);
     match opened.answer {
-        Ok(n) => Told {
-            number: 0,
-            value: n,
-        },
-        Err(refusal) => refused(refusal),
+        Ok(n) => Ok(n),
+        Err(refusal) => Err(refused(refusal)),
     }
 }
 
 // A blank for a newline.
 fn byte(rt: &impl Print, b: u8) -> io::Result<()> {
-    if b == b'\n' {
-        say(rt, b" ")
-    } else {
-        say(rt, &[b])
+    match b {
+        b'\n' => say(rt, b" "),
+        _ => say(rt, &[b]),
     }
 }
 
 // The first n bytes, their last newline left out; and `altered` if another byte is not as it was lent.
 fn output(rt: &impl Print, out: &[u8], n: usize) -> io::Result<()> {
-    for i in 0..out.len() {
-        if i + 1 < n {
-            byte(rt, out[i])?;
+    let (text, rest) = out.split_at(n.min(out.len()));
+    if let Some((_, text)) = text.split_last() {
+        for b in text {
+            byte(rt, *b)?;
         }
-        if n <= i {
-            if out[i] != b'.' {
-                return say(rt, b" altered");
-            }
-        }
+    }
+    if rest.iter().any(|b| *b != b'.') {
+        say(rt, b" altered")?;
     }
     Ok(())
 }
 
 fn answer(rt: &impl Print, t: Told, out: &[u8]) -> io::Result<()> {
-    if t.number == 0 {
-        output(rt, out, t.value)?;
-    } else {
-        say(rt, b"refused,")?;
-        number(rt, t.number as usize)?;
-        say(rt, b",")?;
-        number(rt, t.value)?;
-        output(rt, out, 0)?;
+    match t {
+        Ok(n) => output(rt, out, n)?,
+        Err((number, place)) => {
+            print!(rt; "refused,{number},{place}")?;
+            output(rt, out, 0)?;
+        }
     }
     say(rt, b"\n")
 }
@@ -88,21 +70,11 @@ pub fn plain(rt: &impl Print, src: &[u8], room: usize) -> io::Result<()> {
     Ok(())
 }
 
-fn same(a: &[u8], b: &[u8]) -> bool {
-    a == b
-}
-
 // Whether a reopen of src answers and writes the same.
 fn as_before(src: &[u8], t: Told, first: &[u8]) -> bool {
     let mut out = [b'.'; LONGEST_REWRITTEN];
     let u = reopened(src, &mut out);
-    if u.number != t.number {
-        return false;
-    }
-    if u.value != t.value {
-        return false;
-    }
-    same(first, &out)
+    u == t && first == out.as_slice()
 }
 
 // Internal, as is the next: the place is in the manifest. The first cut, from `before` up to the whole, at which a reopen does not

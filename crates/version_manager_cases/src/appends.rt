@@ -51,12 +51,12 @@ fn compacted(
     out: &mut [u8],
 ) -> io::Result<()> {
     let manager = made::manager(numbers);
-    let table = TableNo(script::narrow(f[1]));
-    let taken = [script::narrow(f[2]); 1];
+    let table = TableNo(made::narrow(f[1]));
+    let taken = [made::narrow(f[2])];
     let new = if letter == b'y' {
         NewRowset::None
     } else {
-        NewRowset::One(RowsetNo(script::narrow(f[3])))
+        NewRowset::One(RowsetNo(made::narrow(f[3])))
     };
     committed(rt, manager.compact(table, new, &taken, out))
 }
@@ -76,7 +76,7 @@ fn answered(
         b'c' => committed(rt, manager.commit(made::batch(f[3], name), out)),
         b'i' => committed(rt, manager.commit_lines(b"A,0,4\n", out)),
         b'k' => created(rt, manager.create(7, name, out)),
-        b'x' => committed(rt, manager.drop(TableNo(script::narrow(f[1])), out)),
+        b'x' => committed(rt, manager.drop(TableNo(made::narrow(f[1])), out)),
         b'h' => checkpointed(rt, manager.checkpoint(out)),
         _ => compacted(rt, numbers, letter, f, out),
     }
@@ -95,6 +95,6 @@ fn into(
 
 pub fn call(rt: &impl Print, numbers: &[u64], letter: u8, f: [u64; 6]) -> io::Result<()> {
     let mut out = [b'.'; ROOM];
-    let room = script::least(script::long(f[0]), ROOM);
+    let room = ROOM.min(f[0] as usize);
     into(rt, numbers, letter, f, &mut out[..room])
 }

@@ -56,12 +56,9 @@ fn report(
 // The epochs and their counts, as far as there are places.
 fn printed(rt: &impl Print, book: PinBook) -> io::Result<()> {
     say::number(rt, "; pins ", book.count as u64)?;
-    for i in 0..64 {
-        if i < book.count {
-            let x = book.items[i];
-            say::number32(rt, " ", x.epoch)?;
-            say::number(rt, ":", x.count as u64)?;
-        }
+    for x in book.items.iter().take(book.count) {
+        say::number32(rt, " ", x.epoch)?;
+        say::number(rt, ":", u64::from(x.count))?;
     }
     Ok(())
 }
@@ -111,19 +108,14 @@ fn reported(rt: &impl Print, numbers: &[u64], landed: u64) -> io::Result<()> {
         rt,
         made::manager(numbers),
         made::book(numbers),
-        script::long(landed),
+        landed as usize,
     )
 }
 
 pub fn call(rt: &impl Print, numbers: &[u64], letter: u8, f: [u64; 6]) -> io::Result<()> {
     match letter {
         b'q' => reported(rt, numbers, f[0])?,
-        b'r' | b'w' | b'l' | b'o' | b'n' | b'm' => plain(
-            rt,
-            numbers,
-            letter,
-            script::narrow(f[0]),
-        )?,
+        b'r' | b'w' | b'l' | b'o' | b'n' | b'm' => plain(rt, numbers, letter, made::narrow(f[0]))?,
         b'u' | b'p' | b'v' | b't' | b's' => shows::call(rt, numbers, letter, f)?,
         _ => appends::call(rt, numbers, letter, f)?,
     }

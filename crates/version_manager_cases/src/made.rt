@@ -9,6 +9,7 @@ use pins::{Pin, PinBook};
 use snapshot::rowsets::Rowsets;
 use snapshot::tables::Tables;
 use snapshot::vectors::Vectors;
+use std::array;
 use version_manager::VersionManager;
 use version_state::{NextIds, VersionManagerInner};
 
@@ -42,18 +43,18 @@ pub fn place(letter: u8, digit: u8) -> usize
         b'n' => 2,
         b'c' => 5,
         b'k' => 8,
-        b't' => script::least(TABLES + 4 * i, ALL),
-        b'p' => script::least(ROWSETS + 4 * i, ALL),
-        b'v' => script::least(VECTORS + 5 * i, ALL),
+        b't' => ALL.min(TABLES + 4 * i),
+        b'p' => ALL.min(ROWSETS + 4 * i),
+        b'v' => ALL.min(VECTORS + 5 * i),
         b'a' => APPEND,
         b'E' => FORMER,
         b'M' => FORMER + 1,
         b'N' => FORMER + 2,
         b'C' => FORMER + 5,
-        b'T' => script::least(FORMER + TABLES + 4 * i, ALL),
-        b'P' => script::least(FORMER + ROWSETS + 4 * i, ALL),
-        b'V' => script::least(FORMER + VECTORS + 5 * i, ALL),
-        _ => script::least(PINS + 2 * i, ALL),
+        b'T' => ALL.min(FORMER + TABLES + 4 * i),
+        b'P' => ALL.min(FORMER + ROWSETS + 4 * i),
+        b'V' => ALL.min(FORMER + VECTORS + 5 * i),
+        _ => ALL.min(PINS + 2 * i),
     }
 }
 
@@ -61,15 +62,17 @@ pub fn byte(n: u64) -> u8 {
     (n % 256) as u8
 }
 
+// 0 where it is too large.
+pub fn narrow(n: u64) -> u32 {
+    u32::try_from(n).unwrap_or(0)
+}
+
 fn at(numbers: &[u64], i: usize) -> u64 {
-    if i < numbers.len() {
-        return numbers[i];
-    }
-    0
+    numbers.get(i).copied().unwrap_or(0)
 }
 
 fn id_at(numbers: &[u64], i: usize) -> u32 {
-    script::narrow(at(numbers, i))
+    narrow(at(numbers, i))
 }
 
 // Its place is below 2.
@@ -169,7 +172,7 @@ fn inner(numbers: &[u64]) -> VersionManagerInner {
 }
 
 fn former(numbers: &[u64]) -> VersionManagerInner {
-    let from = script::least(FORMER, numbers.len());
+    let from = FORMER.min(numbers.len());
     inner(&numbers[from..])
 }
 
@@ -184,7 +187,7 @@ pub fn manager(numbers: &[u64]) -> VersionManager {
 
 // The first four places by their numbers; each after them has the epoch after its place, pinned once, and the last as often as it can be.
 fn pin(numbers: &[u64], i: usize) -> Pin {
-    let i = script::least(i, 63);
+    let i = i.min(63);
     if i < 4 {
         return Pin {
             epoch: id_at(numbers, PINS + 2 * i),
@@ -199,12 +202,8 @@ fn pin(numbers: &[u64], i: usize) -> Pin {
 }
 
 pub fn book(numbers: &[u64]) -> PinBook {
-    let mut items = [pin(numbers, 0); 64];
-    for i in 0..64 {
-        items[i] = pin(numbers, i);
-    }
     PinBook {
-        items,
+        items: array::from_fn(|i| pin(numbers, i)),
         count: at(numbers, 8) as usize,
     }
 }

@@ -5,8 +5,9 @@
 #![tactic(auto)]
 
 use made::ALL;
+use script::words::Words;
+use status::Status;
 use std::io;
-use std::process::ExitCode;
 
 mod appends;
 mod calls;
@@ -21,18 +22,23 @@ struct Numbers {
     first: [u64; ALL],
 }
 
+// What comes after a line's first word.
+fn after_word(s: &[u8]) -> &[u8] {
+    let mut words = Words(s);
+    words.next();
+    words.0
+}
+
 fn set(numbers: [u64; ALL], s: &[u8], letter: u8, digit: u8) -> [u64; ALL] {
     let mut n = numbers;
     let at = made::place(letter, digit);
-    let end = script::first_end(s);
-    script::sizes(&s[end..], &mut n[at..]);
+    script::sizes(after_word(s), &mut n[at..]);
     n
 }
 
 fn call(rt: &impl Print, numbers: &[u64], s: &[u8], letter: u8) -> io::Result<()> {
     let mut f = [0u64; 6];
-    let end = script::first_end(s);
-    script::sizes(&s[end..], &mut f);
+    script::sizes(after_word(s), &mut f);
     say::say(rt, s)?;
     calls::call(rt, numbers, letter, f)
 }
@@ -40,22 +46,19 @@ fn call(rt: &impl Print, numbers: &[u64], s: &[u8], letter: u8) -> io::Result<()
 fn line(rt: &impl Print, numbers: Numbers, s: &[u8]) -> io::Result<Numbers> {
     let now = numbers.now;
     let first = numbers.first;
-    if s.len() < 2 {
-        return Ok(Numbers { now, first: now });
-    }
-    let letter = s[0];
-    match letter {
-        b'#' => {
+    match s {
+        [] | [_] => Ok(Numbers { now, first: now }),
+        [b'#', ..] => {
             say::say(rt, s)?;
             say::say(rt, b"\n")?;
             Ok(Numbers { now: first, first })
         }
-        b'!' => {
-            call(rt, &now, s, s[1])?;
+        [b'!', letter, ..] => {
+            call(rt, &now, s, *letter)?;
             Ok(numbers)
         }
-        _ => Ok(Numbers {
-            now: set(now, s, letter, s[1]),
+        [letter, digit, ..] => Ok(Numbers {
+            now: set(now, s, *letter, *digit),
             first,
         }),
     }
@@ -66,20 +69,16 @@ fn run(rt: &impl Print, s: &[u8]) -> io::Result<()> {
         now: [0; ALL],
         first: [0; ALL],
     };
-    let mut at: usize = 0;
-    while at < s.len() {
-        let end = script::line_end(s, at, s.len());
-        numbers = line(rt, numbers, &s[at..end])?;
-        at = end + 1;
+    for s in s.split(|b| *b == b'\n') {
+        numbers = line(rt, numbers, s)?;
     }
     Ok(())
 }
 
-fn main(rt: HostRuntime) -> ExitCode {
+fn main(rt: HostRuntime) -> Status {
     let mut buffer = [0u8; 65536];
-    let input = status::read_all(&mut rt.stdin(), &mut buffer);
-    if input.failed {
-        return status::tell(status::unreadable(&rt));
+    match status::read_all(&mut rt.stdin(), &mut buffer) {
+        Ok(n) => status::printed(&rt, run(&rt, &buffer[..n])),
+        Err(_) => status::unreadable(&rt),
     }
-    status::tell(status::printed(&rt, run(&rt, &buffer[..input.length])))
 }

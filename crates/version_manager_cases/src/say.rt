@@ -1,6 +1,7 @@
 // What is printed.
 use ids::limits::MOST_HELD;
 use ids::refusal::Refusal;
+use std::fmt::Display;
 use std::io;
 use version_manager::VersionManager;
 
@@ -13,16 +14,11 @@ pub fn number(rt: &impl Print, word: &str, n: u64) -> io::Result<()> {
 }
 
 pub fn number32(rt: &impl Print, word: &str, n: u32) -> io::Result<()> {
-    number(rt, word, n as u64)
+    number(rt, word, u64::from(n))
 }
 
 pub fn refusal(rt: &impl Print, why: Refusal) -> io::Result<()> {
-    number32(rt, " refused ", why.number())?;
-    number(rt, " place ", why.place() as u64)
-}
-
-fn three(rt: &impl Print, word: &str, a: u64, b: u64, c: u64) -> io::Result<()> {
-    print!(rt; "{word}{a},{b},{c}")
+    print!(rt; " refused {} place {}", why.number(), why.place())
 }
 
 fn lock(rt: &impl Print, locked: bool) -> io::Result<()> {
@@ -46,21 +42,14 @@ fn kept(rt: &impl Print, append: usize, epoch: u32, manifest: usize) -> io::Resu
 pub fn state(rt: &impl Print, manager: &VersionManager) -> io::Result<()> {
     let held = &manager.inner;
     let next = held.next;
-    number32(rt, "; epoch ", held.epoch)?;
-    number(rt, " manifest ", held.manifest as u64)?;
-    three(
-        rt,
-        " next ",
-        next.table.0 as u64,
-        next.rowset.0 as u64,
-        next.vector.0,
+    print!(rt; "; epoch {} manifest {}", held.epoch, held.manifest)?;
+    print!(rt;
+        " next {},{},{}",
+        next.table.0, next.rowset.0, next.vector.0
     )?;
-    three(
-        rt,
-        " held ",
-        held.tables.count as u64,
-        held.rowsets.count as u64,
-        held.vectors.count as u64,
+    print!(rt;
+        " held {},{},{}",
+        held.tables.count, held.rowsets.count, held.vectors.count
     )?;
     lock(rt, held.tables.locked[0])?;
     lock(rt, held.tables.locked[1])?;
@@ -75,7 +64,7 @@ pub fn state(rt: &impl Print, manager: &VersionManager) -> io::Result<()> {
 }
 
 fn deletions(rt: &impl Print, deleted: &[u32; MOST_HELD]) -> io::Result<()> {
-    let [a, b, c, d, e] = [deleted[0], deleted[1], deleted[2], deleted[3], deleted[4]];
+    let [a, b, c, d, e, ..] = deleted;
     print!(rt; " deleted {a},{b},{c},{d},{e}")
 }
 
@@ -84,15 +73,7 @@ pub fn bytes(rt: &impl Print, out: &[u8]) -> io::Result<()> {
     say(rt, out)
 }
 
-pub fn numbers32(rt: &impl Print, out: &[u32]) -> io::Result<()> {
-    say(rt, b" |")?;
-    for n in out {
-        print!(rt; " {n}")?;
-    }
-    Ok(())
-}
-
-pub fn numbers64(rt: &impl Print, out: &[u64]) -> io::Result<()> {
+pub fn numbers<T: Display>(rt: &impl Print, out: &[T]) -> io::Result<()> {
     say(rt, b" |")?;
     for n in out {
         print!(rt; " {n}")?;

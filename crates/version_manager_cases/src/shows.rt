@@ -77,10 +77,10 @@ fn into(
     names: &mut [u8],
 ) -> io::Result<()> {
     answered(rt, numbers, letter, first, a, b, c, vectors, names)?;
-    say::numbers32(rt, a)?;
-    say::numbers32(rt, b)?;
-    say::numbers32(rt, c)?;
-    say::numbers64(rt, vectors)?;
+    say::numbers(rt, a)?;
+    say::numbers(rt, b)?;
+    say::numbers(rt, c)?;
+    say::numbers(rt, vectors)?;
     say::bytes(rt, names)
 }
 
@@ -91,16 +91,16 @@ pub fn call(rt: &impl Print, numbers: &[u64], letter: u8, f: [u64; 6]) -> io::Re
     let mut c = [88u32; 8];
     let mut vectors = [1u64; 8];
     let mut names = [b'.'; 80];
-    let i = script::least(script::long(f[1]), 8);
-    let j = script::least(script::long(f[2]), 8);
-    let k = script::least(script::long(f[3]), 8);
-    let l = script::least(script::long(f[4]), 8);
-    let n = script::least(script::long(f[5]), 80);
+    let i = (f[1] as usize).min(8);
+    let j = (f[2] as usize).min(8);
+    let k = (f[3] as usize).min(8);
+    let l = (f[4] as usize).min(8);
+    let n = (f[5] as usize).min(80);
     into(
         rt,
         numbers,
         letter,
-        script::narrow(f[0]),
+        made::narrow(f[0]),
         &mut a[..i],
         &mut b[..j],
         &mut c[..k],
