@@ -82,23 +82,18 @@ fn vacuum(
     vacuum_into(manager, book, &mut tables[..n], &mut rowsets[..n], output)
 }
 
-fn relocked(manager: VersionManager, table: TableNo, held: bool) -> Locked {
-    if held {
-        return manager.lock(table);
-    }
-    manager.unlock(table)
-}
-
-fn relock(
+fn relock<F: FnOnce(VersionManager, TableNo) -> Locked + Drop>(
     manager: VersionManager,
     s: &[u8],
-    held: bool,
+    step: F,
     word: &[u8],
     output: &mut Output,
-) -> VersionManager {
+) -> VersionManager
+    requires { F.IsAlwaysCallable step }
+{
     match script::one(s) {
         Some(n) => {
-            let done = relocked(manager, TableNo(n), held);
+            let done = step(manager, TableNo(n));
             let answer = done.answer;
             say::accepted(word, answer, output);
             done.manager
@@ -121,8 +116,14 @@ pub fn managed(
     match word {
         Managed::Draw => draw(manager, s, output),
         Managed::Vacuum => vacuum(manager, book, s, room, output),
-        Managed::Lock => relock(manager, s, true, b"locked\n", output),
-        Managed::Unlock => relock(manager, s, false, b"unlocked\n", output),
+        Managed::Lock => relock(manager, s, |m, table| m.lock(table), b"locked\n", output),
+        Managed::Unlock => relock(
+            manager,
+            s,
+            |m, table| m.unlock(table),
+            b"unlocked\n",
+            output,
+        ),
         Managed::Group => group::group(manager, s, room, output),
     }
 }
