@@ -12,6 +12,7 @@ ghost use Rattle.commit.specs.Laws.{CommitLaws};
 
 use ids::limits::{LAST_EPOCH, LONGEST_MANIFEST, MOST_OPERATIONS};
 use ids::refusal::Refusal;
+use text::ByteClasses;
 use version_state::VersionManagerInner;
 
 mod lines;
@@ -51,7 +52,7 @@ pub fn commit_lines(
     requires manifest { inner.old.manifest ≤ longest_manifest }
     ensures { CommitIs (commit_of (state_of inner.old) (length (operations_in ops.now)) (operations_in ops.now) (length out.old)) (operations_in ops.now) out.old result inner.new out.new }
 {
-    let classes = text::classes();
+    let classes = ByteClasses::new();
     if MOST_OPERATIONS < lines::count(&classes, ops) {
         return Err(Refusal::TooManyOperations(0));
     }

@@ -2,24 +2,22 @@
 ghost use Rattle.std.specs.Prelude.{◌≡◌, map, ◌*◌, ◌≤◌, length};
 ghost use Rattle.lists.specs.Written.{Wrote};
 ghost use Rattle.ids.specs.Limits.{most_operations, longest_line};
-ghost use Rattle.text.specs.Class.{Classes};
 ghost use Rattle.manifest.specs.Operations.{operation_of, batch_of};
 ghost use Rattle.frames.specs.Frames.{texts_of};
 ghost use Rattle.commit.specs.Lent.{as_line};
 
 use ids::limits::LINE_BYTES;
-use ids::name::Name;
-use manifest::operation::{Batch, Change};
+use manifest::operation::{Batch, EpochOp};
+use text::ByteClasses;
 
 // An operation that is not well formed becomes `N`, which is refused at its place as that one is.
-fn as_line(classes: &[u8; 256], change: Change) -> Change
-    requires { Classes classes.now }
+fn as_line(classes: &ByteClasses, change: EpochOp) -> EpochOp
     ensures { operation_of result ≡ as_line (operation_of change) }
 {
     if change.well_formed(classes) {
         return change;
     }
-    crate::lines::none(Name::none())
+    crate::lines::none()
 }
 
 // Room for the lines of any batch.
@@ -34,7 +32,7 @@ pub fn put_lines(out: &mut [u8], batch: Batch) -> usize
     requires { (batch.count ≤ most_operations) × (most_operations * longest_line ≤ length out.old) }
     ensures { Wrote out.old 0 (texts_of (map as_line (batch_of batch))) out.new result }
 {
-    let classes = text::classes();
+    let classes = ByteClasses::new();
     let count = batch.count;
     let mut at: usize = 0;
     let mut i = 0;

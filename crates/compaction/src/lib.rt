@@ -20,10 +20,9 @@ ghost use Rattle.table.specs.Says.{MadeIs};
 ghost use Rattle.compaction.specs.New.{new_of};
 
 use ids::limits::{LAST_EPOCH, LONGEST_MANIFEST, MOST_HELD, MOST_OPERATIONS, MOST_TABLES};
-use ids::name::Name;
 use ids::refusal::Refusal;
 use ids::{RowsetNo, TableNo};
-use manifest::operation::{Change, EpochOp};
+use manifest::operation::EpochOp;
 use table::Made;
 use version_state::VersionManagerInner;
 
@@ -103,17 +102,7 @@ impl NewRowset {
     {
         match self {
             NewRowset::None => at,
-            NewRowset::One(r) => {
-                let name = Name::none();
-                frames::put_line(
-                    out,
-                    at,
-                    Change {
-                        op: EpochOp::AddRowSet(table, r),
-                        name,
-                    },
-                )
-            }
+            NewRowset::One(r) => frames::put_line(out, at, EpochOp::AddRowSet(table, r)),
         }
     }
 }

@@ -11,9 +11,8 @@ ghost use Rattle.operations.specs.Columns.{Rising};
 ghost use Rattle.table.specs.Made.{by_number};
 
 use ids::limits::{LARGEST_32, MOST_HELD};
-use ids::name::Name;
 use ids::{RowsetNo, TableNo};
-use manifest::operation::{Change, EpochOp};
+use manifest::operation::EpochOp;
 
 // Ids, each above the one before it.
 pub fn rising(taken: &[u32]) -> bool
@@ -86,19 +85,11 @@ pub fn put(out: &mut [u8], at: usize, table: TableNo, taken: &[u32]) -> usize
     requires { at + length (texts_of (map (delete_rowset table.0) taken.now)) ≤ length out.old }
     ensures { Wrote out.old at (texts_of (map (delete_rowset table.0) taken.now)) out.new result }
 {
-    let name = Name::none();
     let mut at = at;
     let mut i: usize = 0;
     while i < taken.len() {
         let rowset = RowsetNo(taken[i]);
-        at = frames::put_line(
-            out,
-            at,
-            Change {
-                op: EpochOp::DeleteRowSet(table, rowset),
-                name,
-            },
-        );
+        at = frames::put_line(out, at, EpochOp::DeleteRowSet(table, rowset));
         i += 1;
     }
     at

@@ -17,7 +17,7 @@ pub fn name(bytes: &[u8]) -> Name
     ensures { name_of result ≡ name_in bytes.now }
 {
     if LONGEST_NAME < bytes.len() {
-        return Name::none();
+        return Name::default();
     }
     Name::of(bytes)
 }

@@ -38,6 +38,12 @@ impl Name {
     {
         self.bytes.get(..self.len).unwrap_or(&[])
     }
+
+    pub fn length(self) -> usize
+        ensures { result ≡ length (name_of self) }
+    {
+        self.as_slice().len()
+    }
 }
 
 // The name that a change without one carries.

@@ -9,7 +9,7 @@ ghost use Rattle.operations.specs.Steps.{step_of};
 ghost use Rattle.operations.specs.Ready.{Ready, StepIs};
 
 use ids::refusal::Refusal;
-use manifest::operation::{Change, EpochOp};
+use manifest::operation::EpochOp;
 use version_state::VersionManagerInner;
 
 mod pairs;
@@ -27,15 +27,14 @@ pub fn step(
     inner: &mut VersionManagerInner,
     place: usize,
     epoch: u32,
-    change: Change,
+    change: EpochOp,
 ) -> Result<(), Refusal>
     requires well_formed { well_formed (operation_of change) ≡ true }
     requires ready { Ready inner.old }
     ensures { StepIs (step_of place epoch (operation_of change) (state_of inner.old)) result inner.new }
 {
-    let name = change.name;
-    match change.op {
-        EpochOp::CreateTable(table, shape) => tables::create(inner, place, table, shape, name),
+    match change {
+        EpochOp::CreateTable(table, shape, name) => tables::create(inner, place, table, shape, name),
         EpochOp::DropTable(table) => tables::drop(inner, place, table),
         EpochOp::AddRowSet(table, rowset) => pairs::add(inner, place, epoch, table, rowset),
         EpochOp::DeleteRowSet(table, rowset) => pairs::delete(inner, place, epoch, table, rowset),

@@ -18,7 +18,7 @@ use ids::limits::{LONGEST_REWRITTEN, MOST_HELD, MOST_TABLES, NAME_BYTES};
 use ids::name::Name;
 use ids::refusal::Refusal;
 use ids::{RowsetNo, TableNo, VectorNo};
-use manifest::operation::{Change, EpochOp};
+use manifest::operation::EpochOp;
 use version_state::{NextIds, VersionManagerInner};
 
 // After the rewritten manifest was handed out: its length, and the state whose manifest it is.
@@ -35,46 +35,31 @@ pub fn holds()
 {}
 
 // `N`.
-fn next_change(next: NextIds) -> Change
+fn next_change(next: NextIds) -> EpochOp
     ensures { (operation_of result ≡ next_ids next.table.0 next.rowset.0 next.vector.0) × (length (texts_of (operation_of result ∷ [])) ≤ longest_next) }
 {
-    let table = next.table;
-    let rowset = next.rowset;
-    let vector = next.vector;
-    Change {
-        op: EpochOp::NextIds(table, rowset, vector),
-        name: Name::none(),
-    }
+    EpochOp::NextIds(next.table, next.rowset, next.vector)
 }
 
 // `T`. Internal, as is what follows.
-pub fn create_change(table: u32, shape: u32, name: Name) -> Change
+pub fn create_change(table: u32, shape: u32, name: Name) -> EpochOp
     ensures { (operation_of result ≡ create_table table shape (name_of name)) × (length (texts_of (operation_of result ∷ [])) ≤ longest_create) }
 {
-    Change {
-        op: EpochOp::CreateTable(TableNo(table), shape),
-        name,
-    }
+    EpochOp::CreateTable(TableNo(table), shape, name)
 }
 
 // `A`.
-fn add_change(table: u32, rowset: u32) -> Change
+fn add_change(table: u32, rowset: u32) -> EpochOp
     ensures { (operation_of result ≡ add_rowset table rowset) × (length (texts_of (operation_of result ∷ [])) ≤ longest_add) }
 {
-    Change {
-        op: EpochOp::AddRowSet(TableNo(table), RowsetNo(rowset)),
-        name: Name::none(),
-    }
+    EpochOp::AddRowSet(TableNo(table), RowsetNo(rowset))
 }
 
 // `V`.
-fn add_vector_change(table: u32, rowset: u32, vector: u64) -> Change
+fn add_vector_change(table: u32, rowset: u32, vector: u64) -> EpochOp
     ensures { (operation_of result ≡ add_vector table rowset vector) × (length (texts_of (operation_of result ∷ [])) ≤ longest_add_vector) }
 {
-    Change {
-        op: EpochOp::AddDV(TableNo(table), RowsetNo(rowset), VectorNo(vector)),
-        name: Name::none(),
-    }
+    EpochOp::AddDV(TableNo(table), RowsetNo(rowset), VectorNo(vector))
 }
 
 // Internal, as is what follows: the counts are within the columns. The `T` lines, from a place on; a lock stands in no line.

@@ -19,7 +19,8 @@ use ids::TableNo;
 use ids::limits::{LARGEST_32, LAST_EPOCH, LONGEST_MANIFEST, MOST_TABLES};
 use ids::name::Name;
 use ids::refusal::Refusal;
-use manifest::operation::{Change, EpochOp};
+use manifest::operation::EpochOp;
+use text::ByteClasses;
 use version_state::VersionManagerInner;
 
 pub mod lines;
@@ -49,13 +50,10 @@ pub fn refused(refusal: Refusal) -> Made
 }
 
 // `X`.
-fn drop_change(table: TableNo) -> Change
+fn drop_change(table: TableNo) -> EpochOp
     ensures { (operation_of result ≡ drop_table table.0) × (length (texts_of (operation_of result ∷ [])) ≤ longest_line) }
 {
-    Change {
-        op: EpochOp::DropTable(table),
-        name: Name::none(),
-    }
+    EpochOp::DropTable(table)
 }
 
 // The lines of a drop, at the start of a buffer that has room for the longest; answers their length.
@@ -111,8 +109,7 @@ pub fn create(
     requires { (bad_inner inner ≡ false) × (longest_line ≤ length lines.old) }
     ensures { MadeIs (judged (create_rules (state_of inner) shape (name_of name) room)) (created_by (state_of inner) shape (name_of name)) lines.old result lines.new }
 {
-    let classes = text::classes();
-    if !text::valid_name(&classes, name) {
+    if !ByteClasses::new().is_name(name.as_slice()) {
         return refused(Refusal::Malformed(0));
     }
     if snapshot::tables::taken(

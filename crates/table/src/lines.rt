@@ -9,28 +9,21 @@ ghost use Rattle.snapshot.specs.Entries.{shown_at};
 ghost use Rattle.table.specs.Made.{delete_rowset_of, delete_vector_of, marked_rows};
 
 use ids::limits::MOST_HELD;
-use ids::name::Name;
 use ids::{RowsetNo, TableNo, VectorNo};
-use manifest::operation::{Change, EpochOp};
+use manifest::operation::EpochOp;
 
 // `D`.
-fn delete_change(table: u32, rowset: u32) -> Change
+fn delete_change(table: u32, rowset: u32) -> EpochOp
     ensures { (operation_of result ≡ delete_rowset table rowset) × (length (texts_of (operation_of result ∷ [])) ≤ longest_line) }
 {
-    Change {
-        op: EpochOp::DeleteRowSet(TableNo(table), RowsetNo(rowset)),
-        name: Name::none(),
-    }
+    EpochOp::DeleteRowSet(TableNo(table), RowsetNo(rowset))
 }
 
 // `W`.
-fn delete_vector_change(table: u32, rowset: u32, vector: u64) -> Change
+fn delete_vector_change(table: u32, rowset: u32, vector: u64) -> EpochOp
     ensures { (operation_of result ≡ delete_vector table rowset vector) × (length (texts_of (operation_of result ∷ [])) ≤ longest_line) }
 {
-    Change {
-        op: EpochOp::DeleteDV(TableNo(table), RowsetNo(rowset), VectorNo(vector)),
-        name: Name::none(),
-    }
+    EpochOp::DeleteDV(TableNo(table), RowsetNo(rowset), VectorNo(vector))
 }
 
 // The `D` lines of the marked rows, from a place on.

@@ -4,7 +4,7 @@ ghost use Rattle.std.specs.Prelude.{◌≤◌};
 use ids::limits::{LONGEST_NAME, MOST_HELD, MOST_OPERATIONS, MOST_TABLES, NAME_BYTES};
 use ids::name::Name;
 use ids::{RowsetNo, TableNo, VectorNo};
-use manifest::operation::{Batch, Change, EpochOp};
+use manifest::operation::{Batch, EpochOp};
 use pins::{Pin, PinBook};
 use snapshot::rowsets::Rowsets;
 use snapshot::tables::Tables;
@@ -216,28 +216,18 @@ pub fn name(byte: u8, len: u64) -> Name {
     }
 }
 
-fn plain(op: EpochOp) -> Change {
-    Change {
-        op,
-        name: Name::none(),
-    }
-}
-
 // One operation of each kind, of which the second creates table 10 and the sixth drops it; each after these is an `N`.
 pub fn batch(count: u64, name: Name) -> Batch {
     let t = TableNo(0);
     let new = RowsetNo(4);
     let old = RowsetNo(1);
-    let mut changes = [plain(EpochOp::NextIds(t, new, VectorNo(0))); MOST_OPERATIONS];
-    changes[0] = plain(EpochOp::AddRowSet(t, new));
-    changes[1] = Change {
-        op: EpochOp::CreateTable(TableNo(10), 7),
-        name,
-    };
-    changes[2] = plain(EpochOp::AddDV(t, new, VectorNo(7)));
-    changes[3] = plain(EpochOp::DeleteRowSet(t, old));
-    changes[4] = plain(EpochOp::DeleteDV(t, old, VectorNo(5)));
-    changes[5] = plain(EpochOp::DropTable(TableNo(10)));
+    let mut changes = [EpochOp::NextIds(t, new, VectorNo(0)); MOST_OPERATIONS];
+    changes[0] = EpochOp::AddRowSet(t, new);
+    changes[1] = EpochOp::CreateTable(TableNo(10), 7, name);
+    changes[2] = EpochOp::AddDV(t, new, VectorNo(7));
+    changes[3] = EpochOp::DeleteRowSet(t, old);
+    changes[4] = EpochOp::DeleteDV(t, old, VectorNo(5));
+    changes[5] = EpochOp::DropTable(TableNo(10));
     Batch {
         changes,
         count: count as usize,

@@ -7,6 +7,7 @@ ghost use Rattle.version_state.specs.Sound.{beyond_limits, out_of_order, above_o
 
 use crate::VersionManagerInner;
 use ids::limits::{LONGEST_MANIFEST, MOST_HELD, MOST_TABLES};
+use text::ByteClasses;
 
 impl VersionManagerInner {
     // Whether each live table's name is a name.
@@ -14,9 +15,9 @@ impl VersionManagerInner {
         requires { Fit self.now }
         ensures { result ≡ all_of (λ t. is_name t.name) (state_of self.now).tables }
     {
-        let classes = text::classes();
+        let classes = ByteClasses::new();
         for i in 0..self.tables.count {
-            if !text::is_name(&classes, self.tables.name(i)) {
+            if !classes.is_name(self.tables.name(i)) {
                 return false;
             }
         }

@@ -5,8 +5,5 @@ use Rattle.lists.proofs.Places.{known}
 use Rattle.rewrite.proofs.Room.{add-line}
 use Rattle.rewrite.proofs.add_change.Goals as goal
 
-pub none-requires : goal.none-requires
-none-requires c = search known
-
 pub returns : goal.returns
 returns c = (refl, add-line _ _ (omega arith) (omega arith))

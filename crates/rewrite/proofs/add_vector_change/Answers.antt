@@ -5,8 +5,5 @@ use Rattle.lists.proofs.Places.{known}
 use Rattle.rewrite.proofs.Room.{vector_line}
 use Rattle.rewrite.proofs.add_vector_change.Goals as goal
 
-pub none-requires : goal.none-requires
-none-requires c = search known
-
 pub returns : goal.returns
 returns c = (refl, vector_line _ _ (omega arith) (omega arith) _ (omega arith))
