@@ -20,7 +20,7 @@ use Rattle.ids.specs.declared.refusal.Refusal.TheVariants.{Malformed}
 use Rattle.ids.specs.Verdicts.{judged}
 use Rattle.ids.specs.Results.{and_then}
 use Rattle.ids.proofs.Verdicts.{none-judged}
-use Rattle.manifest.specs.declared.operation.Change.{Change}
+use Rattle.manifest.specs.declared.operation.EpochOp.{EpochOp}
 use Rattle.manifest.specs.Operations.{Operation, next_ids, operation, well_formed, well_line, operation_of}
 use Rattle.manifest.specs.Lines.{line_of, text_of, line_text}
 use Rattle.manifest.specs.Split.{lines, rest_on, joined}
@@ -53,7 +53,7 @@ pub lines-room : (os : List Operation) → length os ≤ most_operations → len
 lines-room os h = omega (arith, texts-short (map as_line os) (all-well os), length-map os as_line)
 
 -- a turn of a loop over the changes l, of which there are n
-pub line-turn : (l : List Change) (n i : ℕ) (d : Change) → i < n → n ≤ length l
+pub line-turn : (l : List EpochOp) (n i : ℕ) (d : EpochOp) → i < n → n ≤ length l
     → drop i (map as_line (map operation_of (take n l))) ≡ as_line (operation_of (get_or l i d)) ∷ drop (i + 1) (map as_line (map operation_of (take n l)))
 line-turn l n i d h k =
     let os = map operation_of (take n l) in

@@ -15,7 +15,8 @@ use Rattle.ids.specs.Verdicts.{judged}
 use Rattle.ids.specs.Results.{and_then}
 use Rattle.ids.proofs.Verdicts.{none-judged}
 use Rattle.text.specs.Class.{newline}
-use Rattle.manifest.specs.declared.reader.LineAt.TheVariants as found
+use Rattle.std.specs.Prelude.{Some, None}
+use Rattle.manifest.specs.declared.reader.LineAt.{LineAt}
 use Rattle.manifest.specs.Operations.{Operation, next_ids, Line, begin, end, torn, operation, bad, well_formed}
 use Rattle.manifest.specs.Lines.{line_of, text_of, line_text}
 use Rattle.manifest.specs.Split.{lines, lines_on, lines_from, rest_on, joined, line_at}
@@ -33,32 +34,32 @@ use Rattle.commit.specs.Lent.{operation_said, unended, operations_in}
 use Rattle.commit.proofs.Stepwise.{halt, step_given}
 
 -- The operations from a place on.
-module _ (s : List ℕ) (at start stop next : ℕ) (h : line_at s at ≡ found.Line start stop next) where
+module _ (s : List ℕ) (at : ℕ) (l : LineAt) (h : line_at s at ≡ Some l) where
   abbrev line_here : List ℕ
-  line_here = take (stop - start) (drop start s)
+  line_here = take (l.end - l.start) (drop l.start s)
 
-  text_at : drop at s ≡ line_here ++ (newline ∷ drop next s)
+  text_at : drop at s ≡ line_here ++ (newline ∷ drop l.next s)
   unfolding lines_from lines
   text_at =
-      let p = line-placed s at start stop next h in
+      let p = line-placed s at l h in
       let d = drop at s in
-      let rest = joined (lines (drop next s)) ++ rest_on [] d in
+      let rest = joined (lines (drop l.next s)) ++ rest_on [] d in
       let e : d ≡ line_here ++ (newline ∷ rest) =
-      sym (joined-lines [] d) ∙ ap (λ (ls : List (List ℕ)). joined ls ++ rest_on [] d) (lines_at s at start stop next h) ∙ append_assoc line_here (newline ∷ joined (lines (drop next s))) (rest_on [] d) in
-      let n : length line_here ≡ stop - start = simp (length-take, length-drop) (omega (arith, p.from, p.within, p.on, p.inside)) in
+      sym (joined-lines [] d) ∙ ap (λ (ls : List (List ℕ)). joined ls ++ rest_on [] d) (lines_at s at l h) ∙ append_assoc line_here (newline ∷ joined (lines (drop l.next s))) (rest_on [] d) in
+      let n : length line_here ≡ l.end - l.start = simp (length-take, length-drop) (omega (arith, p.from, p.within, p.on, p.inside)) in
       let t : drop (at + length line_here + 1) s ≡ rest = drop_past s (at + length line_here) (newline ∷ []) rest (drop_past s at line_here (newline ∷ rest) e) in
-      let q : at + length line_here + 1 ≡ next = omega (arith, n, p.from, p.within, p.on) in
+      let q : at + length line_here + 1 ≡ l.next = omega (arith, n, p.from, p.within, p.on) in
       e ∙ ap (λ (r : List ℕ). line_here ++ (newline ∷ r)) (sym (rw q at t))
 
-  rest_at : rest_on [] (drop at s) ≡ rest_on [] (drop next s)
+  rest_at : rest_on [] (drop at s) ≡ rest_on [] (drop l.next s)
   rest_at =
-      ap (rest_on []) (text_at ∙ sym (append_snoc line_here newline (drop next s)))
-      ∙ rest-on-append [] (line_here ++ (newline ∷ [])) (drop next s)
-      ∙ ap (λ (r : List ℕ). rest_on r (drop next s)) (rest_ended line_here)
+      ap (rest_on []) (text_at ∙ sym (append_snoc line_here newline (drop l.next s)))
+      ∙ rest-on-append [] (line_here ++ (newline ∷ [])) (drop l.next s)
+      ∙ ap (λ (r : List ℕ). rest_on r (drop l.next s)) (rest_ended line_here)
 
-  pub lent-line : operations_in (drop at s) ≡ operation_said (line_of line_here) ∷ operations_in (drop next s)
+  pub lent-line : operations_in (drop at s) ≡ operation_said (line_of line_here) ∷ operations_in (drop l.next s)
   unfolding operations_in lines_from
-  lent-line = ap₂ (λ (ls : List (List ℕ)) (r : List ℕ). map (λ l. operation_said (line_of l)) ls ++ unended r) (lines_at s at start stop next h) rest_at
+  lent-line = ap₂ (λ (ls : List (List ℕ)) (r : List ℕ). map (λ x. operation_said (line_of x)) ls ++ unended r) (lines_at s at l h) rest_at
 
 -- what a line is read as is well formed
 pub said-well : (l : List ℕ) → well_formed (operation_said (line_of l)) ≡ true
@@ -78,7 +79,7 @@ none_lent = refl
 pub lent-end : (s : List ℕ) (at : ℕ) → length s ≤ at → operations_in (drop at s) ≡ []
 lent-end s at h = rw (drop_of_length-le s {i = at} h) none_lent
 
-pub lent-rest : (s : List ℕ) (at : ℕ) → at < length s → line_at s at ≡ found.None → operations_in (drop at s) ≡ next_ids 0 0 0 ∷ operations_in (drop (length s) s)
+pub lent-rest : (s : List ℕ) (at : ℕ) → at < length s → line_at s at ≡ None → operations_in (drop at s) ≡ next_ids 0 0 0 ∷ operations_in (drop (length s) s)
 unfolding operations_in lines_from lines
 lent-rest s at w h =
     let none = lines_none s at h in

@@ -2,24 +2,11 @@
 use mathlib.Core.Path.{ap}
 use native.Mathlib.Omega.{arith}
 use lib.ListN.{length}
-use Rattle.lists.proofs.Places.{known}
 use Rattle.commit.proofs.Lent.{lent-end}
 use Rattle.commit.proofs.lines.count.Goals as goal
 
 pub loop-at-init : goal.loop-at-init
 loop-at-init c = (omega arith, omega arith, omega arith)
-
-pub after-at-requires : goal.after-at-requires
-after-at-requires c = search known
-
-pub overflow_add-n : goal.overflow_add-n
-overflow_add-n c = search known
-
-pub loop-at-smaller : goal.loop-at-smaller
-loop-at-smaller c = search known
-
-pub loop-at-preserved : goal.loop-at-preserved
-loop-at-preserved c = search known
 
 pub returns : goal.returns
 returns c =

@@ -1,21 +1,11 @@
 -- `commit::typed::as_line` meets its contract.
 use mathlib.Core.Path.{sym, ◌∙◌}
-use Rattle.lists.proofs.Places.{known}
 use Rattle.manifest.specs.Operations.{operation_of}
 use Rattle.commit.proofs.AsLines.{as-line-same, as-line-none}
 use Rattle.commit.proofs.typed.as_line.Goals as goal
 
-pub well_formed-requires : goal.well_formed-requires
-well_formed-requires c = search known
-
 pub returns-then-well_formed : goal.returns-then-well_formed
 returns-then-well_formed c = as-line-same (operation_of c.args.change) (sym c.well_formed-2.ensures ∙ c.if-well_formed.true)
 
-pub none-requires : goal.none-requires
-none-requires c = search known
-
-pub none-requires-2 : goal.none-requires-2
-none-requires-2 c = search known
-
 pub returns : goal.returns
-returns c = c.none-2.ensures ∙ as-line-none (operation_of c.args.change) (sym c.well_formed-2.ensures ∙ c.if-well_formed.false)
+returns c = c.none.ensures ∙ as-line-none (operation_of c.args.change) (sym c.well_formed-2.ensures ∙ c.if-well_formed.false)

@@ -15,23 +15,11 @@ use Rattle.commit.specs.Lent.{as_line}
 use Rattle.commit.proofs.AsLines.{lines-room, line-turn}
 use Rattle.commit.proofs.typed.put_lines.Goals as goal
 
-pub classes-classes-requires : goal.classes-classes-requires
-classes-classes-requires c = search known
-
 pub loop-i-init : goal.loop-i-init
 loop-i-init c =
     let b = c.args.batch in
     let full : length c.args.batch.changes ≡ most_operations = search known in
     (omega arith, c.requires.0, full, omega (arith, c.requires.1, lines-room (batch_of b) (omega (arith, c.requires.0, view-length operation_of c.args.batch.changes c.args.batch.count (omega (arith, c.requires.0, full))))), wrote_none _ _)
-
-pub offset_bounds-batch-i : goal.offset_bounds-batch-i
-offset_bounds-batch-i c = search known
-
-pub bounds-batch-i : goal.bounds-batch-i
-bounds-batch-i c = search known
-
-pub as_line-line-requires : goal.as_line-line-requires
-as_line-line-requires c = c.classes-classes.ensures
 
 pub put_line-at-requires : goal.put_line-at-requires
 put_line-at-requires c =
@@ -39,12 +27,6 @@ put_line-at-requires c =
     let inv = c.loop-i.invariant in
     let k : c.args.batch.count ≤ length c.args.batch.changes = omega (arith, c.loop-i.invariant.1, c.loop-i.invariant.2) in
     rw c.as_line-line.ensures (place-turn (map as_line (batch_of b)) c.loop-i.i _ (line-turn c.args.batch.changes c.args.batch.count c.loop-i.i _ c.loop-i-test.true k) _ _ 0 _ (omega (arith, c.loop-i.invariant.3)) c.loop-i.invariant.4)
-
-pub overflow_add-i : goal.overflow_add-i
-overflow_add-i c = search known
-
-pub loop-i-smaller : goal.loop-i-smaller
-loop-i-smaller c = search known
 
 pub loop-i-preserved : goal.loop-i-preserved
 loop-i-preserved c =
