@@ -1,106 +1,78 @@
 -- What is handed out of the vectors, and what a grouping is where it refuses and where it accepts. Assumes nothing.
 use mathlib.Core.Path.{◌≡◌, refl, sym, ap, ◌∙◌}
-use mathlib.Core.Bool.{Bool, true, false, not, cond, ◌||◌}
+use mathlib.Core.Bool.{Bool, true, false, not, cond, ◌&&◌, ◌||◌}
 use mathlib.Core.List.{List, [], ◌∷◌, ◌++◌, map, append_assoc}
-use Prim.Native.Nat.{ℕ, ◌+◌, ◌≤◌, ◌<◌}
+use Prim.Native.Nat.{ℕ, ◌+◌, ◌≤◌, ◌<◌, min}
 use native.Mathlib.Omega.{arith}
 use lib.Dec.{ltb}
-use lib.ListN.{length, take, length-map}
-use lib.Seq.{length-take-le}
-use borrow.Author.Tests.{lt-ltb, le-ltb, ltb-false}
+use lib.ListN.{length, take, drop}
+use lib.Seq.{length-take-le, take_all}
+use borrow.Author.Tests.{lt-ltb, le-ltb, ltb-true, ltb-false}
+use Rattle.lists.proofs.Tests.{by_cases}
+use Rattle.std.specs.List.{list_all}
 use Rattle.std.specs.Prelude.{Ok, Err}
-use Rattle.lists.proofs.Tests.{neither}
 use Rattle.lists.specs.Keyed.{all_of}
 use Rattle.lists.specs.Written.{over}
 use Rattle.ids.specs.Ids.{is_id32, largest64}
+use Rattle.ids.specs.declared.SecondaryRowHandler.{SecondaryRowHandler}
 use Rattle.ids.specs.declared.refusal.Refusal.{Refusal}
 use Rattle.ids.specs.declared.refusal.Refusal.TheVariants.{Malformed, WrongCount, IdsUsedUp, OutputTooShort}
 use Rattle.ids.specs.Verdicts.{judged}
 use Rattle.delete_vector.specs.Records.{record_of, records_of}
-use Rattle.delete_vector.specs.Memory.{in_memory}
-use Rattle.transaction.specs.declared.vectors.Arranged.{Arranged}
-use Rattle.transaction.specs.Groups.{Handle, Vector, rows_of, vector_of, vectors_of, rowsets_in, lengths_in, counts_in, files_in, memories_in}
+use Rattle.transaction.specs.declared.vectors.Vectors.{Vectors}
+use Rattle.transaction.specs.Made.{Holds}
+use Rattle.transaction.specs.Groups.{Handle, handle_of, Vector, vector_of, vectors_of, rowsets_in, files_in, memories_in}
 use Rattle.transaction.specs.Says.{most_handles, no_id, too_short, group_rules, HandedOut, GroupIs}
-use Rattle.transaction.specs.Chains.{paired, runs_of, ArrangedBy}
-use Rattle.transaction.proofs.Links.{paired-rowsets}
 
-records-append : (l m : List ℕ) → records_of (l ++ m) ≡ records_of l ++ records_of m
+pub records-append : (l m : List ℕ) → records_of (l ++ m) ≡ records_of l ++ records_of m
 records-append [] m = refl
 records-append (x ∷ l) m = ap (λ (t : List ℕ). record_of x ++ t) (records-append l m) ∙ sym (append_assoc (record_of x) (records_of l) (records_of m))
-
--- the files one after another are the records of the rows by rowset
-files-runs : (rs : List ℕ) (hs : List Handle) → records_of (runs_of rs hs) ≡ files_in (map (vector_of hs) rs)
-files-runs [] hs = refl
-files-runs (r ∷ rs) hs = records-append (rows_of r hs) (runs_of rs hs) ∙ ap (λ (t : List ℕ). records_of (rows_of r hs) ++ t) (files-runs rs hs)
 
 pub named-rowsets : (rs : List ℕ) (hs : List Handle) → rs ≡ rowsets_in (map (vector_of hs) rs)
 named-rowsets [] hs = refl
 named-rowsets (r ∷ rs) hs = ap (λ (t : List ℕ). r ∷ t) (named-rowsets rs hs)
 
-module _ (rowsets rows named : List ℕ) (same : length rows ≡ length rowsets) (e : named ≡ in_memory rowsets) where
-  abbrev hs : List Handle
-  hs = paired rowsets rows
+-- a run copied to the front of a slice
+pub copied : (x y s : List ℕ) (n : ℕ) → y ≡ x → length y ≡ length (take n s) → n ≤ length s → y ++ drop n s ≡ over x s
+copied x y s n e l h = let k : length x ≡ n = sym (ap length e) ∙ l ∙ length-take-le n s h in rw (e, k)
 
-  abbrev vs : List Vector
-  vs = vectors_of hs
+-- What is handed out of vectors in arrays, whose rows are os.
+module _ (vs : List Vector) (v : Vectors) (s : Holds vs v) (os : List ℕ) (q : records_of os ≡ files_in vs) (whole : v.kept ≤ length v.held) (b : ℕ) (eb : b ≡ length (records_of os)) (r l c f m : List ℕ) where
+  kept-told : v.kept ≡ length (memories_in vs)
+  kept-told = sym (length-take-le v.kept v.held whole) ∙ ap length s.memories
 
-  are : map (vector_of hs) named ≡ vs
-  are = ap (map (vector_of hs)) (e ∙ ap in_memory (sym (paired-rowsets rowsets rows same)))
+  judged-short : ltb (length r) v.count || (ltb (length l) v.count || (ltb (length c) v.count || (ltb (length f) b || ltb (length m) v.kept))) ≡ too_short vs (length r) (length l) (length c) (length f) (length m)
+  judged-short = rw (← s.count, ← kept-told, ← (eb ∙ ap length q)) refl
 
-  pub count-told : length named ≡ length vs
-  count-told = sym (length-map named (vector_of hs)) ∙ ap length are
+  pub out-short : ltb (length r) v.count || (ltb (length l) v.count || (ltb (length c) v.count || (ltb (length f) b || ltb (length m) v.kept))) ≡ true → HandedOut vs true r l c f m r l c f m
+  out-short e = record { told = sym e ∙ judged-short; rowsets = refl; lengths = refl; counts = refl; files = refl; memories = refl }
 
-  -- the arrays hold what is to be handed out
-  module _ (a : Arranged) (os ls cs ms : List ℕ) (s : ArrangedBy named hs a os ls cs ms) where
-    rowsets-told : named ≡ rowsets_in vs
-    rowsets-told = named-rowsets named hs ∙ ap rowsets_in are
+  pub out-done : (r' l' c' f' m' : List ℕ) → v.count ≤ length r → v.count ≤ length l → v.count ≤ length c → b ≤ length f → v.kept ≤ length m
+      → r' ≡ over (take v.count v.rowsets) r → l' ≡ over (take v.count v.lengths) l → c' ≡ over (take v.count v.counts) c → f' ≡ over (records_of os) f → m' ≡ over (take v.kept v.held) m
+      → HandedOut vs false r l c f m r' l' c' f' m'
+  out-done r' l' c' f' m' z0 z1 z2 z3 z4 w0 w1 w2 w3 w4 = record {
+    told = sym (rw (le-ltb (length r) v.count z0, le-ltb (length l) v.count z1, le-ltb (length c) v.count z2, le-ltb (length f) b z3) (le-ltb (length m) v.kept z4)) ∙ judged-short;
+    rowsets = w0 ∙ ap (λ (x : List ℕ). over x r) s.rowsets;
+    lengths = w1 ∙ ap (λ (x : List ℕ). over x l) s.lengths;
+    counts = w2 ∙ ap (λ (x : List ℕ). over x c) s.counts;
+    files = w3 ∙ ap (λ (x : List ℕ). over x f) q;
+    memories = w4 ∙ ap (λ (x : List ℕ). over x m) s.memories;
+  }
 
-    lengths-told : take (length named) ls ≡ lengths_in vs
-    lengths-told = s.lengths ∙ ap lengths_in are
+-- the first handles of a call
+pub first_handles : (l : List SecondaryRowHandler) (n m : ℕ) → length l ≡ most_handles → m ≡ min n most_handles → take m l ≡ take n l
+first_handles l n m e q =
+    by_cases (ltb n most_handles)
+    (λ t. ap (λ (k : ℕ). take k l) (let h = ltb-true n most_handles t in omega arith))
+    (λ t. let h = ltb-false n most_handles t in take_all m l (omega arith) ∙ sym (take_all n l (omega arith)))
 
-    counts-told : take (length named) cs ≡ counts_in vs
-    counts-told = s.counts ∙ ap counts_in are
-
-    files-told : records_of (take a.rows os) ≡ files_in vs
-    files-told = ap records_of s.rows ∙ files-runs named hs ∙ ap files_in are
-
-    memories-told : take a.kept ms ≡ memories_in vs
-    memories-told = s.memory ∙ ap memories_in are
-
-    kept-told : length ms ≡ most_handles → a.kept ≡ length (memories_in vs)
-    kept-told f = let w = s.within in let l = s.fewer in sym (length-take-le a.kept ms (omega arith)) ∙ ap length memories-told
-
-    module _ (full : length ms ≡ most_handles) (b : ℕ) (eb : b ≡ length (records_of (take a.rows os))) (r l c f m : List ℕ) (t : Bool)
-        (et : t ≡ ltb (length r) (length named) || (ltb (length l) (length named) || (ltb (length c) (length named) || (ltb (length f) b || ltb (length m) a.kept)))) where
-      judged-short : t ≡ too_short vs (length r) (length l) (length c) (length f) (length m)
-      judged-short = rw (← count-told, ← kept-told full, ← (eb ∙ ap length files-told)) et
-
-      pub out-short : t ≡ true → HandedOut vs true r l c f m r l c f m
-      out-short q = record { told = sym q ∙ judged-short; rowsets = refl; lengths = refl; counts = refl; files = refl; memories = refl }
-
-      pub out-done : (r' l' c' f' m' : List ℕ) → t ≡ false
-          → (r' ≡ over named r) × (l' ≡ over (take (length named) ls) l) × (c' ≡ over (take (length named) cs) c) × (f' ≡ over (records_of (take a.rows os)) f) × (m' ≡ over (take a.kept ms) m)
-          → HandedOut vs false r l c f m r' l' c' f' m'
-      out-done r' l' c' f' m' q w = record {
-        told = sym q ∙ judged-short;
-        rowsets = w.0 ∙ ap (λ (x : List ℕ). over x r) rowsets-told;
-        lengths = w.1 ∙ ap (λ (x : List ℕ). over x l) lengths-told;
-        counts = w.2 ∙ ap (λ (x : List ℕ). over x c) counts-told;
-        files = w.3 ∙ ap (λ (x : List ℕ). over x f) files-told;
-        memories = w.4 ∙ ap (λ (x : List ℕ). over x m) memories-told;
-      }
-
--- a test of five that fails leaves room for all
-pub all_fit : (a b c d e i j k l m : ℕ) → ltb a b || (ltb c d || (ltb e i || (ltb j k || ltb l m))) ≡ false → (b ≤ a) × (d ≤ c) × (i ≤ e) × (k ≤ j) × (m ≤ l)
-all_fit a b c d e i j k l m h =
-    let p = neither (ltb a b) (ltb c d || (ltb e i || (ltb j k || ltb l m))) h in
-    let q = neither (ltb c d) (ltb e i || (ltb j k || ltb l m)) p.1 in
-    let r = neither (ltb e i) (ltb j k || ltb l m) q.1 in
-    let s = neither (ltb j k) (ltb l m) r.1 in
-    (ltb-false a b p.0, ltb-false c d q.0, ltb-false e i r.0, ltb-false j k s.0, ltb-false l m s.1)
-
-pub ids-told : (rs ws : List ℕ) → length ws ≡ length rs → no_id (paired rs ws) ≡ not (all_of is_id32 rs)
-ids-told rs ws h = ap (λ (l : List ℕ). not (all_of is_id32 l)) (paired-rowsets rs ws h)
+-- the test of ids
+pub ids-told : (l : List SecondaryRowHandler) → no_id (map handle_of l) ≡ not (list_all (λ (h : SecondaryRowHandler). is_id32 h.0.0) l)
+ids-told l = ap not (all l)
+  where
+    all : (l : List SecondaryRowHandler) → all_of is_id32 (map (λ (h : Handle). h.rowset) (map handle_of l)) ≡ list_all (λ (h : SecondaryRowHandler). is_id32 h.0.0) l
+    all [] = refl
+    all (x ∷ l) = ap (λ (b : Bool). is_id32 x.0.0 && b) (all l)
 
 -- Groupings of handles hs, n by what the call says, lent the slices rs, ls, cs, fs and ms.
 module _ (hs : List Handle) (n next : ℕ) (rs ls cs fs ms : List ℕ) where

@@ -40,6 +40,11 @@ vector_of hs r = record { rowset = r; file = records_of (rows_of r hs); memory =
 abbrev pub vectors_of : List Handle → List Vector
 vectors_of hs = map (vector_of hs) (rowsets_of hs)
 
+-- the rows by rowset, one rowset after another
+abbrev pub runs_of : List ℕ → List Handle → List ℕ
+runs_of [] hs = []
+runs_of (r ∷ rs) hs = rows_of r hs ++ runs_of rs hs
+
 -- What is told of vectors: each one's rowset, the length of its file and how many rows it has in memory, all files one after
 -- another, and all rows in memory one after another.
 abbrev pub rowsets_in : List Vector → List ℕ

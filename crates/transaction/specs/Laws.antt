@@ -4,8 +4,7 @@ use Rattle.lists.specs.Keyed.{any_of, ascending}
 use Rattle.delete_vector.specs.Records.{Rows, records_in}
 use Rattle.delete_vector.specs.Memory.{row_key, is_in}
 use Rattle.delete_vector.specs.Laws.{are_rows}
-use Rattle.transaction.specs.Groups.{Handle, rows_of, rowsets_of, vector_of, vectors_of, rowsets_in}
-use Rattle.transaction.specs.Chains.{runs_of}
+use Rattle.transaction.specs.Groups.{Handle, rows_of, rowsets_of, vector_of, vectors_of, rowsets_in, runs_of}
 
 pub record GroupLaws : Type 0 where
   -- the vectors' rowsets rise strictly

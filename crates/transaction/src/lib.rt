@@ -1,19 +1,21 @@
 // Grouping: the row handles of a transaction become one delete vector a rowset.
 #![tactic(auto)]
 
-ghost use Rattle.std.specs.Prelude.{◌≡◌, true, ◌≤◌, min, length};
-ghost use Rattle.lists.specs.Keyed.{all_of};
+ghost use Rattle.std.specs.Prelude.{◌≡◌, false, ◌≤◌, length, map};
+ghost use Rattle.std.specs.List.{list_all};
 ghost use Rattle.ids.specs.Ids.{is_id32};
-ghost use Rattle.transaction.specs.Says.{most_handles, GroupIs};
-ghost use Rattle.transaction.specs.Chains.{paired, ColumnsOf};
+ghost use Rattle.ids.specs.declared.SecondaryRowHandler.{SecondaryRowHandler};
+ghost use Rattle.transaction.specs.Groups.{handle_of, handles_of};
+ghost use Rattle.transaction.specs.Says.{most_handles, no_id, GroupIs};
 ghost use Rattle.transaction.specs.Laws.{GroupLaws};
 
-use delete_vector::memory;
-use ids::SecondaryRowHandler;
-use ids::limits::{LARGEST_32, LARGEST_64};
+use delete_vector::record::Sizes;
+use ids::limits::LARGEST_64;
 use ids::refusal::Refusal;
+use ids::{RowNo, RowsetNo, SecondaryRowHandler};
+use vectors::Vectors;
 
-pub mod chains;
+pub mod order;
 pub mod vectors;
 
 // The most handles of a transaction.
@@ -31,54 +33,15 @@ pub fn holds()
     ensures { GroupLaws }
 {}
 
-fn at_most(count: usize) -> usize
-    ensures { result ≡ min count most_handles }
+fn are_ids(handles: &[SecondaryRowHandler]) -> bool
+    ensures { result ≡ list_all (λ (h : SecondaryRowHandler). is_id32 h.0.0) handles.now }
 {
-    if count < MOST_HANDLES {
-        return count;
-    }
-    MOST_HANDLES
-}
-
-// Internal, as is what follows: the handles as a column of rowsets and one of rows. Answers how many there are.
-pub fn split(
-    handles: Handles,
-    rowsets: &mut [u32; MOST_HANDLES],
-    rows: &mut [u32; MOST_HANDLES],
-) -> usize
-    requires { (length rowsets.old ≡ most_handles) × (length rows.old ≡ most_handles) }
-    ensures { ColumnsOf handles result rowsets.new rows.new }
-{
-    let count = at_most(handles.count);
-    let mut i: usize = 0;
-    while i < count {
-        let handle = handles.items[i];
-        let rowset = handle.rowset_id();
-        let row = handle.row_id();
-        rowsets[i] = rowset.0;
-        rows[i] = row.0;
-        i += 1;
-    }
-    count
-}
-
-fn are_ids(rowsets: &[u32]) -> bool
-    ensures { result ≡ all_of is_id32 rowsets.now }
-{
-    let mut i = 0;
-    while i < rowsets.len() {
-        if LARGEST_32 <= rowsets[i] {
-            return false;
-        }
-        i += 1;
-    }
-    true
+    handles.iter().all(|handle| handle.rowset_id().is_id())
 }
 
 // Handles whose rowsets are ids, at most as many as a transaction may have. Answers how many vectors there are.
 fn grouped(
-    rowsets: &[u32],
-    rows: &[u32],
+    handles: &[SecondaryRowHandler],
     next: u64,
     rs: &mut [u32],
     ls: &mut [u32],
@@ -86,26 +49,30 @@ fn grouped(
     fs: &mut [u8],
     ms: &mut [u32],
 ) -> Result<usize, Refusal>
-    requires { (length rows.now ≡ length rowsets.now) × (length rowsets.now ≤ most_handles) × (all_of is_id32 rowsets.now ≡ true) }
-    ensures { GroupIs (paired rowsets.now rows.now) (length rowsets.now) next rs.old ls.old cs.old fs.old ms.old result rs.new ls.new cs.new fs.new ms.new }
+    requires { (length handles.now ≤ most_handles) × (no_id (map handle_of handles.now) ≡ false) }
+    ensures { GroupIs (map handle_of handles.now) (length handles.now) next rs.old ls.old cs.old fs.old ms.old result rs.new ls.new cs.new fs.new ms.new }
 {
-    let mut named = [0u32; MOST_HANDLES];
-    let mut spare = [0u32; MOST_HANDLES];
-    let count = memory::ascend(rowsets, &mut named, &mut spare);
+    let mut ordered = [SecondaryRowHandler(RowsetNo(0), RowNo(0)); MOST_HANDLES];
+    let ordered = &mut ordered[..handles.len()];
+    order::by_rowset(handles, ordered);
+    let sizes = Sizes::new();
+    let mut rows = [0u32; MOST_HANDLES];
+    let rows = &mut rows[..handles.len()];
+    vectors::put_rows(ordered, rows);
+    let vectors = Vectors::of(ordered, rows, &sizes);
+    let count = vectors.count;
     if LARGEST_64 - next < count as u64 {
         return Err(Refusal::IdsUsedUp);
     }
-    if vectors::hand_out(rowsets, rows, &named[..count], rs, ls, cs, fs, ms) {
+    if vectors.hand_out(rows, rs, ls, cs, fs, ms, &sizes) {
         return Err(Refusal::OutputTooShort);
     }
     Ok(count)
 }
 
-// The vectors of handles as columns, of which the call says that there are `count`; their ids are from next on. 29 is judged before.
+// The vectors of handles; their ids are from next on. 29 is judged before.
 pub fn group(
-    rowsets: &[u32],
-    rows: &[u32],
-    count: usize,
+    handles: &Handles,
     next: u64,
     rs: &mut [u32],
     ls: &mut [u32],
@@ -113,14 +80,14 @@ pub fn group(
     fs: &mut [u8],
     ms: &mut [u32],
 ) -> Result<usize, Refusal>
-    requires { (length rows.now ≡ length rowsets.now) × (length rowsets.now ≡ min count most_handles) }
-    ensures { GroupIs (paired rowsets.now rows.now) count next rs.old ls.old cs.old fs.old ms.old result rs.new ls.new cs.new fs.new ms.new }
+    ensures { GroupIs (handles_of handles.now) handles.now.count next rs.old ls.old cs.old fs.old ms.old result rs.new ls.new cs.new fs.new ms.new }
 {
-    if !are_ids(rowsets) {
+    let items = &handles.items[..handles.count.min(MOST_HANDLES)];
+    if !are_ids(items) {
         return Err(Refusal::Malformed(0));
     }
-    if MOST_HANDLES < count {
+    if MOST_HANDLES < handles.count {
         return Err(Refusal::WrongCount);
     }
-    grouped(rowsets, rows, next, rs, ls, cs, fs, ms)
+    grouped(items, next, rs, ls, cs, fs, ms)
 }

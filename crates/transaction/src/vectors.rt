@@ -1,30 +1,26 @@
-// The vectors of the named rowsets, made in arrays and written to lent slices. All here is internal.
-ghost use Rattle.std.specs.Prelude.{◌≡◌, ◌||◌, ◌+◌, ◌≤◌, ltb, length, take};
-ghost use Rattle.lists.specs.Written.{over};
-ghost use Rattle.delete_vector.specs.Sizes.{size_table};
+// The vectors of handles, made in arrays and written to lent slices. All here is internal.
+ghost use Rattle.std.specs.Prelude.{◌≡◌, ◌+◌, ◌≤◌, ◌<◌, length, take, map, List, [], ◌∷◌, ◌++◌};
 ghost use Rattle.delete_vector.specs.Records.{records_of};
 ghost use Rattle.delete_vector.specs.Memory.{in_memory};
-ghost use Rattle.transaction.specs.Groups.{vectors_of};
+ghost use Rattle.transaction.specs.Groups.{Handle, Vector, handle_of, vectors_of, files_in};
 ghost use Rattle.transaction.specs.Says.{most_handles, HandedOut};
-ghost use Rattle.transaction.specs.Chains.{paired, Headed, Linked, chain_of, MadeOf, ArrangedBy};
+ghost use Rattle.transaction.specs.Orders.{From};
 
-use super::{MOST_HANDLES, chains};
-use delete_vector::record::ROW_BITS;
-use delete_vector::{file, memory, record};
+use super::MOST_HANDLES;
+use delete_vector::record::Sizes;
+use delete_vector::{file, memory};
+use ids::{RowsetNo, SecondaryRowHandler};
 
-// One vector: where its rows end, the bytes of its file and its rows in memory.
+// Vectors one after another: of each its rowset, the bytes of its file and its count of rows in memory; then those rows of all.
 #[derive(Drop)]
-pub struct Made {
-    pub end: usize,
-    pub bytes: usize,
+pub struct Vectors {
     pub count: usize,
-}
-
-// All vectors: how many rows they have, and how many in memory.
-#[derive(Clone, Copy)]
-pub struct Arranged {
-    pub rows: usize,
+    pub rowsets: [u32; MOST_HANDLES],
+    pub lengths: [u32; MOST_HANDLES],
+    pub counts: [u32; MOST_HANDLES],
     pub kept: usize,
+    pub held: [u32; MOST_HANDLES],
+    ghost within: { (count ≤ 4096) × (kept ≤ 4096) },
 }
 
 // Rows that rise already are only copied.
@@ -33,184 +29,97 @@ fn ascend(rows: &[u32], out: &mut [u32], spare: &mut [u32]) -> usize
     ensures { (take result out.new ≡ in_memory rows.now) × (result ≤ length rows.now) }
 {
     if memory::rises(rows) {
-        return memory::copy(rows, 0, rows.len(), out, 0);
+        out[..rows.len()].copy_from_slice(rows);
+        return rows.len();
     }
     memory::ascend(rows, out, spare)
 }
 
-// The vector of the rowset whose first handle is given.
-fn make(
-    rowsets: &[u32],
-    rows: &[u32],
-    nexts: &[u32],
-    first: usize,
-    ordered: &mut [u32],
-    at: usize,
-    held: &mut [u32],
-    kept: usize,
-    spare: &mut [u32],
-    sizes: &[usize; ROW_BITS + 1],
-) -> Made
-    requires { Linked rowsets.now rows.now nexts.now × (first ≤ length rowsets.now) × (length (chain_of rowsets.now rows.now first) ≤ most_handles) × (at + length (chain_of rowsets.now rows.now first) ≤ length ordered.old) × (kept + length (chain_of rowsets.now rows.now first) ≤ length held.old) × (length (chain_of rowsets.now rows.now first) ≤ length spare.old) × (sizes.now ≡ size_table) }
-    ensures { MadeOf (chain_of rowsets.now rows.now first) at kept ordered.old held.old result ordered.new held.new }
+// The rows of handles.
+pub fn put_rows(handles: &[SecondaryRowHandler], out: &mut [u32])
+    requires { length out.old ≡ length handles.now }
+    ensures { out.new ≡ map (λ (h : Handle). h.row) (map handle_of handles.now) }
 {
-    let end = chains::gather(rowsets, rows, nexts, first, ordered, at);
-    let bytes = file::file_size(&ordered[at..end], sizes);
-    let count = ascend(&ordered[at..end], &mut held[kept..], spare);
-    Made { end, bytes, count }
+    for (i, handle) in handles.iter().enumerate() {
+        out[i] = handle.row_id().0;
+    }
 }
 
-// The vectors of all named rowsets.
-fn arrange(
-    rowsets: &[u32],
-    rows: &[u32],
-    named: &[u32],
-    heads: &[u32],
-    nexts: &[u32],
-    ordered: &mut [u32],
-    lengths: &mut [u32],
-    counts: &mut [u32],
-    held: &mut [u32],
-    spare: &mut [u32],
-    sizes: &[usize; ROW_BITS + 1],
-) -> Arranged
-    requires { Linked rowsets.now rows.now nexts.now × (named.now ≡ in_memory rowsets.now) × Headed rowsets.now named.now 0 heads.now × (length rowsets.now ≤ most_handles) × (length named.now ≤ length heads.now) × (length ordered.old ≡ most_handles) × (length lengths.old ≡ most_handles) × (length counts.old ≡ most_handles) × (length held.old ≡ most_handles) × (length spare.old ≡ most_handles) × (sizes.now ≡ size_table) }
-    ensures { ArrangedBy named.now (paired rowsets.now rows.now) result ordered.new lengths.new counts.new held.new }
-{
-    let mut at: usize = 0;
-    let mut kept: usize = 0;
-    let mut g: usize = 0;
-    while g < named.len() {
-        let first = heads[g] as usize;
-        let made = make(
-            rowsets, rows, nexts, first, ordered, at, held, kept, spare, sizes,
-        );
-        lengths[g] = made.bytes as u32;
-        counts[g] = made.count as u32;
-        at = made.end;
-        kept += made.count;
-        g += 1;
-    }
-    Arranged { rows: at, kept }
-}
+impl Vectors {
+    ghost use Rattle.transaction.specs.Made.{Holds};
 
-// Whether one of five slices, lent with so many places, is too short for count vectors of so many bytes and rows.
-fn short(
-    rowsets: usize,
-    lengths: usize,
-    counts: usize,
-    files: usize,
-    rows: usize,
-    count: usize,
-    bytes: usize,
-    kept: usize,
-) -> bool
-    ensures { result ≡ ltb rowsets count || (ltb lengths count || (ltb counts count || (ltb files bytes || ltb rows kept))) }
-{
-    if rowsets < count {
-        return true;
+    fn new() -> Vectors
+        ensures { (result.kept ≡ 0) × Holds [] result }
+    {
+        Vectors {
+            count: 0,
+            rowsets: [0; MOST_HANDLES],
+            lengths: [0; MOST_HANDLES],
+            counts: [0; MOST_HANDLES],
+            kept: 0,
+            held: [0; MOST_HANDLES],
+        }
     }
-    if lengths < count {
-        return true;
-    }
-    if counts < count {
-        return true;
-    }
-    if files < bytes {
-        return true;
-    }
-    rows < kept
-}
 
-// The five runs go to the fronts of the lent slices.
-fn write(
-    named: &[u32],
-    lengths: &[u32],
-    counts: &[u32],
-    ordered: &[u32],
-    held: &[u32],
-    sizes: &[usize; ROW_BITS + 1],
-    rs: &mut [u32],
-    ls: &mut [u32],
-    cs: &mut [u32],
-    fs: &mut [u8],
-    ms: &mut [u32],
-)
-    requires { (length named.now ≤ length rs.old) × (length lengths.now ≤ length ls.old) × (length counts.now ≤ length cs.old) × (length (records_of ordered.now) ≤ length fs.old) × (length held.now ≤ length ms.old) × (sizes.now ≡ size_table) }
-    ensures { (rs.new ≡ over named.now rs.old) × (ls.new ≡ over lengths.now ls.old) × (cs.new ≡ over counts.now cs.old) × (fs.new ≡ over (records_of ordered.now) fs.old) × (ms.new ≡ over held.now ms.old) }
-{
-    memory::copy(named, 0, named.len(), rs, 0);
-    memory::copy(lengths, 0, lengths.len(), ls, 0);
-    memory::copy(counts, 0, counts.len(), cs, 0);
-    file::put_records(ordered, fs, 0, sizes);
-    memory::copy(held, 0, held.len(), ms, 0);
-}
-
-// The vectors of the named rowsets, made and then written where every slice has room. Answers whether one was too short.
-pub fn hand_out(
-    rowsets: &[u32],
-    rows: &[u32],
-    named: &[u32],
-    rs: &mut [u32],
-    ls: &mut [u32],
-    cs: &mut [u32],
-    fs: &mut [u8],
-    ms: &mut [u32],
-) -> bool
-    requires { (length rows.now ≡ length rowsets.now) × (length rowsets.now ≤ most_handles) × (named.now ≡ in_memory rowsets.now) }
-    ensures { HandedOut (vectors_of (paired rowsets.now rows.now)) result rs.old ls.old cs.old fs.old ms.old rs.new ls.new cs.new fs.new ms.new }
-{
-    let none = rowsets.len() as u32;
-    let mut heads = [none; MOST_HANDLES];
-    let mut nexts = [0u32; MOST_HANDLES];
-    chains::link(rowsets, named, &mut heads, &mut nexts);
-    let mut ordered = [0u32; MOST_HANDLES];
-    let mut lengths = [0u32; MOST_HANDLES];
-    let mut counts = [0u32; MOST_HANDLES];
-    let mut held = [0u32; MOST_HANDLES];
-    let mut spare = [0u32; MOST_HANDLES];
-    let sizes = record::SIZES;
-    let all = arrange(
-        rowsets,
-        rows,
-        named,
-        &heads,
-        &nexts,
-        &mut ordered,
-        &mut lengths,
-        &mut counts,
-        &mut held,
-        &mut spare,
-        &sizes,
-    );
-    let count = named.len();
-    let at = all.rows;
-    let kept = all.kept;
-    let bytes = file::file_size(&ordered[..at], &sizes);
-    if short(
-        rs.len(),
-        ls.len(),
-        cs.len(),
-        fs.len(),
-        ms.len(),
-        count,
-        bytes,
-        kept,
-    ) {
-        return true;
+    // The vector of one more rowset, of these rows.
+    fn add(&mut self, rowset: RowsetNo, rows: &[u32], spare: &mut [u32], sizes: &Sizes)
+        requires { (self.old.count < most_handles) × (self.old.kept + length rows.now ≤ most_handles) × (length spare.old ≡ most_handles) }
+        ensures { (self.new.kept ≤ self.old.kept + length rows.now) × ((vs : List Vector) → Holds vs self.old → Holds (vs ++ (record { rowset = rowset.0; file = records_of rows.now; memory = in_memory rows.now } ∷ [])) self.new) }
+    {
+        let bytes = file::file_size(rows, sizes);
+        let count = ascend(rows, &mut self.held[self.kept..], spare);
+        self.rowsets[self.count] = rowset.0;
+        self.lengths[self.count] = bytes as u32;
+        self.counts[self.count] = count as u32;
+        self.count += 1;
+        self.kept += count;
     }
-    write(
-        named,
-        &lengths[..count],
-        &counts[..count],
-        &ordered[..at],
-        &held[..kept],
-        &sizes,
-        rs,
-        ls,
-        cs,
-        fs,
-        ms,
-    );
-    false
+
+    // The vectors of handles that are in the order of their rowsets, and have these rows.
+    pub fn of(handles: &[SecondaryRowHandler], rows: &[u32], sizes: &Sizes) -> Vectors
+        requires { From 0 (map handle_of handles.now) × (length handles.now ≤ most_handles) × (rows.now ≡ map (λ (h : Handle). h.row) (map handle_of handles.now)) }
+        ensures { Holds (vectors_of (map handle_of handles.now)) result × (records_of rows.now ≡ files_in (vectors_of (map handle_of handles.now))) }
+    {
+        let mut vectors = Vectors::new();
+        let mut spare = [0u32; MOST_HANDLES];
+        let mut at = 0;
+        for run in handles.chunk_by(|a, b| a.rowset_id().0 == b.rowset_id().0) {
+            let end = at + run.len();
+            vectors.add(run[0].rowset_id(), &rows[at..end], &mut spare, sizes);
+            at = end;
+        }
+        vectors
+    }
+
+    // The vectors go to the lent slices where every one has room; rows are those of all. Answers whether one was too short.
+    pub fn hand_out(
+        &self,
+        rows: &[u32],
+        rs: &mut [u32],
+        ls: &mut [u32],
+        cs: &mut [u32],
+        fs: &mut [u8],
+        ms: &mut [u32],
+        sizes: &Sizes,
+    ) -> bool
+        requires { length rows.now ≤ most_handles }
+        ensures { (vs : List Vector) → Holds vs self.now → records_of rows.now ≡ files_in vs → HandedOut vs result rs.old ls.old cs.old fs.old ms.old rs.new ls.new cs.new fs.new ms.new }
+    {
+        let n = self.count;
+        let bytes = file::file_size(rows, sizes);
+        if rs.len() < n
+            || ls.len() < n
+            || cs.len() < n
+            || fs.len() < bytes
+            || ms.len() < self.kept
+        {
+            return true;
+        }
+        rs[..n].copy_from_slice(&self.rowsets[..n]);
+        ls[..n].copy_from_slice(&self.lengths[..n]);
+        cs[..n].copy_from_slice(&self.counts[..n]);
+        file::put_records(rows, fs, 0, sizes);
+        ms[..self.kept].copy_from_slice(&self.held[..self.kept]);
+        false
+    }
 }

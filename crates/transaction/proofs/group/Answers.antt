@@ -1,52 +1,36 @@
 -- `transaction::group` meets its contract.
-use mathlib.Core.Path.{◌≡◌, sym, ap, ◌∙◌}
-use mathlib.Core.Bool.{not}
-use native.Mathlib.Omega.{arith}
-use borrow.Author.Rules.{rules}
-use borrow.Author.Tests.{not-false}
-use lib.ListN.{length}
-use Rattle.transaction.specs.Chains.{paired}
-use Rattle.transaction.proofs.Outputs.{ids-told, no-id, too_many}
+use Rattle.std.proofs.Common.{◌≡◌, map, take, length, not, sym, ap, ◌∙◌, arith, rules, length-take}
+use Rattle.transaction.specs.Groups.{handle_of, handles_of}
+use Rattle.transaction.specs.Says.{no_id}
+use Rattle.transaction.proofs.Outputs.{first_handles, ids-told, no-id, too_many}
 use Rattle.transaction.proofs.group.Goals as goal
-
-pub are_ids-requires : goal.are_ids-requires
-are_ids-requires c = search rules
 
 pub returns-then-not-are_ids : goal.returns-then-not-are_ids
 returns-then-not-are_ids c =
-    let pre = c.requires in
-    let rowsets = c.args.rowsets.now in
-    let rows = c.args.rows.now in
-    let i = ids-told rowsets rows c.requires.0 in
-    no-id (paired rowsets rows) c.args.count c.args.next c.args.rs.now c.args.ls.now c.args.cs.now c.args.fs.now c.args.ms.now (i ∙ ap not (sym c.are_ids.ensures) ∙ c.if-not-are_ids.true-raw)
+    let h = c.args.handles.now in
+    let f : length h.items ≡ 4096 = search rules in
+    let z = first_handles h.items h.count c.min.result f c.min.ensures in
+    no-id (handles_of h) h.count c.args.next c.args.rs.now c.args.ls.now c.args.cs.now c.args.fs.now c.args.ms.now
+    (ap (λ l. no_id (map handle_of l)) (sym z) ∙ ids-told (take c.min.result h.items) ∙ ap not (sym c.are_ids.ensures ∙ c.if-not-are_ids.true))
 
-pub returns-then-count-gt-MOST_HANDLES : goal.returns-then-count-gt-MOST_HANDLES
-returns-then-count-gt-MOST_HANDLES c =
-    let pre = c.requires in
-    let rowsets = c.args.rowsets.now in
-    let rows = c.args.rows.now in
-    let i = ids-told rowsets rows c.requires.0 in
-    too_many (paired rowsets rows) c.args.count c.args.next c.args.rs.now c.args.ls.now c.args.cs.now c.args.fs.now c.args.ms.now (i ∙ ap not (sym c.are_ids.ensures) ∙ c.if-not-are_ids.false-raw) c.if-count-gt-MOST_HANDLES.true
+pub returns-then-handles-gt-MOST_HANDLES : goal.returns-then-handles-gt-MOST_HANDLES
+returns-then-handles-gt-MOST_HANDLES c =
+    let h = c.args.handles.now in
+    let f : length h.items ≡ 4096 = search rules in
+    let z = first_handles h.items h.count c.min.result f c.min.ensures in
+    too_many (handles_of h) h.count c.args.next c.args.rs.now c.args.ls.now c.args.cs.now c.args.fs.now c.args.ms.now
+    (ap (λ l. no_id (map handle_of l)) (sym z) ∙ ids-told (take c.min.result h.items) ∙ ap not (sym c.are_ids.ensures ∙ c.if-not-are_ids.false))
+    c.if-handles-gt-MOST_HANDLES.true
 
 pub grouped-requires : goal.grouped-requires
-grouped-requires c = let pre = c.requires in let p1 = c.requires.1 in (c.requires.0, omega arith, sym c.are_ids.ensures ∙ not-false _ c.if-not-are_ids.false-raw)
-
-pub shape_of-rs : goal.shape_of-rs
-shape_of-rs c = search rules
-
-pub shape_of-ls : goal.shape_of-ls
-shape_of-ls c = search rules
-
-pub shape_of-cs : goal.shape_of-cs
-shape_of-cs c = search rules
-
-pub shape_of-fs : goal.shape_of-fs
-shape_of-fs c = search rules
-
-pub shape_of-ms : goal.shape_of-ms
-shape_of-ms c = search rules
+grouped-requires c =
+    let h = c.args.handles.now in
+    (omega (arith, c.min.ensures, length-take c.min.result h.items), ids-told (take c.min.result h.items) ∙ ap not (sym c.are_ids.ensures ∙ c.if-not-are_ids.false))
 
 pub returns : goal.returns
 returns c =
-    let e : length c.args.rowsets.now ≡ c.args.count = omega (arith, c.requires.1, c.if-count-gt-MOST_HANDLES.false) in
-    rw e at c.grouped.ensures
+    let h = c.args.handles.now in
+    let f : length h.items ≡ 4096 = search rules in
+    let z = first_handles h.items h.count c.min.result f c.min.ensures in
+    let n : length (take c.min.result h.items) ≡ h.count = omega (arith, c.min.ensures, length-take c.min.result h.items, c.if-handles-gt-MOST_HANDLES.false) in
+    rw z at (rw n at c.grouped.ensures)
