@@ -3,18 +3,18 @@ ghost use Rattle.std.specs.Prelude.{◌≤◌, IfSome, length};
 
 use crate::output::Output;
 use crate::say;
-use delete_vector::{Loaded, MOST_RECORDS, Masked, Written};
+use delete_vector::MOST_RECORDS;
 use ids::RowNo;
 use script::words::Words;
 
 fn encode_into(rows: &[u32], out: &mut [u8], output: &mut Output) {
     match delete_vector::write_all(rows, out) {
-        Written::Bytes(n) => {
+        Ok(n) => {
             say::say(b"encoded,", output);
             let n = n.min(out.len());
             say::hex(&out[..n], output);
         }
-        Written::Refused(why) => say::refusal(why, output),
+        Err(why) => say::refusal(why, output),
     }
 }
 
@@ -38,11 +38,11 @@ pub fn encode(s: &[u8], room: usize, output: &mut Output) {
 
 fn decode_into(file: &[u8], rows: &mut [u32], output: &mut Output) {
     match delete_vector::read_all(file, rows) {
-        Loaded::Rows(n) => {
+        Ok(n) => {
             say::first(b"decoded", n as u64, output);
             say::rows(rows, n, output);
         }
-        Loaded::Refused(why) => say::refusal(why, output),
+        Err(why) => say::refusal(why, output),
     }
 }
 
@@ -67,11 +67,11 @@ pub fn decode(s: &[u8], room: usize, scratch: &mut [u8], output: &mut Output) {
 
 fn mask_into(rows: &[u32], bits: &mut [u8], offset: u32, output: &mut Output) {
     match delete_vector::apply_to(rows, bits, RowNo(offset)) {
-        Masked::Cleared => {
+        Ok(()) => {
             say::say(b"masked,", output);
             say::bits(bits, output);
         }
-        Masked::Refused(why) => say::refusal(why, output),
+        Err(why) => say::refusal(why, output),
     }
 }
 

@@ -1,7 +1,6 @@
 // Cases of delete vectors: each prints its answer, and where it is short the whole lent buffer afterwards.
 #![tactic(auto)]
 
-use delete_vector::{Held, Loaded, Masked, Written};
 use ids::RowNo;
 use ids::refusal::Refusal;
 use status::Status;
@@ -33,8 +32,8 @@ fn rows_line(rt: &impl Print, rows: &[u32]) -> io::Result<()> {
 
 fn write_answer(rt: &impl Print, rows: &[u32], out: &mut [u8]) -> io::Result<()> {
     match delete_vector::write_all(rows, out) {
-        Written::Bytes(n) => say(rt, "bytes", n),
-        Written::Refused(r) => refused(rt, r),
+        Ok(n) => say(rt, "bytes", n),
+        Err(r) => refused(rt, r),
     }
 }
 
@@ -45,8 +44,8 @@ fn write_case(rt: &impl Print, rows: &[u32], out: &mut [u8]) -> io::Result<()> {
 
 fn read_answer(rt: &impl Print, bytes: &[u8], rows: &mut [u32]) -> io::Result<()> {
     match delete_vector::read_all(bytes, rows) {
-        Loaded::Rows(n) => say(rt, "rows", n),
-        Loaded::Refused(r) => refused(rt, r),
+        Ok(n) => say(rt, "rows", n),
+        Err(r) => refused(rt, r),
     }
 }
 
@@ -59,16 +58,16 @@ fn read_case(rt: &impl Print, bytes: &[u8]) -> io::Result<()> {
 
 fn memory_case(rt: &impl Print, rows: &[u32], out: &mut [u32]) -> io::Result<()> {
     match delete_vector::in_memory(rows, out) {
-        Held::Rows(n) => say(rt, "held", n)?,
-        Held::Refused(r) => refused(rt, r)?,
+        Ok(n) => say(rt, "held", n)?,
+        Err(r) => refused(rt, r)?,
     }
     rows_line(rt, out)
 }
 
 fn mask_answer(rt: &impl Print, rows: &[u32], bits: &mut [u8], offset: RowNo) -> io::Result<()> {
     match delete_vector::apply_to(rows, bits, offset) {
-        Masked::Cleared => say(rt, "masked", bits.len()),
-        Masked::Refused(r) => refused(rt, r),
+        Ok(()) => say(rt, "masked", bits.len()),
+        Err(r) => refused(rt, r),
     }
 }
 
@@ -83,14 +82,14 @@ fn round(rt: &impl Print, row: RowNo) -> io::Result<()> {
     let rows = [row.0];
     let mut out = [0xaau8; 8];
     match delete_vector::write_all(&rows, &mut out) {
-        Written::Bytes(n) => {
+        Ok(n) => {
             if n <= 8 {
                 bytes_line(rt, &out[..n])?;
                 read_case(rt, &out[..n])?;
             }
             Ok(())
         }
-        Written::Refused(r) => refused(rt, r),
+        Err(r) => refused(rt, r),
     }
 }
 

@@ -1,5 +1,6 @@
 -- What each call over the border promises: the entry point's own proposition, told in numbers. Assumes nothing.
-use Rattle.std.specs.Prelude.{Bool, List, [], ℕ, length}
+use Rattle.std.specs.Prelude.{Bool, List, [], ℕ, length, Result}
+use Rattle.ids.specs.declared.refusal.Refusal.{Refusal}
 use Rattle.ids.specs.Verdicts.{Verdict}
 use Rattle.ids.specs.Answers.{told}
 use Rattle.pins.specs.declared.PinBook.{PinBook}
@@ -23,10 +24,6 @@ use Rattle.version_manager.specs.Select.{SelectSays}
 use Rattle.version_manager.specs.Draw.{rowset_told, vector_told, DrawRowsetSays, DrawVectorSays}
 use Rattle.pinning.specs.Says.{pin_told, unpin_told, PinSays, UnpinSays, PinAnswer, UnpinAnswer}
 use Rattle.storage.specs.Reopen.{reopen_told, ReopenSays, ReopenAnswer}
-use Rattle.delete_vector.specs.declared.Written.{Written}
-use Rattle.delete_vector.specs.declared.Loaded.{Loaded}
-use Rattle.delete_vector.specs.declared.Held.{Held}
-use Rattle.delete_vector.specs.declared.Masked.{Masked}
 use Rattle.delete_vector.specs.Answers.{written_told, loaded_told, held_told, masked_told}
 use Rattle.delete_vector.specs.Says.{WriteSays, ReadSays, MemorySays, MaskSays}
 use Rattle.host.specs.declared.answers.Answer.{Answer}
@@ -37,16 +34,16 @@ use Rattle.host.specs.Numbers.{Tells}
 use Rattle.host.specs.Arguments.{new_in, HandlesIn}
 
 abbrev pub WriteTold : List ℕ → List ℕ → Answer → List ℕ → Type 0
-WriteTold rows out r out' = Tells Written written_told (λ a. WriteSays rows out a out') r
+WriteTold rows out r out' = Tells (Result ℕ Refusal) written_told (λ a. WriteSays rows out a out') r
 
 abbrev pub ReadTold : List ℕ → List ℕ → Answer → List ℕ → Type 0
-ReadTold file rows r rows' = Tells Loaded loaded_told (λ a. ReadSays file rows a rows') r
+ReadTold file rows r rows' = Tells (Result ℕ Refusal) loaded_told (λ a. ReadSays file rows a rows') r
 
 abbrev pub MemoryTold : List ℕ → List ℕ → Answer → List ℕ → Type 0
-MemoryTold rows out r out' = Tells Held held_told (λ a. MemorySays rows out a out') r
+MemoryTold rows out r out' = Tells (Result ℕ Refusal) held_told (λ a. MemorySays rows out a out') r
 
 abbrev pub MaskTold : List ℕ → List ℕ → ℕ → Answer → List ℕ → Type 0
-MaskTold rows bits offset r bits' = Tells Masked masked_told (λ a. MaskSays rows bits offset a bits') r
+MaskTold rows bits offset r bits' = Tells (Result (Unit {0}) Refusal) masked_told (λ a. MaskSays rows bits offset a bits') r
 
 abbrev pub DrawRowsetTold : VersionManager → Handed → Type 0
 DrawRowsetTold m r = Tells RowsetAnswer rowset_told (λ a. DrawRowsetSays m (record { manager = r.manager; answer = a })) r.answer

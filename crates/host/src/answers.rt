@@ -12,10 +12,9 @@ ghost use Rattle.show.specs.Says.{show_told};
 ghost use Rattle.version_manager.specs.Draw.{rowset_told, vector_told};
 ghost use Rattle.pinning.specs.Says.{flag, pin_told, unpin_told};
 ghost use Rattle.storage.specs.Reopen.{reopen_told};
-ghost use Rattle.delete_vector.specs.Answers.{written_told, loaded_told, held_told, masked_told};
+ghost use Rattle.delete_vector.specs.Answers.{count_told, masked_told};
 ghost use Rattle.host.specs.Numbers.{said_by};
 
-use delete_vector::{Held, Loaded, Masked, Written};
 use ids::refusal::Refusal;
 use ids::{RowsetNo, VectorNo};
 use pinning::Readiness;
@@ -234,38 +233,21 @@ pub fn reopened(answer: Result<usize, Refusal>) -> Answer
     }
 }
 
-pub fn written(answer: Written) -> Answer
-    ensures { said_by result ≡ written_told answer }
+// Of bytes written, or of rows.
+pub fn counted(answer: Result<usize, Refusal>) -> Answer
+    ensures { said_by result ≡ count_told answer }
 {
     match answer {
-        Written::Bytes(n) => one(size(n)),
-        Written::Refused(why) => refused(why),
+        Ok(n) => one(size(n)),
+        Err(why) => refused(why),
     }
 }
 
-pub fn loaded(answer: Loaded) -> Answer
-    ensures { said_by result ≡ loaded_told answer }
-{
-    match answer {
-        Loaded::Rows(n) => one(size(n)),
-        Loaded::Refused(why) => refused(why),
-    }
-}
-
-pub fn held(answer: Held) -> Answer
-    ensures { said_by result ≡ held_told answer }
-{
-    match answer {
-        Held::Rows(n) => one(size(n)),
-        Held::Refused(why) => refused(why),
-    }
-}
-
-pub fn masked(answer: Masked) -> Answer
+pub fn masked(answer: Result<(), Refusal>) -> Answer
     ensures { said_by result ≡ masked_told answer }
 {
     match answer {
-        Masked::Cleared => none(),
-        Masked::Refused(why) => refused(why),
+        Ok(()) => none(),
+        Err(why) => refused(why),
     }
 }

@@ -39,7 +39,7 @@ pub extern "C" fn seqapti_write_all(rows: &[u32], out: &mut [u8]) -> Answer
     ensures { WriteTold rows.now out.old result out.new }
 {
     let answer = delete_vector::write_all(rows, out);
-    answers::written(answer)
+    answers::counted(answer)
 }
 
 #[unsafe(no_mangle)]
@@ -47,7 +47,7 @@ pub extern "C" fn seqapti_read_all(bytes: &[u8], rows: &mut [u32]) -> Answer
     ensures { ReadTold bytes.now rows.old result rows.new }
 {
     let answer = delete_vector::read_all(bytes, rows);
-    answers::loaded(answer)
+    answers::counted(answer)
 }
 
 #[unsafe(no_mangle)]
@@ -55,7 +55,7 @@ pub extern "C" fn seqapti_in_memory(rows: &[u32], out: &mut [u32]) -> Answer
     ensures { MemoryTold rows.now out.old result out.new }
 {
     let answer = delete_vector::in_memory(rows, out);
-    answers::held(answer)
+    answers::counted(answer)
 }
 
 #[unsafe(no_mangle)]

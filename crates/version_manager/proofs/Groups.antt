@@ -16,16 +16,10 @@ use Rattle.ids.proofs.Verdicts.{none-judged}
 use Rattle.transaction.specs.declared.Handles.{Handles}
 use Rattle.transaction.specs.Groups.{Handle, handles_of, rowsets_in, lengths_in, counts_in, files_in, memories_in}
 use Rattle.transaction.specs.Says.{group_rules, GroupIs}
-use Rattle.transaction.specs.Chains.{paired}
-use Rattle.transaction.proofs.Links.{paired-of}
 use Rattle.version_manager.specs.declared.VersionManager.{VersionManager}
 use Rattle.version_manager.specs.Answered.{Grouped}
 use Rattle.version_manager.specs.Managers.{held_by, bad_manager, Manages, HandsBack}
 use Rattle.version_manager.specs.Group.{group_told, vectors_drawn, grouped_by, group_verdict, GroupSays}
-
--- the columns that handles were split into
-pub handles-are : (h : Handles) (us ws : List ℕ) → us ≡ map (λ (k : Handle). k.rowset) (handles_of h) → ws ≡ map (λ (k : Handle). k.row) (handles_of h) → paired us ws ≡ handles_of h
-handles-are h us ws p q = rw (p, q) (paired-of (take h.count h.items))
 
 -- an answer that a verdict decides
 passed : (v : Verdict) (a b : ℕ) → result_and v (Ok a) ≡ Ok b → (v ≡ Ok tt) × (a ≡ b)
@@ -37,11 +31,8 @@ stopped (Ok _) a k h = absurd (cc)
 stopped (Err j) a k h = cc
 
 -- a grouping for a manager that passed 29
-module _ (m : VersionManager) (h : Handles) (hs : List Handle) (e : hs ≡ handles_of h) (rs ls cs fs ms : List ℕ) (d : Result ℕ Refusal) (rs' ls' cs' fs' ms' : List ℕ)
-    (b : bad_manager m ≡ false) (w : GroupIs hs h.count (held_by m).next_vector rs ls cs fs ms d rs' ls' cs' fs' ms') where
-  i : GroupIs (handles_of h) h.count (held_by m).next_vector rs ls cs fs ms d rs' ls' cs' fs' ms'
-  i = subst (λ (l : List Handle). GroupIs l h.count (held_by m).next_vector rs ls cs fs ms d rs' ls' cs' fs' ms') e w
-
+module _ (m : VersionManager) (h : Handles) (rs ls cs fs ms : List ℕ) (d : Result ℕ Refusal) (rs' ls' cs' fs' ms' : List ℕ)
+    (b : bad_manager m ≡ false) (i : GroupIs (handles_of h) h.count (held_by m).next_vector rs ls cs fs ms d rs' ls' cs' fs' ms') where
   abbrev own : Verdict
   own = judged (group_rules (handles_of h) h.count (held_by m).next_vector (length rs) (length ls) (length cs) (length fs) (length ms))
 

@@ -34,7 +34,7 @@ use pins::PinBook;
 use snapshot::rowsets::Rowsets;
 use snapshot::tables::Tables;
 use snapshot::vectors::Vectors;
-use transaction::{Handles, MOST_HANDLES};
+use transaction::Handles;
 use version_state::{Held, VersionManagerInner};
 
 #[repr(C)]
@@ -247,22 +247,7 @@ impl VersionManager {
         let mut inner = self.inner;
         let mut next = inner.next;
         let id = next.vector.0;
-        let most = handles.count;
-        let mut of = [0u32; MOST_HANDLES];
-        let mut deleted = [0u32; MOST_HANDLES];
-        let n = transaction::split(handles, &mut of, &mut deleted);
-        let done = transaction::group(
-            &of[..n],
-            &deleted[..n],
-            most,
-            id,
-            rowsets,
-            lengths,
-            counts,
-            files,
-            rows,
-        );
-        match done {
+        match transaction::group(&handles, id, rowsets, lengths, counts, files, rows) {
             Err(refusal) => Answered {
                 manager: self,
                 answer: Err(refusal),

@@ -1,10 +1,9 @@
 -- `version_manager::VersionManager::group` meets its contract.
 use mathlib.Core.Path.{refl, sym, ◌∙◌}
 use native.Mathlib.Omega.{arith}
-use lib.Seq.{length-take-le}
 use Rattle.version_state.proofs.Facts.{sound-of}
 use Rattle.version_manager.proofs.Managers.{inner-passes, manages}
-use Rattle.version_manager.proofs.Groups.{handles-are, group-fits, group-no, group-yes}
+use Rattle.version_manager.proofs.Groups.{group-fits, group-no, group-yes}
 use borrow.Author.Rules.{rules}
 use Rattle.version_manager.proofs.VersionManager.group.Goals as goal
 
@@ -13,29 +12,6 @@ bad-requires c = search rules
 
 pub returns-then-bad : goal.returns-then-bad
 returns-then-bad c = let b = sym c.bad.ensures ∙ c.if-bad.true in record { answer = rw b; rowsets = rw b; lengths = rw b; counts = rw b; files = rw b; memories = rw b; manager = rw b refl }
-
-pub split-n-requires : goal.split-n-requires
-split-n-requires c = search rules
-
-pub slice_bounds-of-end : goal.slice_bounds-of-end
-slice_bounds-of-end c = let s = c.split-n.ensures in omega (arith, c.split-n.ensures.count, c.split-n.ensures.us_full)
-
-pub slice_bounds-group-end : goal.slice_bounds-group-end
-slice_bounds-group-end c = let s = c.split-n.ensures in sym (length-take-le _ _ (omega (arith, c.split-n.ensures.count, c.split-n.ensures.us_full)))
-
-pub slice_bounds-deleted-end : goal.slice_bounds-deleted-end
-slice_bounds-deleted-end c = let s = c.split-n.ensures in omega (arith, c.split-n.ensures.count, c.split-n.ensures.ws_full)
-
-pub slice_bounds-group-end-2 : goal.slice_bounds-group-end-2
-slice_bounds-group-end-2 c = let s = c.split-n.ensures in sym (length-take-le _ _ (omega (arith, c.split-n.ensures.count, c.split-n.ensures.ws_full)))
-
-pub group-done-requires : goal.group-done-requires
-group-done-requires c =
-    let s = c.split-n in
-    let w = c.split-n.ensures in
-    let u = length-take-le c.split-n.result c.split-n.new.rowsets (omega (arith, c.split-n.ensures.count, c.split-n.ensures.us_full)) in
-    let v = length-take-le c.split-n.result c.split-n.new.rows (omega (arith, c.split-n.ensures.count, c.split-n.ensures.ws_full)) in
-    (v ∙ sym u, u ∙ c.split-n.ensures.count)
 
 pub enum_known-done : goal.enum_known-done
 enum_known-done c = search rules
@@ -56,10 +32,10 @@ pub shape_of-rows-in-Err : goal.shape_of-rows-in-Err
 shape_of-rows-in-Err c = search rules
 
 pub returns-in-Err : goal.returns-in-Err
-returns-in-Err c = group-no c.args.self c.args.handles _ (handles-are c.args.handles _ _ c.split-n.ensures.rowsets c.split-n.ensures.rows) _ _ _ _ _ _ _ _ _ _ _ (sym c.bad.ensures ∙ c.if-bad.false) c.group-done.ensures _ _ c.in-Err.is refl refl
+returns-in-Err c = group-no c.args.self c.args.handles _ _ _ _ _ _ _ _ _ _ _ (sym c.bad.ensures ∙ c.if-bad.false) c.group-done.ensures _ _ c.in-Err.is refl refl
 
 pub overflow_add-raised : goal.overflow_add-raised
-overflow_add-raised c = omega (arith, group-fits c.args.self c.args.handles _ (handles-are c.args.handles _ _ c.split-n.ensures.rowsets c.split-n.ensures.rows) _ _ _ _ _ _ _ _ _ _ _ (sym c.bad.ensures ∙ c.if-bad.false) c.group-done.ensures _ c.in-Ok.is)
+overflow_add-raised c = omega (arith, group-fits c.args.self c.args.handles _ _ _ _ _ _ _ _ _ _ _ (sym c.bad.ensures ∙ c.if-bad.false) c.group-done.ensures _ c.in-Ok.is)
 
 pub handed-manager-requires : goal.handed-manager-requires
 handed-manager-requires c = search rules
@@ -82,4 +58,4 @@ shape_of-rows-in-Ok c = search rules
 pub returns-in-Ok : goal.returns-in-Ok
 returns-in-Ok c =
     let f = (sound-of c.args.self.inner (inner-passes c.args.self (sym c.bad.ensures ∙ c.if-bad.false))).fits in
-    group-yes c.args.self c.args.handles _ (handles-are c.args.handles _ _ c.split-n.ensures.rowsets c.split-n.ensures.rows) _ _ _ _ _ _ _ _ _ _ _ (sym c.bad.ensures ∙ c.if-bad.false) c.group-done.ensures _ _ c.in-Ok.is (manages _ _ _ c.handed-manager.ensures (record { fits = record { tables = f.tables; rowsets = f.rowsets; vectors = f.vectors }; state = refl })) refl
+    group-yes c.args.self c.args.handles _ _ _ _ _ _ _ _ _ _ _ (sym c.bad.ensures ∙ c.if-bad.false) c.group-done.ensures _ _ c.in-Ok.is (manages _ _ _ c.handed-manager.ensures (record { fits = record { tables = f.tables; rowsets = f.rowsets; vectors = f.vectors }; state = refl })) refl
