@@ -20,9 +20,8 @@ use Rattle.snapshot.proofs.TableRows.{has-tables}
 use Rattle.version_state.specs.declared.VersionManagerInner.{VersionManagerInner}
 use Rattle.version_state.specs.State.{State, state_of}
 use Rattle.version_state.specs.Sound.{bad_inner}
-use Rattle.version_state.proofs.Facts.{sound-of, pairs-rise}
+use Rattle.version_state.proofs.Facts.{sound-of}
 use Rattle.operations.specs.Judge.{is_live, is_shown}
-use Rattle.operations.specs.Columns.{Rising}
 use Rattle.transaction_manager.specs.Locks.{is_locked}
 use Rattle.table.specs.Compact.{compact_state, compact_last}
 
@@ -33,9 +32,6 @@ module _ (m : VersionManagerInner) where
 
   pub pairs_of : length (state_of m).pairs ≡ m.rowsets.count
   pairs_of = rows-length (entry_at (m.rowsets.tables ∷ m.rowsets.rowsets ∷ []) m.rowsets.added m.rowsets.deleted) m.rowsets.count
-
-  pub rising-of : bad_inner m ≡ false → Rising (m.rowsets.tables ∷ m.rowsets.rowsets ∷ []) m.rowsets.count
-  rising-of b = let g = sound-of m b in record { fits = g.fits.rowsets; rises = pairs-rise m g.ordered }
 
 -- whether a table's lock is held is told by two columns
 pub any-locked : (ids shapes lengths names : List ℕ) (locks : List Bool) (n t : ℕ)

@@ -1,7 +1,7 @@
 // A compaction's commit: what is judged of it, and the lines that it commits.
 #![tactic(auto)]
 
-ghost use Rattle.std.specs.Prelude.{◌≡◌, false, ◌&&◌, List, [], ◌∷◌, ◌++◌, map, ℕ, ◌+◌, ◌*◌, ◌≤◌, leb, length};
+ghost use Rattle.std.specs.Prelude.{◌≡◌, true, false, ◌&&◌, List, [], ◌∷◌, ◌++◌, map, ℕ, ◌+◌, ◌*◌, ◌≤◌, leb, length};
 ghost use Rattle.lists.specs.Keyed.{all_of, any_of, is_at, has, ascending};
 ghost use Rattle.lists.specs.Written.{Wrote};
 ghost use Rattle.ids.specs.Ids.{is_id32};
@@ -9,11 +9,11 @@ ghost use Rattle.ids.specs.Limits.{most_tables, most_held, most_operations, long
 ghost use Rattle.ids.specs.Verdicts.{judged};
 ghost use Rattle.manifest.specs.Operations.{add_rowset, delete_rowset};
 ghost use Rattle.frames.specs.Frames.{texts_of};
-ghost use Rattle.snapshot.specs.Entries.{entries, by_ids};
+ghost use Rattle.snapshot.specs.Entries.{by_ids};
 ghost use Rattle.snapshot.specs.Tables.{by_table, table_rows};
+ghost use Rattle.snapshot.specs.Views.{rowsets_of};
 ghost use Rattle.version_state.specs.State.{state_of};
 ghost use Rattle.version_state.specs.Sound.{bad_inner};
-ghost use Rattle.operations.specs.Columns.{Rising};
 ghost use Rattle.table.specs.Made.{by_number, delete_vector_of, marked_rows};
 ghost use Rattle.table.specs.Compact.{compacted_by, compact_state, compact_last, compact_rules};
 ghost use Rattle.table.specs.Says.{MadeIs};
@@ -23,6 +23,7 @@ use ids::limits::{LAST_EPOCH, LONGEST_MANIFEST, MOST_HELD, MOST_OPERATIONS, MOST
 use ids::refusal::Refusal;
 use ids::{RowsetNo, TableNo};
 use manifest::operation::EpochOp;
+use snapshot::rowsets::Rowsets;
 use table::Made;
 use version_state::VersionManagerInner;
 
@@ -66,22 +67,14 @@ impl NewRowset {
     }
 
     // Held as a pair of the table, shown or waiting.
-    fn held<'a>(
-        self,
-        tables: &'a [u32; MOST_HELD],
-        rowsets: &'a [u32; MOST_HELD],
-        count: usize,
-        table: TableNo,
-    ) -> bool
-        requires { Rising (tables.now ∷ rowsets.now ∷ []) count }
-        ensures { (added deleted : List ℕ) → result ≡ any_of (λ x. has by_ids (table.0 ∷ x ∷ []) (entries (tables.now ∷ rowsets.now ∷ []) added deleted count)) (new_of self) }
+    fn held(self, rowsets: &Rowsets, table: TableNo) -> bool
+        requires fits { rowsets.now.count ≤ most_held }
+        requires rises { ascending by_ids (rowsets_of rowsets.now) ≡ true }
+        ensures { result ≡ any_of (λ x. has by_ids (table.0 ∷ x ∷ []) (rowsets_of rowsets.now)) (new_of self) }
     {
         match self {
             NewRowset::None => false,
-            NewRowset::One(r) => {
-                let at = columns::place(tables, rowsets, count, table.0, r.0);
-                columns::stands(tables, rowsets, count, at, table.0, r.0)
-            }
+            NewRowset::One(r) => rowsets.holds(table, r),
         }
     }
 
@@ -157,27 +150,13 @@ fn standing(
     if !snapshot::tables::holds(&inner.tables.ids, inner.tables.count, table) {
         return Err(Refusal::TableNotLive(0));
     }
-    if !taken::shown(
-        &inner.rowsets.tables,
-        &inner.rowsets.rowsets,
-        &inner.rowsets.added,
-        &inner.rowsets.deleted,
-        inner.rowsets.count,
-        inner.epoch,
-        table,
-        taken,
-    ) {
+    if !taken::shown(&inner.rowsets, inner.epoch, table, taken) {
         return Err(Refusal::PairNotShown(0));
     }
     if new.undrawn(inner.next.rowset) {
         return Err(Refusal::IdNotDrawn(0));
     }
-    if new.held(
-        &inner.rowsets.tables,
-        &inner.rowsets.rowsets,
-        inner.rowsets.count,
-        table,
-    ) {
+    if new.held(&inner.rowsets, table) {
         return Err(Refusal::StillHeld(0));
     }
     if LAST_EPOCH <= inner.epoch {

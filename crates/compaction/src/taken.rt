@@ -1,18 +1,20 @@
 // The taken rowsets, lent as rising ids. All here is internal.
 ghost use Rattle.std.specs.Prelude.{◌≡◌, true, ◌&&◌, [], ◌∷◌, map, ◌+◌, ◌≤◌, eqb, length};
 ghost use Rattle.lists.specs.Keyed.{all_of, any_of, ascending};
+ghost use Rattle.ids.specs.Limits.{most_held};
 ghost use Rattle.lists.specs.Written.{Wrote};
 ghost use Rattle.ids.specs.Ids.{is_id32};
 ghost use Rattle.manifest.specs.Operations.{delete_rowset};
 ghost use Rattle.frames.specs.Frames.{texts_of};
-ghost use Rattle.snapshot.specs.Entries.{entries};
+ghost use Rattle.snapshot.specs.Entries.{by_ids};
+ghost use Rattle.snapshot.specs.Views.{rowsets_of};
 ghost use Rattle.operations.specs.Judge.{is_shown};
-ghost use Rattle.operations.specs.Columns.{Rising};
 ghost use Rattle.table.specs.Made.{by_number};
 
-use ids::limits::{LARGEST_32, MOST_HELD};
+use ids::limits::LARGEST_32;
 use ids::{RowsetNo, TableNo};
 use manifest::operation::EpochOp;
+use snapshot::rowsets::Rowsets;
 
 // Ids, each above the one before it.
 pub fn rising(taken: &[u32]) -> bool
@@ -56,28 +58,14 @@ pub fn among(taken: &[u32], rowset: u32) -> bool
 }
 
 // Whether the epoch shows every one of them.
-pub fn shown<'a>(
-    tables: &'a [u32; MOST_HELD],
-    rowsets: &'a [u32; MOST_HELD],
-    added: &'a [u32; MOST_HELD],
-    deleted: &'a [u32; MOST_HELD],
-    count: usize,
-    epoch: u32,
-    table: TableNo,
-    taken: &'a [u32],
-) -> bool
-    requires { Rising (tables.now ∷ rowsets.now ∷ []) count }
-    ensures { result ≡ all_of (λ x. is_shown epoch (table.0 ∷ x ∷ []) (entries (tables.now ∷ rowsets.now ∷ []) added.now deleted.now count)) taken.now }
+pub fn shown(rowsets: &Rowsets, epoch: u32, table: TableNo, taken: &[u32]) -> bool
+    requires fits { rowsets.now.count ≤ most_held }
+    requires rises { ascending by_ids (rowsets_of rowsets.now) ≡ true }
+    ensures { result ≡ all_of (λ x. is_shown epoch (table.0 ∷ x ∷ []) (rowsets_of rowsets.now)) taken.now }
 {
-    let mut i: usize = 0;
-    while i < taken.len() {
-        let rowset = RowsetNo(taken[i]);
-        if !operations::pairs::shows(tables, rowsets, added, deleted, count, table, rowset, epoch) {
-            return false;
-        }
-        i += 1;
-    }
-    true
+    taken
+        .iter()
+        .all(|x| rowsets.shows(table, RowsetNo(*x), epoch))
 }
 
 // Their `D` lines.
