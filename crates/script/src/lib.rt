@@ -1,7 +1,7 @@
 // Words, numbers, operations, handles and runs of bytes of a line of text, read from lent slices.
 #![tactic(auto)]
 
-ghost use Rattle.std.specs.Prelude.{◌≡◌, ◌+◌, ◌≤◌, IfSome, length};
+ghost use Rattle.std.specs.Prelude.{◌≡◌, ◌+◌, ◌≤◌, ◌++◌, IfSome, length};
 ghost use Rattle.text.specs.Class.{Classes};
 
 use ids::limits::{LARGEST_32, LONGEST_NAME};
@@ -15,7 +15,8 @@ pub mod words;
 
 // What stands before the first blank, and the rest from it on.
 pub fn cut_word(s: &[u8]) -> (&[u8], &[u8])
-    ensures { length result.1.now ≤ length s.now }
+    ensures whole { s.now ≡ result.0.now ++ result.1.now }
+    ensures rest { length result.1.now ≤ length s.now }
 {
     let end = s.iter().position(|b| *b == b' ').unwrap_or(s.len());
     s.split_at(end)
@@ -180,6 +181,7 @@ fn first_byte(s: &[u8]) -> Option<(u8, &[u8])>
 fn text_run(s: &[u8], out: &mut [u8]) -> Option<usize>
     ensures { IfSome result (λ n. n ≤ length out.new) }
 {
+    // No iterator: a turn takes one, two or four bytes, or refuses them all.
     let mut rest = s;
     let mut k: usize = 0;
     while !rest.is_empty() {
