@@ -2,23 +2,22 @@
 // changes that no line says are judged.
 #![tactic(auto)]
 
-ghost use Rattle.text.specs.Class.{Classes};
-
 use ids::limits::LONGEST_NAME;
 use ids::name::Name;
 use ids::{RowsetNo, TableNo, VectorNo};
-use manifest::operation::{Change, EpochOp, ManifestOperation, ParsedLine};
+use manifest::operation::{EpochOp, ManifestOperation};
 use status::Status;
 use std::io;
+use text::ByteClasses;
 
-fn show_change(rt: &impl Print, change: Change) -> io::Result<()> {
+fn show_change(rt: &impl Print, change: EpochOp) -> io::Result<()> {
     let n = manifest::printer::text_length(change);
     let mut out = [0u8; 56];
     let k = manifest::printer::print(&mut out, 0, change);
     if k <= 56 {
         rt.write_all(&out[..k])?;
     }
-    let classes = text::classes();
+    let classes = ByteClasses::new();
     if change.well_formed(&classes) {
         println!(rt; " {n} well formed")
     } else {
@@ -26,26 +25,18 @@ fn show_change(rt: &impl Print, change: Change) -> io::Result<()> {
     }
 }
 
-// Internal: it is lent the table of classes.
-fn show(rt: &impl Print, classes: &[u8; 256], s: &[u8]) -> io::Result<()>
-    requires { Classes classes.now }
-{
-    let p = manifest::parser::parse(classes, s);
-    let line = p.line;
-    let name = p.name;
-    match line {
-        ParsedLine::Line(m) => match m {
-            ManifestOperation::Begin => println!(rt; "begin"),
-            ManifestOperation::End => println!(rt; "end"),
-            ManifestOperation::Torn => println!(rt; "torn"),
-            ManifestOperation::Epoch(op) => show_change(rt, Change { op, name }),
-        },
-        ParsedLine::Bad => println!(rt; "bad"),
+fn show(rt: &impl Print, classes: &ByteClasses, s: &[u8]) -> io::Result<()> {
+    match manifest::parser::parse(classes, s) {
+        Some(ManifestOperation::Begin) => println!(rt; "begin"),
+        Some(ManifestOperation::End) => println!(rt; "end"),
+        Some(ManifestOperation::Torn) => println!(rt; "torn"),
+        Some(ManifestOperation::Epoch(op)) => show_change(rt, op),
+        None => println!(rt; "bad"),
     }
 }
 
 fn show_all(rt: &impl Print, s: &[u8]) -> io::Result<()> {
-    let classes = text::classes();
+    let classes = ByteClasses::new();
     for line in s.split_inclusive(|b| *b == b'\n') {
         if let Some(line) = line.strip_suffix(b"\n") {
             show(rt, &classes, line)?;
@@ -55,21 +46,12 @@ fn show_all(rt: &impl Print, s: &[u8]) -> io::Result<()> {
 }
 
 // A create with the first `len` of as many bytes `a` as a name may have.
-fn create(table: u32, len: usize) -> Change {
-    Change {
-        op: EpochOp::CreateTable(TableNo(table), 4294967295),
-        name: Name {
-            bytes: [97u8; LONGEST_NAME],
-            len,
-        },
-    }
-}
-
-fn plain(op: EpochOp) -> Change {
-    Change {
-        op,
-        name: Name::none(),
-    }
+fn create(table: u32, len: usize) -> EpochOp {
+    let name = Name {
+        bytes: [97u8; LONGEST_NAME],
+        len,
+    };
+    EpochOp::CreateTable(TableNo(table), 4294967295, name)
 }
 
 fn show_changes(rt: &impl Print) -> io::Result<()> {
@@ -77,30 +59,24 @@ fn show_changes(rt: &impl Print) -> io::Result<()> {
     show_change(rt, create(4294967294, LONGEST_NAME + 1))?;
     show_change(rt, create(4294967294, 0))?;
     show_change(rt, create(4294967295, 1))?;
-    show_change(rt, plain(EpochOp::DropTable(TableNo(4294967295))))?;
+    show_change(rt, EpochOp::DropTable(TableNo(4294967295)))?;
+    show_change(rt, EpochOp::AddRowSet(TableNo(0), RowsetNo(4294967295)))?;
+    show_change(rt, EpochOp::DeleteRowSet(TableNo(4294967295), RowsetNo(0)))?;
     show_change(
         rt,
-        plain(EpochOp::AddRowSet(TableNo(0), RowsetNo(4294967295))),
+        EpochOp::AddDV(TableNo(1), RowsetNo(2), VectorNo(18446744073709551615)),
     )?;
     show_change(
         rt,
-        plain(EpochOp::DeleteRowSet(TableNo(4294967295), RowsetNo(0))),
+        EpochOp::DeleteDV(TableNo(1), RowsetNo(4294967295), VectorNo(3)),
     )?;
     show_change(
         rt,
-        plain(EpochOp::AddDV(TableNo(1), RowsetNo(2), VectorNo(18446744073709551615))),
-    )?;
-    show_change(
-        rt,
-        plain(EpochOp::DeleteDV(TableNo(1), RowsetNo(4294967295), VectorNo(3))),
-    )?;
-    show_change(
-        rt,
-        plain(EpochOp::NextIds(
+        EpochOp::NextIds(
             TableNo(4294967295),
             RowsetNo(4294967295),
             VectorNo(18446744073709551615),
-        )),
+        ),
     )
 }
 

@@ -1,14 +1,10 @@
 // The row handles of a grouping, read from its line.
-ghost use Rattle.text.specs.Class.{Classes};
-
 use crate::words::Words;
 use ids::{RowNo, RowsetNo, SecondaryRowHandler};
+use text::ByteClasses;
 use transaction::{Handles, MOST_HANDLES};
 
-// Internal: it is lent the table of classes.
-fn handle(classes: &[u8; 256], s: &[u8]) -> Option<SecondaryRowHandler>
-    requires { Classes classes.now }
-{
+fn handle(classes: &ByteClasses, s: &[u8]) -> Option<SecondaryRowHandler> {
     let colon = s.iter().position(|b| *b == b':')?;
     let rowset = crate::number_by(classes, &s[..colon])?;
     let row = crate::number_by(classes, &s[colon + 1..])?;
@@ -26,7 +22,7 @@ fn place(k: usize, rowset: RowsetNo) -> usize {
 
 // A blank before each handle. The count is that of all; nothing where a word is none.
 pub fn handles(s: &[u8]) -> Option<Handles> {
-    let classes = text::classes();
+    let classes = ByteClasses::new();
     let mut items = [SecondaryRowHandler(RowsetNo(0), RowNo(0)); MOST_HANDLES];
     for (k, word) in Words(s).enumerate() {
         let handle = handle(&classes, word)?;

@@ -2,11 +2,10 @@
 #![tactic(auto)]
 
 ghost use Rattle.std.specs.Prelude.{◌≡◌, ◌+◌, ◌≤◌, ◌++◌, IfSome, length};
-ghost use Rattle.text.specs.Class.{Classes};
 
 use ids::limits::{LARGEST_32, LONGEST_NAME};
 use ids::name::Name;
-use text::Number;
+use text::ByteClasses;
 use words::Words;
 
 pub mod batches;
@@ -33,18 +32,15 @@ pub fn number<T: TryFrom<u64>>(s: &[u8]) -> Option<T>
 where
     T::Error: Drop,
 {
-    let classes = text::classes();
-    number_by(&classes, s)
+    number_by(&ByteClasses::new(), s)
 }
 
-// Internal: it is lent the table of classes.
-fn number_by<T: TryFrom<u64>>(classes: &[u8; 256], s: &[u8]) -> Option<T>
+fn number_by<T: TryFrom<u64>>(classes: &ByteClasses, s: &[u8]) -> Option<T>
 where
     T::Error: Drop,
-    requires { Classes classes.now }
 {
-    match text::read_number(classes, s, 0, u64::MAX) {
-        Number::At(n, i) if i == s.len() => T::try_from(n).ok(),
+    match classes.read_number(s, 0, u64::MAX)? {
+        (n, end) if end == s.len() => T::try_from(n).ok(),
         _ => None,
     }
 }
@@ -61,7 +57,7 @@ where
 pub fn name(s: &[u8]) -> Name {
     match s {
         [_, name @ ..] if name.len() <= LONGEST_NAME => Name::of(name),
-        _ => Name::none(),
+        _ => Name::default(),
     }
 }
 
@@ -88,7 +84,7 @@ where
     T::Error: Drop,
     requires { F.IsAlwaysCallable put }
 {
-    let classes = text::classes();
+    let classes = ByteClasses::new();
     for (k, word) in Words(s).enumerate() {
         put(k, number_by(&classes, word)?);
     }

@@ -2,41 +2,29 @@
 // written anew with its length, and whether it is a name.
 #![tactic(auto)]
 
-ghost use Rattle.std.specs.Prelude.{◌≤◌};
-ghost use Rattle.text.specs.Class.{Classes};
-
 use status::Status;
 use std::io;
-use text::Number;
+use text::ByteClasses;
 
-// Internal, as is the next: it is lent the table of classes.
-fn show_number(rt: &impl Print, classes: &[u8; 256], s: &[u8], limit: u64) -> io::Result<()>
-    requires { Classes classes.now }
-{
-    match text::read_number(classes, s, 0, limit) {
-        Number::At(n, i) => {
-            if i == s.len() {
-                let mut out = [0u8; 20];
-                let k = text::put_number(&mut out, 0, n);
-                if k <= 20 {
-                    rt.write_all(&out[..k])?;
-                }
-                let length = text::number_length(n);
-                print!(rt; ":{length}")
-            } else {
-                print!(rt; "-")
+fn show_number(rt: &impl Print, classes: &ByteClasses, s: &[u8], limit: u64) -> io::Result<()> {
+    match classes.read_number(s, 0, limit) {
+        Some((n, end)) if end == s.len() => {
+            let mut out = [0u8; 20];
+            let k = text::put_number(&mut out, 0, n);
+            if let Some(written) = out.get(..k) {
+                rt.write_all(written)?;
             }
+            let length = text::number_length(n);
+            print!(rt; ":{length}")
         }
-        Number::Nothing => print!(rt; "-"),
+        _ => print!(rt; "-"),
     }
 }
 
-fn show(rt: &impl Print, classes: &[u8; 256], s: &[u8]) -> io::Result<()>
-    requires { Classes classes.now }
-{
+fn show(rt: &impl Print, classes: &ByteClasses, s: &[u8]) -> io::Result<()> {
     match s.first() {
         Some(b) => {
-            let class = text::class_of(classes, *b);
+            let class = classes.class_of(*b);
             print!(rt; "{class} ")?;
         }
         None => print!(rt; "- ")?,
@@ -44,7 +32,7 @@ fn show(rt: &impl Print, classes: &[u8; 256], s: &[u8]) -> io::Result<()>
     show_number(rt, classes, s, u64::MAX)?;
     print!(rt; " ")?;
     show_number(rt, classes, s, 4294967294)?;
-    if text::is_name(classes, s) {
+    if classes.is_name(s) {
         println!(rt; " name")
     } else {
         println!(rt; " -")
@@ -52,7 +40,7 @@ fn show(rt: &impl Print, classes: &[u8; 256], s: &[u8]) -> io::Result<()>
 }
 
 fn show_all(rt: &impl Print, s: &[u8]) -> io::Result<()> {
-    let classes = text::classes();
+    let classes = ByteClasses::new();
     for line in s.split_inclusive(|b| *b == b'\n') {
         if let Some(line) = line.strip_suffix(b"\n") {
             show(rt, &classes, line)?;
