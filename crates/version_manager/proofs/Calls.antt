@@ -20,12 +20,10 @@ use Rattle.ids.specs.Answers.{told, after}
 use Rattle.manifest.specs.declared.operation.Batch.{Batch}
 use Rattle.manifest.specs.Operations.{Operation, operation_of, batch_of}
 use Rattle.snapshot.specs.Entries.{field}
-use Rattle.version_state.specs.State.{State, Hands}
+use Rattle.version_state.specs.State.{State}
 use Rattle.pins.specs.declared.PinBook.{PinBook}
-use Rattle.version_state.specs.Columns.{Columns, inner_in}
 use Rattle.frames.specs.Frames.{texts_of}
-use Rattle.commit.specs.declared.Done.{Done}
-use Rattle.commit.specs.Commit.{commit_of, CommitIs}
+use Rattle.commit.specs.Commit.{commit_of}
 use Rattle.commit.specs.Lent.{as_line, operations_in}
 use Rattle.commit.proofs.Sounds.{onward-given}
 use Rattle.commit.proofs.AsLines.{lines-room, lines-read, commit-same, commit-lines-same}
@@ -40,27 +38,12 @@ use Rattle.transaction_manager.specs.Locks.{relocked}
 use Rattle.transaction_manager.specs.Says.{LockIs}
 use Rattle.version_manager.specs.declared.VersionManager.{VersionManager}
 use Rattle.version_manager.specs.Answered.{Committed, Vacuumed, Checkpointed, Locked}
-use Rattle.version_manager.specs.Managers.{held_by, bad_manager, Follows, HandsBack}
+use Rattle.version_manager.specs.Managers.{held_by, bad_manager, HandsBack}
 use Rattle.version_manager.proofs.Managers.{manages}
-use Rattle.version_manager.specs.Commit.{outcome_of, commit_told, CommitEnds, CommitSays}
+use Rattle.version_manager.specs.Commit.{outcome_of, CommitEnds, CommitSays}
 use Rattle.version_manager.specs.Vacuum.{vacuum_verdict, VacuumSays}
 use Rattle.version_manager.specs.Lock.{lock_verdict, RelockSays}
 use Rattle.version_manager.specs.Checkpoint.{checkpoint_verdict, CheckpointSays}
-
--- a commit over the columns c that was refused, and one that was accepted
-module _ (m : VersionManager) (d : Done) (c : Columns) (r : Committed) where
-  pub commit-no : (k : Refusal) → d.verdict ≡ Err k → r.manager ≡ m → commit_told r.answer ≡ told (Err k) []
-      → (x : Result State Refusal) (os : List Operation) (out out' : List ℕ) → CommitIs x os out d c out' → CommitEnds x m os out r out'
-  commit-no k e h t (Ok s) os out out' i = absurd (let z : ◌≡◌ {A = ℕ} 0 1 = cc (i.0, e) in omega arith)
-  commit-no k e h t (Err j) os out out' i =
-      let q : k ≡ j = cc (i.0, e) in
-      (t ∙ ap (λ (z : Refusal). told (Err z) []) q, h, i.1)
-
-  pub commit-yes : d.verdict ≡ Ok tt → ((s : State) → Hands (inner_in d.held c) s → Follows r.manager s (held_by m) d.length) → commit_told r.answer ≡ told (Ok tt) (d.held.epoch ∷ d.length ∷ [])
-      → (x : Result State Refusal) (os : List Operation) (out out' : List ℕ) → CommitIs x os out d c out' → CommitEnds x m os out r out'
-  commit-yes e h t (Ok s) os out out' i =
-      (t ∙ ap (λ (z : State). told (Ok tt) (z.epoch ∷ d.length ∷ [])) i.2.state ∙ ap (λ (n : ℕ). told (Ok tt) (s.epoch ∷ n ∷ [])) i.1, subst (λ (n : ℕ). Follows r.manager s (held_by m) n) i.1 (h s i.2), i.3)
-  commit-yes e h t (Err j) os out out' i = absurd (let z : ◌≡◌ {A = ℕ} 0 1 = cc (i.0, e) in omega arith)
 
 -- a commit of a typed batch's lines is one of its operations
 module _ (m : VersionManager) (n : ℕ) (os : List Operation) (out : List ℕ) (r : Committed) (out' : List ℕ) where

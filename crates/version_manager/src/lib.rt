@@ -31,11 +31,8 @@ use ids::refusal::Refusal;
 use ids::{RowsetNo, TableNo, VectorNo};
 use manifest::operation::Batch;
 use pins::PinBook;
-use snapshot::rowsets::Rowsets;
-use snapshot::tables::Tables;
-use snapshot::vectors::Vectors;
 use transaction::Handles;
-use version_state::{Held, VersionManagerInner};
+use version_state::VersionManagerInner;
 
 #[repr(C)]
 #[derive(Clone, Copy)]
@@ -289,8 +286,7 @@ impl VersionManager {
         self.commit_lines(&lines[..n], out)
     }
 
-    // The operations as manifest lines: each newline ends one, and bytes after the last newline are one more. The columns are moved
-    // into locals once, lent together, and made a manager again at the end.
+    // The operations as manifest lines: each newline ends one, and bytes after the last newline are one more.
     pub fn commit_lines(self, ops: &[u8], out: &mut [u8]) -> Committed
         ensures { CommitSays self (length (operations_in ops.now)) (operations_in ops.now) out.old result out.new }
     {
@@ -300,102 +296,19 @@ impl VersionManager {
                 answer: Err(Refusal::BadManager),
             };
         }
-        let inner = self.inner;
-        let next = inner.next;
-        let t = inner.tables;
-        let p = inner.rowsets;
-        let v = inner.vectors;
-        let mut ids = t.ids;
-        let mut shapes = t.shapes;
-        let mut lengths = t.lengths;
-        let mut names = t.names;
-        let mut locked = t.locked;
-        let mut pair_tables = p.tables;
-        let mut pair_rowsets = p.rowsets;
-        let mut pair_added = p.added;
-        let mut pair_deleted = p.deleted;
-        let mut tables = v.tables;
-        let mut rowsets = v.rowsets;
-        let mut vectors = v.vectors;
-        let mut added = v.added;
-        let mut deleted = v.deleted;
-        let first = Held {
-            epoch: inner.epoch,
-            next,
-            tables: t.count,
-            rowsets: p.count,
-            vectors: v.count,
-            manifest: inner.manifest,
-        };
-        let done = commit::commit_lines(
-            &mut ids,
-            &mut shapes,
-            &mut lengths,
-            &mut names,
-            &mut locked,
-            &mut pair_tables,
-            &mut pair_rowsets,
-            &mut pair_added,
-            &mut pair_deleted,
-            &mut tables,
-            &mut rowsets,
-            &mut vectors,
-            &mut added,
-            &mut deleted,
-            first,
-            ops,
-            out,
-        );
-        let verdict = done.verdict;
-        if let Err(refusal) = verdict {
-            return Answered {
+        let mut inner = self.inner;
+        match commit::commit_lines(&mut inner, ops, out) {
+            Err(refusal) => Answered {
                 manager: self,
                 answer: Err(refusal),
-            };
-        }
-        let held = done.held;
-        let next = held.next;
-        let live = Tables {
-            ids,
-            shapes,
-            lengths,
-            names,
-            locked,
-            count: held.tables,
-        };
-        let pairs = Rowsets {
-            tables: pair_tables,
-            rowsets: pair_rowsets,
-            added: pair_added,
-            deleted: pair_deleted,
-            count: held.rowsets,
-        };
-        let marks = Vectors {
-            tables,
-            rowsets,
-            vectors,
-            added,
-            deleted,
-            count: held.vectors,
-        };
-        let manager = followed(
-            VersionManagerInner {
-                epoch: held.epoch,
-                next,
-                tables: live,
-                rowsets: pairs,
-                vectors: marks,
-                manifest: held.manifest,
             },
-            inner,
-            done.length,
-        );
-        Answered {
-            manager,
-            answer: Ok(Appended {
-                epoch: held.epoch,
-                length: done.length,
-            }),
+            Ok(length) => Answered {
+                manager: followed(inner, self.inner, length),
+                answer: Ok(Appended {
+                    epoch: inner.epoch,
+                    length,
+                }),
+            },
         }
     }
 
