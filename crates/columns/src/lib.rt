@@ -78,49 +78,13 @@ pub fn ordered<'a>(a: &'a [u32; MOST_HELD], b: &'a [u32; MOST_HELD], count: usiz
     true
 }
 
-// Every number is at most `most`.
-pub fn at_most(s: &[u32; MOST_HELD], count: usize, most: u32) -> bool
-    requires { count ≤ most_held }
-    ensures { result ≡ all_of (λ x. leb x most) (rows (column s.now) count) }
-{
-    let mut i = 0;
-    while i < count {
-        if most < s[i] {
-            return false;
-        }
-        i += 1;
-    }
-    true
-}
-
-// Every number is below `limit`.
-pub fn below(s: &[u32; MOST_HELD], count: usize, limit: u32) -> bool
-    requires { count ≤ most_held }
-    ensures { result ≡ all_of (λ x. ltb x limit) (rows (column s.now) count) }
-{
-    let mut i = 0;
-    while i < count {
-        if limit <= s[i] {
-            return false;
-        }
-        i += 1;
-    }
-    true
-}
-
 // x put in at a place; what stands there and after it moves up by one.
-pub fn insert(s: &mut [u32; MOST_HELD], count: usize, at: usize, x: u32)
-    requires { (at ≤ count) × (count < most_held) × (length s.old ≡ most_held) }
+pub fn insert<T: Copy>(s: &mut [T; MOST_HELD], count: usize, at: usize, x: T)
+    requires { (at ≤ count) × (count < most_held) }
     ensures { PutIn count at s.old x s.new }
 {
-    let mut carry = x;
-    let mut i = at;
-    while i <= count {
-        let next = s[i];
-        s[i] = carry;
-        carry = next;
-        i += 1;
-    }
+    s.copy_within(at..count, at + 1);
+    s[at] = x;
 }
 
 // x stored at a place.
@@ -131,20 +95,16 @@ pub fn store(s: &mut [u32; MOST_HELD], at: usize, x: u32)
     s[at] = x;
 }
 
-// The marked numbers moved to the front, in order; answers how many they are.
-pub fn keep(s: &mut [u32; MOST_HELD], kept: &[bool; MOST_HELD], count: usize) -> usize
-    requires { (count ≤ most_held) × (length s.old ≡ most_held) }
+// What is marked moved to the front, in order; answers how many they are.
+pub fn keep<T: Copy>(s: &mut [T; MOST_HELD], kept: &[bool; MOST_HELD], count: usize) -> usize
+    requires { count ≤ most_held }
     ensures { Kept (rows (marks kept.now) count) count s.old result s.new }
 {
-    let mut k: usize = 0;
-    let mut i = 0;
-    while i < count {
+    let mut k = 0;
+    for i in 0..count {
         if kept[i] {
             s[k] = s[i];
             k += 1;
-            i += 1;
-        } else {
-            i += 1;
         }
     }
     k

@@ -39,38 +39,6 @@ pub fn place<'a>(
     low
 }
 
-pub fn insert(s: &mut [u64; MOST_HELD], count: usize, at: usize, x: u64)
-    requires { (at ≤ count) × (count < most_held) × (length s.old ≡ most_held) }
-    ensures { PutIn count at s.old x s.new }
-{
-    let mut carry = x;
-    let mut i = at;
-    while i <= count {
-        let next = s[i];
-        s[i] = carry;
-        carry = next;
-        i += 1;
-    }
-}
-
-pub fn keep(s: &mut [u64; MOST_HELD], kept: &[bool; MOST_HELD], count: usize) -> usize
-    requires { (count ≤ most_held) × (length s.old ≡ most_held) }
-    ensures { Kept (rows (marks kept.now) count) count s.old result s.new }
-{
-    let mut k: usize = 0;
-    let mut i = 0;
-    while i < count {
-        if kept[i] {
-            s[k] = s[i];
-            k += 1;
-            i += 1;
-        } else {
-            i += 1;
-        }
-    }
-    k
-}
-
 // Whether (x, y, z) stands at a place.
 pub fn stands<'a>(
     a: &'a [u32; MOST_HELD],
@@ -110,21 +78,6 @@ pub fn ordered<'a>(
     let mut i = 0;
     while i + 1 < count {
         if !before(a[i], b[i], c[i], a[i + 1], b[i + 1], c[i + 1]) {
-            return false;
-        }
-        i += 1;
-    }
-    true
-}
-
-// Every number is below `limit`.
-pub fn below(s: &[u64; MOST_HELD], count: usize, limit: u64) -> bool
-    requires { count ≤ most_held }
-    ensures { result ≡ all_of (λ x. ltb x limit) (rows (column s.now) count) }
-{
-    let mut i = 0;
-    while i < count {
-        if limit <= s[i] {
             return false;
         }
         i += 1;

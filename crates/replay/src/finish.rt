@@ -177,7 +177,7 @@ fn build_vectors<'a>(
     let kept = live(live_tables, live_rowsets, held, &tables, &rowsets, count);
     columns::keep(&mut tables, &kept, count);
     columns::keep(&mut rowsets, &kept, count);
-    columns::triples::keep(&mut ids, &kept, count);
+    columns::keep(&mut ids, &kept, count);
     columns::keep(&mut added, &kept, count);
     let left = columns::keep(&mut deleted, &kept, count);
     Vectors {

@@ -6,16 +6,16 @@ use Prim.Native.Nat.{ℕ, zero, suc, ◌+◌, ◌-◌, ◌≤◌, ◌<◌}
 use native.Mathlib.Omega.{arith}
 use native.Mathlib.Numerals.{add-one}
 use lib.Dec.{leb, ltb, eqb}
-use lib.ListN.{length, get_or, take, drop, set}
+use lib.ListN.{length, get_or, take, drop, set, drop_of_length-le}
 use borrow.Author.Tests.{ltb-true, ltb-false, lt-ltb, le-ltb, eq-eqb, ne_eqb, eqb-false}
 use Rattle.std.specs.Prelude.{Result, Ok, Err, nat_eq}
 use Rattle.std.specs.List.{list_any}
 use Rattle.lists.specs.Order.{less, same}
-use Rattle.lists.specs.Keyed.{keep, any_of, is_at, has, put, changed, ascending, rank}
+use Rattle.lists.specs.Keyed.{keep, all_of, any_of, is_at, has, put, changed, ascending, rank}
 use Rattle.lists.proofs.Tests.{by_cases, clash, neither, both}
 use Rattle.lists.proofs.Order.{same_true, less-same, less-trans, lex-last}
 use Rattle.lists.proofs.Keyed.{any_of-map, All, all_map, After, Ascending, ascend-to, ascend-from, after-absent, ascending-put, ascending-changed}
-use lib.Seq.{take_all}
+use lib.Seq.{take_all, drop-cons}
 use Rattle.lists.proofs.Places.{has_here, drop-view, drop-end}
 use Rattle.columns.specs.Rows.{rows, column, across, plain, PutIn}
 use Rattle.columns.proofs.Rows.{rows-length, rows_at, rows_all, rows-map, rows-column, rows_seen, rows_end}
@@ -209,3 +209,14 @@ leads-columns ks a d n at p k =
     by_cases (ltb at n)
     (λ t. let h = ltb-true at n t in rw (t, entry_there ks a d n at h) (leads_at by_ids (entry_at ks a d) n at p k h))
     (λ t. rw t (leads_none by_ids (entry_at ks a d) n at p k (ltb-false at n t)))
+
+-- a test of each entry: of those from i on it is not known yet
+module _ {A : Type 0} (p : A → Bool) (l : List A) (i : ℕ) (w : all_of p l ≡ all_of p (drop i l)) where
+  pub each-stop : (d : A) → i < length l → p (get_or l i d) ≡ false → false ≡ all_of p l
+  each-stop d h t = sym (w ∙ rw (drop-cons l i d h, t))
+
+  pub each_more : (d : A) → i < length l → p (get_or l i d) ≡ true → all_of p l ≡ all_of p (drop (i + 1) l)
+  each_more d h t = w ∙ rw (drop-cons l i d h, t, add-one)
+
+  pub each-end : length l ≤ i → true ≡ all_of p l
+  each-end h = sym (w ∙ rw (drop_of_length-le l {i = i} h))

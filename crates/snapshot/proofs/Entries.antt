@@ -19,7 +19,7 @@ use Rattle.lists.proofs.Places.{has_here, has_end, changed-at}
 use Rattle.lists.proofs.Views.{put_other}
 use Rattle.columns.specs.Rows.{rows, column, across, plain, marked, PutIn, Kept}
 use Rattle.snapshot.specs.Entries.{Entry, by_ids, deleted_at, below_next, within, entry_at, entries}
-use Rattle.columns.proofs.Rows.{insert-below, insert-here, insert-after, rows-length, rows_at, rows_are, rows-map, ascending-map, rank-map, rows-insert, rows-change}
+use Rattle.columns.proofs.Rows.{insert-below, insert-here, insert-after, rows-length, rows_at, rows_are, rows-map, ascending-map, rank-map, rows-insert, rows-change, put-rows, kept-rows}
 
 -- a test of rows is the test of what is tested
 pub all_map : {A B : Type 0} (e : A → B) (p : B → Bool) (l : List A) → all_of (λ x. p (e x)) l ≡ all_of p (map e l)
@@ -145,18 +145,18 @@ module _ (n at : ℕ) (h : at ≤ n) where
     in-below : (i : ℕ) → i < at → column e i ≡ column c i
     in-below i q =
         let z = rows-length (column c) n in
-        sym (rows_at (column e) (n + 1) i 0 (omega arith)) ∙ ap (λ (l : List ℕ). get_or l i 0) p.told ∙ insert-below x 0 at (rows (column c) n) i q (omega arith) ∙ rows_at (column c) n i 0 (omega arith)
+        sym (rows_at (column e) (n + 1) i 0 (omega arith)) ∙ ap (λ (l : List ℕ). get_or l i 0) (put-rows n at x c e p) ∙ insert-below x 0 at (rows (column c) n) i q (omega arith) ∙ rows_at (column c) n i 0 (omega arith)
 
     in-here : column e at ≡ x
     in-here =
         let z = rows-length (column c) n in
-        sym (rows_at (column e) (n + 1) at 0 (omega arith)) ∙ ap (λ (l : List ℕ). get_or l at 0) p.told ∙ insert-here x 0 at (rows (column c) n) (omega arith)
+        sym (rows_at (column e) (n + 1) at 0 (omega arith)) ∙ ap (λ (l : List ℕ). get_or l at 0) (put-rows n at x c e p) ∙ insert-here x 0 at (rows (column c) n) (omega arith)
 
     in_after : (i : ℕ) → at ≤ i → i < n → column e (i + 1) ≡ column c i
     in_after i q w =
         let z = rows-length (column c) n in
         let u : get_or (insert_at at x (rows (column c) n)) (i + 1) 0 ≡ get_or (rows (column c) n) i 0 = rw add-one (insert-after x 0 at (rows (column c) n) i q (omega arith)) in
-        sym (rows_at (column e) (n + 1) (i + 1) 0 (omega arith)) ∙ ap (λ (l : List ℕ). get_or l (i + 1) 0) p.told ∙ u ∙ rows_at (column c) n i 0 w
+        sym (rows_at (column e) (n + 1) (i + 1) 0 (omega arith)) ∙ ap (λ (l : List ℕ). get_or l (i + 1) 0) (put-rows n at x c e p) ∙ u ∙ rows_at (column c) n i 0 w
 
   all-below : {ks es : List (List ℕ)} {xs : List ℕ} → AllPutIn n at ks xs es → (i : ℕ) → i < at → across es i ≡ across ks i
   all-below none i q = refl
@@ -214,11 +214,11 @@ module _ (m : List Bool) (n r : ℕ) where
   placed-rows f = ap (marked m) (sym (rows-map (λ i. i) f n)) ∙ marked-map f m (rows (λ i. i) n)
 
   kept-count : (q : ℕ) (c e : List ℕ) → Kept m n c q e → length places ≡ q
-  kept-count q c e k = sym (length-map places (column c)) ∙ sym (ap length (k.told ∙ placed-rows (column c))) ∙ rows-length (column e) q
+  kept-count q c e k = sym (length-map places (column c)) ∙ sym (ap length (kept-rows m n q c e k ∙ placed-rows (column c))) ∙ rows-length (column e) q
 
   module _ (c e : List ℕ) (k : Kept m n c r e) where
     kept_at : (j : ℕ) → j < r → column e j ≡ column c (get_or places j 0)
-    kept_at j h = sym (rows_at (column e) r j (column c 0) h) ∙ ap (λ (l : List ℕ). get_or l j (column c 0)) (k.told ∙ placed-rows (column c)) ∙ get_or-map (column c) places j 0
+    kept_at j h = sym (rows_at (column e) r j (column c 0) h) ∙ ap (λ (l : List ℕ). get_or l j (column c 0)) (kept-rows m n r c e k ∙ placed-rows (column c)) ∙ get_or-map (column c) places j 0
 
   -- two columns keep as many
   pub kept-like : (c e d f : List ℕ) (q : ℕ) → Kept m n c q e → Kept m n d r f → Kept m n c r e

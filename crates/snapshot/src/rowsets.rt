@@ -35,6 +35,18 @@ pub struct HeldRowset {
     pub deleted: u32,
 }
 
+impl HeldRowset {
+    // Its epochs are at most the epoch, and its ids below the next ones.
+    fn within(self, epoch: u32, table: TableNo, rowset: RowsetNo) -> bool
+        ensures { result ≡ within epoch (table.0 ∷ rowset.0 ∷ []) (rowset_of self) }
+    {
+        self.added <= epoch
+            && self.deleted <= epoch
+            && self.table.0 < table.0
+            && self.rowset.0 < rowset.0
+    }
+}
+
 impl Rowsets {
     pub fn none() -> Rowsets
         ensures { (result.count ≡ 0) × (rowsets_of result ≡ []) }
@@ -75,16 +87,12 @@ impl Rowsets {
         requires fits { self.now.count ≤ most_held }
         ensures { result ≡ all_of (within epoch (table.0 ∷ rowset.0 ∷ [])) (rowsets_of self.now) }
     {
-        if !columns::at_most(&self.added, self.count, epoch) {
-            return false;
+        for i in 0..self.count {
+            if !self.get(i).within(epoch, table, rowset) {
+                return false;
+            }
         }
-        if !columns::at_most(&self.deleted, self.count, epoch) {
-            return false;
-        }
-        if !columns::below(&self.tables, self.count, table.0) {
-            return false;
-        }
-        columns::below(&self.rowsets, self.count, rowset.0)
+        true
     }
 
     // Where it stands, or else would be put in.

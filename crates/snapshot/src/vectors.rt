@@ -38,6 +38,19 @@ pub struct HeldVector {
     pub deleted: u32,
 }
 
+impl HeldVector {
+    // Its epochs are at most the epoch, and its ids below the next ones.
+    fn within(self, epoch: u32, table: TableNo, rowset: RowsetNo, vector: VectorNo) -> bool
+        ensures { result ≡ within epoch (table.0 ∷ rowset.0 ∷ vector.0 ∷ []) (vector_of self) }
+    {
+        self.added <= epoch
+            && self.deleted <= epoch
+            && self.table.0 < table.0
+            && self.rowset.0 < rowset.0
+            && self.vector.0 < vector.0
+    }
+}
+
 impl Vectors {
     pub fn none() -> Vectors
         ensures { (result.count ≡ 0) × (vectors_of result ≡ []) }
@@ -80,19 +93,12 @@ impl Vectors {
         requires fits { self.now.count ≤ most_held }
         ensures { result ≡ all_of (within epoch (table.0 ∷ rowset.0 ∷ vector.0 ∷ [])) (vectors_of self.now) }
     {
-        if !columns::at_most(&self.added, self.count, epoch) {
-            return false;
+        for i in 0..self.count {
+            if !self.get(i).within(epoch, table, rowset, vector) {
+                return false;
+            }
         }
-        if !columns::at_most(&self.deleted, self.count, epoch) {
-            return false;
-        }
-        if !columns::below(&self.tables, self.count, table.0) {
-            return false;
-        }
-        if !columns::below(&self.rowsets, self.count, rowset.0) {
-            return false;
-        }
-        columns::triples::below(&self.vectors, self.count, vector.0)
+        true
     }
 
     // Where it stands, or else would be put in.
@@ -194,7 +200,7 @@ impl Vectors {
         let count = self.count;
         columns::insert(&mut self.tables, count, at, table.0);
         columns::insert(&mut self.rowsets, count, at, rowset.0);
-        columns::triples::insert(&mut self.vectors, count, at, vector.0);
+        columns::insert(&mut self.vectors, count, at, vector.0);
         columns::insert(&mut self.added, count, at, epoch);
         columns::insert(&mut self.deleted, count, at, 0);
         self.count = count + 1;
@@ -230,7 +236,7 @@ impl Vectors {
         let n = self.count;
         columns::keep(&mut self.tables, kept, n);
         columns::keep(&mut self.rowsets, kept, n);
-        columns::triples::keep(&mut self.vectors, kept, n);
+        columns::keep(&mut self.vectors, kept, n);
         columns::keep(&mut self.added, kept, n);
         let left = columns::keep(&mut self.deleted, kept, n);
         self.count = left;

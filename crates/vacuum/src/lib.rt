@@ -117,7 +117,7 @@ pub fn let_go(inner: VersionManagerInner, epoch: u32) -> VersionManagerInner
     let kept = held::left(&s.vectors.deleted, n, epoch);
     columns::keep(&mut s.vectors.tables, &kept, n);
     columns::keep(&mut s.vectors.rowsets, &kept, n);
-    columns::triples::keep(&mut s.vectors.vectors, &kept, n);
+    columns::keep(&mut s.vectors.vectors, &kept, n);
     columns::keep(&mut s.vectors.added, &kept, n);
     let left = columns::keep(&mut s.vectors.deleted, &kept, n);
     s.vectors.count = left;

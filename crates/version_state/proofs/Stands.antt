@@ -80,17 +80,6 @@ kept-prefix n p l up = sorted-prefix by_ids n (keep p l) (ascending-sorted by_id
 pub stand_all : {A B : Type 0} (f : A → List ℕ) (key : B → List ℕ) (l : List A) (m : List B) → stand f key (λ y. true) l m ≡ all_of (λ w. has key (f w) m) l
 stand_all f key l m = ap (λ r. all_of (λ w. has key (f w) r) l) (keep_all (λ y. true) m (all_any m (λ y. refl)))
 
--- a test of each entry: of those from i on it is not known yet
-module _ {A : Type 0} (p : A → Bool) (l : List A) (i : ℕ) (w : all_of p l ≡ all_of p (drop i l)) where
-  pub each-stop : (d : A) → i < length l → p (get_or l i d) ≡ false → false ≡ all_of p l
-  each-stop d h t = sym (w ∙ rw (drop-cons l i d h, t))
-
-  pub each_more : (d : A) → i < length l → p (get_or l i d) ≡ true → all_of p l ≡ all_of p (drop (i + 1) l)
-  each_more d h t = w ∙ rw (drop-cons l i d h, t, add-one)
-
-  pub each-end : length l ≤ i → true ≡ all_of p l
-  each-end h = sym (w ∙ rw (drop_of_length-le l {i = i} h))
-
 -- the end of a walk
 pub stand-end : {A B : Type 0} (f : A → List ℕ) (key : B → List ℕ) (p : B → Bool) (l : List A) (m n : List B) (i : ℕ) → i ≡ length l → stand f key p l m ≡ stand f key p (drop i l) n → true ≡ stand f key p l m
 stand-end f key p l m n i e w = sym (w ∙ rw (drop_of_length-le l {i = i} (omega arith)))

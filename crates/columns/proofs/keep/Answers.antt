@@ -1,50 +1,18 @@
 -- `columns::keep` meets its contract.
-use native.Mathlib.Omega.{arith}
+use Rattle.ids.specs.Limits.{most_held}
 use Rattle.lists.proofs.Places.{known}
-use Rattle.columns.proofs.Rows.{move_start, move-take, move-pass, move-done}
+use Rattle.columns.specs.Rows.{marks}
+use Rattle.columns.proofs.Rows.{move-take, move-pass, move-done}
 use Rattle.columns.proofs.keep.Goals as goal
-
-pub loop-i-init : goal.loop-i-init
-loop-i-init c = move_start _ _ _ _ c.requires.1
-
-pub bounds-kept-i : goal.bounds-kept-i
-bounds-kept-i c = search known
-
-pub offset_bounds-s-i : goal.offset_bounds-s-i
-offset_bounds-s-i c = search known
-
-pub bounds-s-i : goal.bounds-s-i
-bounds-s-i c = search known
-
-pub offset_bounds-s-k : goal.offset_bounds-s-k
-offset_bounds-s-k c = search known
-
-pub bounds-s-k : goal.bounds-s-k
-bounds-s-k c = search known
-
-pub overflow_add-k : goal.overflow_add-k
-overflow_add-k c = search known
-
-pub overflow_add-i : goal.overflow_add-i
-overflow_add-i c = search known
-
-pub loop-i-smaller-then-kept-i : goal.loop-i-smaller-then-kept-i
-loop-i-smaller-then-kept-i c = search known
-
-pub loop-i-preserved-then-kept-i : goal.loop-i-preserved-then-kept-i
-loop-i-preserved-then-kept-i c = move-take _ _ _ _ _ _ _ c.requires.0 c.loop-i-test.true c.loop-i.invariant c.if-kept-i.true
-
-pub overflow_add-i-else-kept-i : goal.overflow_add-i-else-kept-i
-overflow_add-i-else-kept-i c = search known
-
-pub loop-i-smaller : goal.loop-i-smaller
-loop-i-smaller c = search known
+use Rattle.columns.proofs.keep.Goals.{then-kept-i, else-kept-i}
 
 pub loop-i-preserved : goal.loop-i-preserved
-loop-i-preserved c = move-pass _ _ _ _ _ _ _ c.requires.0 c.loop-i-test.true c.loop-i.invariant c.if-kept-i.false
+loop-i-preserved g c =
+    let h = c.loop-i-test.true in
+    elim c.if-kept-i.branch [
+      then-kept-i w ↦ rw (w.s-is, w.k-is) (move-take most_held (marks c.args.kept.now) c.args.count c.args.s.now c.loop-i.i c.loop-i.k c.loop-i.s w.index-s-i.result c.requires h c.loop-i.invariant w.if-kept-i.true)
+    | else-kept-i w ↦ rw (w.s-is, w.k-is) (move-pass most_held (marks c.args.kept.now) c.args.count c.args.s.now c.loop-i.i c.loop-i.k c.loop-i.s c.requires h c.loop-i.invariant w.if-kept-i.false)
+    ]
 
 pub returns : goal.returns
-returns c =
-    let inv = c.loop-i.invariant in
-    let pre = c.requires in
-    record { told = move-done _ _ _ _ _ _ _ pre.1 pre.0 c.loop-i-test.false inv; fewer = omega (arith, inv.within, inv.behind) }
+returns g c = let h = c.loop-i-test.false in move-done _ _ _ _ _ _ _ (search known) c.requires h c.loop-i.invariant

@@ -33,14 +33,10 @@ pub keep-requires-3 : goal.keep-requires-3
 keep-requires-3 c = search known
 
 pub keep-requires-4 : goal.keep-requires-4
-keep-requires-4 c =
-    let ok = c.filled-added.type_inv in
-    (c.requires.1, search known)
+keep-requires-4 c = search known
 
 pub keep-left-requires : goal.keep-left-requires
-keep-left-requires c =
-    let ok = c.filled-deleted.type_inv in
-    (c.requires.1, search known)
+keep-left-requires c = search known
 
 pub returns : goal.returns
 returns c =

@@ -7,7 +7,7 @@ use Rattle.columns.proofs.Rows.{rows-length}
 use Rattle.text.specs.Name.{is_name}
 use Rattle.snapshot.specs.Tables.{TableEntry, no_table, table_at}
 use Rattle.snapshot.specs.Views.{tables_of}
-use Rattle.version_state.proofs.Stands.{each-stop, each_more, each-end}
+use Rattle.snapshot.proofs.ByPlace.{each-stop, each_more, each-end}
 use Rattle.version_state.proofs.VersionManagerInner.names_valid.Goals as goal
 
 pub returns-then-not-is_name : goal.returns-then-not-is_name
