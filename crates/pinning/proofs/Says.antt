@@ -55,6 +55,9 @@ module _ (m : VersionManager) (b : PinBook) where
       ∙ ap (λ (d : Verdict). result_and d (judged pin-rest)) h
       ∙ ap₂ (λ (x y : Bool). judged ((eqb (current m) 0 ⇒ PinAtEpochZero) ∷ (x ⇒ PinsFull) ∷ (y ⇒ PinnedEpochsFull) ∷ [])) v w
 
+  pub pin-10 : bad_manager m ≡ false → bad_book (current m) b ≡ false → eqb (current m) 0 ≡ true → Err PinAtEpochZero ≡ pin_verdict m b
+  pin-10 p q r = sym (rw (p, q, r))
+
   -- what is known where pin is accepted
   pub record Pinnable : Type 0 where
     pub good : GoodBook (current m) b
