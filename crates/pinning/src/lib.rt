@@ -19,24 +19,23 @@ use pins::{MOST_PINS, PinBook, Place};
 use version_manager::VersionManager;
 use version_state::VersionManagerInner;
 
+// For callers that go by value: the book afterwards, beside the answer.
 #[derive(Drop)]
-pub struct PinStep {
+pub struct Stepped<T> {
     pub book: PinBook,
-    // The epoch that is pinned.
-    pub answer: Result<u32, Refusal>,
+    pub answer: Result<T, Refusal>,
 }
+
+// The epoch that is pinned.
+pub type PinStep = Stepped<u32>;
+
+pub type UnpinStep = Stepped<Readiness>;
 
 // Whether a vacuum is due, and how many deletions it would list.
 #[derive(Clone, Copy)]
 pub struct Readiness {
     pub due: bool,
     pub ready: usize,
-}
-
-#[derive(Drop)]
-pub struct UnpinStep {
-    pub book: PinBook,
-    pub answer: Result<Readiness, Refusal>,
 }
 
 // A book that passes 28 passes it after a pin or an unpin.
@@ -127,7 +126,7 @@ pub fn pinned(manager: VersionManager, old: PinBook) -> PinStep
 {
     let mut book = old;
     let answer = pin(manager, &mut book);
-    PinStep { book, answer }
+    Stepped { book, answer }
 }
 
 pub fn unpinned(manager: VersionManager, old: PinBook, epoch: u32) -> UnpinStep
@@ -135,5 +134,5 @@ pub fn unpinned(manager: VersionManager, old: PinBook, epoch: u32) -> UnpinStep
 {
     let mut book = old;
     let answer = unpin(manager, &mut book, epoch);
-    UnpinStep { book, answer }
+    Stepped { book, answer }
 }
