@@ -130,7 +130,7 @@ fn value_in(groups: &[u8]) -> u64
 }
 
 // The row that the file's first record has room for, or ROW_LIMIT where that is smaller.
-pub fn row_in(file: &[u8]) -> u64
+pub(crate) fn row_in(file: &[u8]) -> u64
     ensures { result ≡ min (row_in file.now) row_limit }
 {
     let [size, rest @ ..] = file else {
@@ -144,7 +144,7 @@ pub fn row_in(file: &[u8]) -> u64
 }
 
 // The row of the file's first record, where the file begins with what the writer makes of a row.
-pub fn first_row(file: &[u8], sizes: &Sizes) -> Option<RowNo>
+pub(crate) fn first_row(file: &[u8], sizes: &Sizes) -> Option<RowNo>
     ensures { MatchOption result (is_record file.now ≡ false) (λ r. (is_record file.now ≡ true) × (r.0 ≡ row_in file.now)) }
 {
     let Ok(row) = u32::try_from(row_in(file)) else {

@@ -15,13 +15,13 @@ use ids::refusal::Refusal;
 use ids::{RowNo, RowsetNo, SecondaryRowHandler};
 use vectors::Vectors;
 
-pub mod order;
-pub mod vectors;
+mod order;
+mod vectors;
 
 // The most handles of a transaction.
 pub const MOST_HANDLES: usize = 4096;
 
-// The handles of a transaction: the first `count`.
+// The handles of a transaction: the first `count`. The C interface hands them over so, by value.
 #[derive(Drop)]
 pub struct Handles {
     pub items: [SecondaryRowHandler; MOST_HANDLES],
@@ -70,7 +70,7 @@ fn grouped(
     Ok(count)
 }
 
-// The vectors of handles; their ids are from next on. 29 is judged before.
+// The vectors of handles; their ids are from next on. 29 is judged before. The five slices come one by one, as C lends them.
 pub fn group(
     handles: &Handles,
     next: u64,

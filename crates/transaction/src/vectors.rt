@@ -23,7 +23,7 @@ pub struct Vectors {
     ghost within: { (count ≤ 4096) × (kept ≤ 4096) },
 }
 
-// Rows that rise already are only copied.
+// Rows that rise already are only copied. `delete_vector::in_memory` would make two arrays for each vector.
 fn ascend(rows: &[u32], out: &mut [u32], spare: &mut [u32]) -> usize
     requires { (length rows.now ≤ length out.old) × (length rows.now ≤ length spare.old) }
     ensures { (take result out.new ≡ in_memory rows.now) × (result ≤ length rows.now) }
