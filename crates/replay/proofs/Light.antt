@@ -16,7 +16,7 @@ use Rattle.version_state.specs.State.{State, with_pairs, with_vectors}
 use Rattle.operations.specs.Effect.{edited, marked, applied}
 use Rattle.operations.proofs.Edits.{ascending-marked}
 use Rattle.replay.specs.Replay.{reopened, conflicts, framed, stands, settled}
-use Rattle.replay.specs.Working.{lightly, framed_lightly}
+use Rattle.replay.specs.Sets.{lightly, framed_lightly}
 
 -- what both lists of a state have
 pub record Rising (s : State) : Type 0 where

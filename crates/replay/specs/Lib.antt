@@ -1,3 +1,4 @@
 -- The definitions that this crate's contracts cite. Assumes nothing.
 pub mod Replay
-pub mod Working
+pub mod Sets
+pub mod Reading

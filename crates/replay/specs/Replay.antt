@@ -14,7 +14,7 @@ use Rattle.snapshot.specs.Tables.{TableEntry, by_table, name_taken}
 use Rattle.version_state.specs.State.{State, start, with_pairs, with_vectors, with_epoch, Hands}
 use Rattle.version_state.specs.Sound.{has_table, has_rowset}
 use Rattle.operations.specs.Effect.{applied}
-use Rattle.replay.specs.declared.Replayed.{Replayed}
+use Rattle.version_state.specs.declared.VersionManagerInner.{VersionManagerInner}
 
 -- no frame is open, or one is: the number of the line after its `B`, and the operations since then, a line each
 pub data Frame : Type 0 where
@@ -109,6 +109,6 @@ abbrev pub replay_of : List ℕ → Result State Refusal
 replay_of s = cond (ltb longest_manifest (length s)) (Err ManifestTooLong) (lines_replayed (lines s))
 
 -- refused, or what is handed out stands for the state
-unfoldable pub ReplayIs : Result State Refusal → Replayed → Type 0
-ReplayIs (Err k) r = r.verdict ≡ Err k
-ReplayIs (Ok s) r = (r.verdict ≡ Ok tt) × Hands r.inner s
+unfoldable pub ReplayIs : Result State Refusal → Result VersionManagerInner Refusal → Type 0
+ReplayIs (Err k) r = r ≡ Err k
+ReplayIs (Ok s) r = (m : VersionManagerInner) × (r ≡ Ok m) × Hands m s

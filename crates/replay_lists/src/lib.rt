@@ -77,7 +77,8 @@ impl<T: Keyed + Default + Drop, const N: usize> SortedList<T, N> {
     // The entry in the place of one with its key, or put in.
     pub fn put(&mut self, x: T)
         requires { length self.old < N }
-        ensures { self.new ≡ put (by T.numbers T.key) x self.old }
+        ensures told { self.new ≡ put (by T.numbers T.key) x self.old }
+        ensures rising { ascending (by T.numbers T.key) self.new ≡ true }
     {
         match self.find(x.key()) {
             Ok(at) => self.entries.as_mut_slice()[at] = x,
@@ -87,7 +88,8 @@ impl<T: Keyed + Default + Drop, const N: usize> SortedList<T, N> {
 
     // The entry with the key taken out, where it is there.
     pub fn remove(&mut self, key: T::Key)
-        ensures { self.new ≡ without (by T.numbers T.key) (T.numbers key) self.old }
+        ensures told { self.new ≡ without (by T.numbers T.key) (T.numbers key) self.old }
+        ensures rising { ascending (by T.numbers T.key) self.new ≡ true }
     {
         if let Ok(at) = self.find(key) {
             self.entries.remove(at);

@@ -1,0 +1,64 @@
+-- What a change of a list does to the entries that it stands for. Assumes nothing.
+use Rattle.std.proofs.Common.{◌≡◌, refl, sym, Bool, true, false, List, [], ◌∷◌, map, ℕ, ◌<◌, ◌≤◌, length, get_or, drop, drop-cons, drop_of_length-le}
+use Rattle.lists.specs.Order.{same}
+use Rattle.lists.specs.Keyed.{any_of, all_of, is_at, has, put, without}
+use Rattle.lists.proofs.Keyed.{any_of-map}
+use Rattle.ids.specs.Names.{name_of}
+use Rattle.snapshot.specs.Entries.{by_ids}
+use Rattle.snapshot.specs.Tables.{TableEntry, by_table, name_taken}
+use Rattle.version_state.specs.Sound.{has_table, has_rowset}
+use Rattle.replay.specs.declared.sets.LiveTable.{LiveTable}
+use Rattle.replay.specs.declared.sets.LiveRowset.{LiveRowset}
+use Rattle.replay.specs.declared.sets.LiveVector.{LiveVector}
+use Rattle.replay.specs.Sets.{table_entry, rowset_entry, vector_entry}
+use Rattle.replay.proofs.Maps.{map-put, map-without}
+
+-- what is left of a list at a place: the entry there, or nothing
+module _ {A : Type 0} (p : A → Bool) where
+  pub any_here : (l : List A) (i : ℕ) (d : A) → i < length l → p (get_or l i d) ≡ true → any_of p (drop i l) ≡ true
+  any_here l i d h t = rw (drop-cons l i d h, t) refl
+
+  pub any_end : (l : List A) (i : ℕ) → length l ≤ i → any_of p (drop i l) ≡ false
+  any_end l i h = rw (drop_of_length-le l {i = i} h) refl
+
+  pub all-fails : (l : List A) (i : ℕ) (d : A) → i < length l → p (get_or l i d) ≡ false → all_of p (drop i l) ≡ false
+  all-fails l i d h t = rw (drop-cons l i d h, t) refl
+
+  pub all_end : (l : List A) (i : ℕ) → length l ≤ i → all_of p (drop i l) ≡ true
+  all_end l i h = rw (drop_of_length-le l {i = i} h) refl
+
+module _ (l : List LiveTable) where
+  pub table-has : (k : List ℕ) → has by_table k (map table_entry l) ≡ has (λ (x : LiveTable). x.table.0 ∷ []) k l
+  table-has k = any_of-map table_entry (is_at by_table k) l
+
+  pub name-taken : (n : List ℕ) → name_taken n (map table_entry l) ≡ any_of (λ (x : LiveTable). same (name_of x.name) n) l
+  name-taken n = any_of-map table_entry (λ (x : TableEntry). same x.name n) l
+
+  pub table-put : (x : LiveTable) → map table_entry (put (λ (x : LiveTable). x.table.0 ∷ []) x l) ≡ put by_table (table_entry x) (map table_entry l)
+  table-put x = sym (map-put table_entry (λ (x : LiveTable). x.table.0 ∷ []) by_table (λ u v. refl) (λ u v. refl) x l)
+
+  pub table-without : (k : List ℕ) → map table_entry (without (λ (x : LiveTable). x.table.0 ∷ []) k l) ≡ without by_table k (map table_entry l)
+  table-without k = sym (map-without table_entry (λ (x : LiveTable). x.table.0 ∷ []) by_table k k (λ u. refl) l)
+
+-- whether each rowset has its table
+pub has-tables : (ts : List LiveTable) (l : List LiveRowset) → all_of (has_table (map table_entry ts)) (map rowset_entry l) ≡ all_of (λ (x : LiveRowset). has (λ (y : LiveTable). y.table.0 ∷ []) (x.table.0 ∷ []) ts) l
+has-tables ts [] = refl
+has-tables ts (x ∷ l) = rw (table-has, has-tables ts l) refl
+
+module _ (l : List LiveRowset) where
+  pub rowset-put : (x : LiveRowset) → map rowset_entry (put (λ (x : LiveRowset). x.table.0 ∷ x.rowset.0 ∷ []) x l) ≡ put by_ids (rowset_entry x) (map rowset_entry l)
+  rowset-put x = sym (map-put rowset_entry (λ (x : LiveRowset). x.table.0 ∷ x.rowset.0 ∷ []) by_ids (λ u v. refl) (λ u v. refl) x l)
+
+  pub rowset-without : (k : List ℕ) → map rowset_entry (without (λ (x : LiveRowset). x.table.0 ∷ x.rowset.0 ∷ []) k l) ≡ without by_ids k (map rowset_entry l)
+  rowset-without k = sym (map-without rowset_entry (λ (x : LiveRowset). x.table.0 ∷ x.rowset.0 ∷ []) by_ids k k (λ u. refl) l)
+
+module _ (l : List LiveVector) where
+  pub vector-put : (x : LiveVector) → map vector_entry (put (λ (x : LiveVector). x.table.0 ∷ x.rowset.0 ∷ x.vector.0 ∷ []) x l) ≡ put by_ids (vector_entry x) (map vector_entry l)
+  vector-put x = sym (map-put vector_entry (λ (x : LiveVector). x.table.0 ∷ x.rowset.0 ∷ x.vector.0 ∷ []) by_ids (λ u v. refl) (λ u v. refl) x l)
+
+  pub vector-without : (k : List ℕ) → map vector_entry (without (λ (x : LiveVector). x.table.0 ∷ x.rowset.0 ∷ x.vector.0 ∷ []) k l) ≡ without by_ids k (map vector_entry l)
+  vector-without k = sym (map-without vector_entry (λ (x : LiveVector). x.table.0 ∷ x.rowset.0 ∷ x.vector.0 ∷ []) by_ids k k (λ u. refl) l)
+
+-- whether a vector's rowset is live
+pub has-rowset : (l : List LiveRowset) (x : LiveVector) → has_rowset (map rowset_entry l) (vector_entry x) ≡ has (λ (y : LiveRowset). y.table.0 ∷ y.rowset.0 ∷ []) (x.table.0 ∷ x.rowset.0 ∷ []) l
+has-rowset l x = any_of-map rowset_entry (is_at by_ids (x.table.0 ∷ x.rowset.0 ∷ [])) l

@@ -1,0 +1,156 @@
+-- One line, and all of them. Assumes nothing.
+use Rattle.std.proofs.Common.{◌≡◌, refl, ap, ◌∙◌, true, false, List, [], ◌∷◌, ◌++◌, map, ℕ, ◌+◌, ◌≤◌, ltb, ◌||◌, length, take, arith, Result, Ok, Err, Option, None}
+use borrow.Author.Tests.{ltb-false}
+use lib.Seq.{take-length}
+use Rattle.std.proofs.Math.ListN.{length-map}
+use Rattle.lists.specs.Keyed.{keep}
+use Rattle.lists.proofs.Tests.{by_cases, neither}
+use Rattle.lists.proofs.Keyed.{ascend-to}
+use Rattle.ids.specs.Results.{and_then}
+use Rattle.ids.specs.Limits.{most_operations, most_tables, most_held}
+use Rattle.ids.specs.declared.refusal.Refusal.{Refusal}
+use Rattle.manifest.specs.Operations.{Operation, Line, end, operation, line_said}
+use Rattle.manifest.specs.Lines.{line_of}
+use Rattle.manifest.specs.Split.{lines}
+use Rattle.manifest.proofs.Split.{lines-from-start}
+use Rattle.snapshot.specs.Entries.{Entry, by_ids}
+use Rattle.version_state.specs.State.{State, with_pairs, with_vectors}
+use Rattle.replay.specs.declared.said.Said.{Said}
+use Rattle.replay.specs.declared.frame.Begun.{Begun}
+use Rattle.replay.specs.declared.sets.LiveRowset.{LiveRowset}
+use Rattle.replay.specs.declared.sets.LiveVector.{LiveVector}
+use Rattle.replay.specs.declared.sets.Sets.{Sets}
+use Rattle.replay.specs.Replay.{Frame, none, Carried, carried, at_start, framed, stands, settled, over_limit, limited, ended, line_read, lines_read}
+use Rattle.replay.specs.Sets.{table_entry, rowset_entry, vector_entry, state_in, RoomFor, framed_lightly}
+use Rattle.replay.specs.Reading.{said_from, leading, Opened, FrameIs, OpenWithin, Carrying, Ended, Says}
+use Rattle.replay.proofs.Maps.{ascending-mapped}
+use Rattle.replay.proofs.Light.{Rising, frame-light}
+
+keep-mapped : {X : Type 0} (f : X → Entry) → ((x : X) → stands (f x) ≡ true) → (l : List X) → keep stands (map f l) ≡ map f l
+keep-mapped f h [] = refl
+keep-mapped f h (x ∷ l) = rw (h x) (ap (λ (m : List Entry). f x ∷ m) (keep-mapped f h l))
+
+-- What the sets hold rises, and stands.
+module _ (l : Sets) where
+  rising-in : Rising (state_in l)
+  rising-in = record {
+    pairs = ascending-mapped rowset_entry (λ (x : LiveRowset). x.table.0 ∷ x.rowset.0 ∷ []) by_ids (λ x y. refl) l.rowsets (ascend-to (λ (x : LiveRowset). x.table.0 ∷ x.rowset.0 ∷ []) l.rowsets l.rowsets_rise);
+    vectors = ascending-mapped vector_entry (λ (x : LiveVector). x.table.0 ∷ x.rowset.0 ∷ x.vector.0 ∷ []) by_ids (λ x y. refl) l.vectors (ascend-to (λ (x : LiveVector). x.table.0 ∷ x.rowset.0 ∷ x.vector.0 ∷ []) l.vectors l.vectors_rise);
+  }
+
+  settled-in : settled (state_in l) ≡ state_in l
+  settled-in =
+      ap (λ (m : List Entry). with_vectors (with_pairs (state_in l) (keep stands (state_in l).pairs)) m) (keep-mapped vector_entry (λ x. refl) l.vectors)
+      ∙ ap (λ (m : List Entry). with_pairs (state_in l) m) (keep-mapped rowset_entry (λ x. refl) l.rowsets)
+
+  -- a frame of the definition is one of the code
+  frame-in : (n : ℕ) (os : List Operation) (f : State → Result State Refusal) → and_then (framed n os (state_in l)) (λ u. f (settled u)) ≡ and_then (framed_lightly n os (state_in l)) f
+  frame-in n os f = frame-light f n os (state_in l) rising-in ∙ ap (λ (s : State). and_then (framed_lightly n os s) f) settled-in
+
+leading-ops : (os : List Operation) (m : List Line) → leading (map operation os ++ (end ∷ m)) ≡ os
+unfolding leading
+leading-ops [] m = refl
+leading-ops (o ∷ os) m = ap (λ (t : List Operation). o ∷ t) (leading-ops os m)
+
+-- An `E` where a frame is open.
+module _ (src : List ℕ) (l : Sets) (at next n : ℕ) (b : Begun) (f : Frame) (w : Opened src at b f) (s : said_from src at ≡ end ∷ said_from src next) where
+  pub frame-ended : ended n f (state_in l) ≡ and_then (framed_lightly b.line (take b.count (leading (said_from src b.place))) (state_in l)) (limited n)
+  frame-ended =
+      let t : take b.count (leading (said_from src b.place)) ≡ w.ops = rw (w.count, w.said, s) (ap (take (length w.ops)) (leading-ops w.ops (said_from src next)) ∙ take-length w.ops) in
+      rw (w.frame, t) (frame-in l b.line w.ops (limited n))
+
+differ : {A : Type 0} {k : Refusal} {a : A} → ◌≡◌ {A = Result A Refusal} (Err k) (Ok a) → ⊥
+differ h = let z : ◌≡◌ {A = ℕ} 0 1 = cc in omega arith
+
+inside : {A : Type 0} {a b : A} → ◌≡◌ {A = Result A Refusal} (Ok a) (Ok b) → a ≡ b
+inside h = cc
+
+-- what was within the limits has room for a frame
+within-limits : (m : Sets) → over_limit (state_in m) ≡ false → RoomFor most_operations m
+within-limits m h =
+    let t = neither (ltb most_tables (length (state_in m).tables)) (ltb most_held (length (state_in m).pairs) || ltb most_held (length (state_in m).vectors)) h in
+    let u = neither (ltb most_held (length (state_in m).pairs)) (ltb most_held (length (state_in m).vectors)) t.1 in
+    record {
+      tables = omega (arith, length-map m.tables table_entry, ltb-false _ _ t.0);
+      rowsets = omega (arith, length-map m.rowsets rowset_entry, ltb-false _ _ u.0);
+      vectors = omega (arith, length-map m.vectors vector_entry, ltb-false _ _ u.1);
+    }
+
+limited-room : (n : ℕ) (x : Result State Refusal) (m : Sets) → and_then x (limited n) ≡ Ok (state_in m) → RoomFor most_operations m
+limited-room n (Err k) m h = absurd (differ h)
+limited-room n (Ok s) m h =
+    by_cases (over_limit s)
+    (λ t. absurd (differ (rw t at h)))
+    (λ t. let e = inside (rw t at h) in within-limits m (rw e at t))
+
+-- An `E`, and what is carried after it.
+module _ (src : List ℕ) (l : Sets) (at next n : ℕ) (b : Begun) (f : Frame) (w : Opened src at b f) (s : said_from src at ≡ end ∷ said_from src next) where
+  pub end-refused : (k : Refusal) → and_then (framed_lightly b.line (take b.count (leading (said_from src b.place))) (state_in l)) (limited n) ≡ Err k
+      → line_read end (carried (state_in l) f n) ≡ Err k
+  end-refused k e = ap (λ (x : Result State Refusal). and_then x (λ s. Ok (carried s none (n + 1)))) (frame-ended src l at next n b f w s ∙ e)
+
+  pub end-carries : (m : Sets) → and_then (framed_lightly b.line (take b.count (leading (said_from src b.place))) (state_in l)) (limited n) ≡ Ok (state_in m)
+      → Carrying (line_read end (carried (state_in l) f n)) src next (n + 1) m None
+  end-carries m e =
+      record {
+        frame = none;
+        same = ap (λ (x : Result State Refusal). and_then x (λ s. Ok (carried s none (n + 1)))) (frame-ended src l at next n b f w s ∙ e);
+        known = refl;
+        within = tt;
+        room = limited-room n (framed_lightly b.line (take b.count (leading (said_from src b.place))) (state_in l)) m e;
+      }
+
+-- All lines, by what they say.
+abbrev pub said_read : List Line → Carried → Result Carried Refusal
+said_read [] c = Ok c
+said_read (l ∷ ls) c = and_then (line_read l c) (said_read ls)
+
+said-same : (ls : List (List ℕ)) (c : Carried) → lines_read ls c ≡ said_read (map line_of ls) c
+said-same [] c = refl
+said-same (l ∷ ls) c = on (said-same ls) (line_read (line_of l) c)
+  where
+    on : ((d : Carried) → lines_read ls d ≡ said_read (map line_of ls) d) → (x : Result Carried Refusal) → and_then x (lines_read ls) ≡ and_then x (said_read (map line_of ls))
+    on h (Err k) = refl
+    on h (Ok d) = h d
+
+-- the lines up to a place are read, and that is carried on
+pub record Reading (src : List ℕ) (l : Sets) (b : Option Begun) (at n : ℕ) : Type 0 where
+  pub frame : Frame
+  pub same : lines_read (lines src) at_start ≡ said_read (said_from src at) (carried (state_in l) frame n)
+  pub known : FrameIs src at b frame
+  pub within : OpenWithin src b
+  pub room : RoomFor most_operations l
+  pub line : n ≤ at + 1
+  pub inside : at ≤ length src
+
+pub reading-start : (src : List ℕ) (l : Sets) → state_in l ≡ at_start.state → RoomFor most_operations l → Reading src l None 0 1
+reading-start src l e r =
+    record {
+      frame = none;
+      same = said-same (lines src) at_start ∙ rw (e, lines-from-start) refl;
+      known = refl;
+      within = tt;
+      room = r;
+      line = omega arith;
+      inside = omega arith;
+    }
+
+module _ (src : List ℕ) (l : Sets) (b : Option Begun) (at n : ℕ) (g : Reading src l b at n) where
+  pub reading-end : said_from src at ≡ [] → Ended (lines_read (lines src) at_start) l
+  reading-end h = record { frame = g.frame; line = n; same = g.same ∙ rw h refl; room = g.room }
+
+  module _ (r : Said) (s : Says src at r) where
+    pub reading-stop : (m : Sets) (k : Refusal) → line_read (line_said r.parsed) (carried (state_in l) g.frame n) ≡ Err k → lines_read (lines src) at_start ≡ Err k
+    reading-stop m k e = g.same ∙ rw (s.said, e) refl
+
+    pub reading-on : (m : Sets) (o : Option Begun) → Carrying (line_read (line_said r.parsed) (carried (state_in l) g.frame n)) src r.next (n + 1) m o → Reading src m o r.next (n + 1)
+    reading-on m o c =
+        record {
+          frame = c.frame;
+          same = g.same ∙ rw (s.said, c.same) refl;
+          known = c.known;
+          within = c.within;
+          room = c.room;
+          line = omega (arith, g.line, s.after);
+          inside = s.inside;
+        }

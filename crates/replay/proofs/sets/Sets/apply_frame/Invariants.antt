@@ -1,0 +1,7 @@
+use Rattle.std.proofs.Common.{◌-◌}
+use Rattle.replay.specs.Sets.{state_in}
+use Rattle.replay.proofs.Reading.{Going}
+use Rattle.replay.proofs.sets.Sets.apply_frame.Given as goal
+
+abbrev pub invariant-loop-line : goal.invariant-loop-line
+invariant-loop-line l = Going l.src (state_in l.initial.self) l.fn.begun l.self l.at l.line (l.line-end - l.line)

@@ -1,0 +1,140 @@
+// What a replay has read so far: the live tables, rowsets and vectors, each in a sorted list, and the next ids.
+ghost use Rattle.std.specs.Prelude.{◌≡◌, ◌∷◌, [], true};
+ghost use Rattle.replay_lists.proofs.Compared.{compared-one, compared_two, compared_three};
+ghost use Rattle.lists.specs.Keyed.{ascending};
+
+use ids::limits::{MOST_HELD, MOST_OPERATIONS, MOST_TABLES};
+use ids::name::Name;
+use ids::{RowsetNo, TableNo, VectorNo};
+use replay_lists::{Keyed, SortedList};
+use version_state::NextIds;
+
+// A list has room for what may be held, and for a frame's operations on top.
+const TABLE_ROOM: usize = MOST_TABLES + MOST_OPERATIONS;
+
+const HELD_ROOM: usize = MOST_HELD + MOST_OPERATIONS;
+
+#[derive(Clone, Copy)]
+pub struct LiveTable {
+    pub table: TableNo,
+    pub shape: u32,
+    pub name: Name,
+}
+
+#[derive(Clone, Copy)]
+pub struct LiveRowset {
+    pub table: TableNo,
+    pub rowset: RowsetNo,
+}
+
+#[derive(Clone, Copy)]
+pub struct LiveVector {
+    pub table: TableNo,
+    pub rowset: RowsetNo,
+    pub vector: VectorNo,
+}
+
+impl Default for LiveTable {
+    fn default() -> LiveTable {
+        LiveTable {
+            table: TableNo(0),
+            shape: 0,
+            name: Name::default(),
+        }
+    }
+}
+
+impl Default for LiveRowset {
+    fn default() -> LiveRowset {
+        LiveRowset {
+            table: TableNo(0),
+            rowset: RowsetNo(0),
+        }
+    }
+}
+
+impl Default for LiveVector {
+    fn default() -> LiveVector {
+        LiveVector {
+            table: TableNo(0),
+            rowset: RowsetNo(0),
+            vector: VectorNo(0),
+        }
+    }
+}
+
+impl Keyed for LiveTable {
+    type Key = u32;
+
+    ghost key = { λ x. x.table.0 };
+
+    ghost numbers = { λ k. k ∷ [] };
+
+    ghost in_order = { compared-one };
+
+    fn key(&self) -> u32 {
+        self.table.0
+    }
+}
+
+impl Keyed for LiveRowset {
+    type Key = (u32, u32);
+
+    ghost key = { λ x. (x.table.0, x.rowset.0) };
+
+    ghost numbers = { λ k. k.0 ∷ k.1 ∷ [] };
+
+    ghost in_order = { compared_two };
+
+    fn key(&self) -> (u32, u32) {
+        (self.table.0, self.rowset.0)
+    }
+}
+
+impl Keyed for LiveVector {
+    type Key = (u32, u32, u64);
+
+    ghost key = { λ x. (x.table.0, x.rowset.0, x.vector.0) };
+
+    ghost numbers = { λ k. k.0 ∷ k.1 ∷ k.2 ∷ [] };
+
+    ghost in_order = { compared_three };
+
+    fn key(&self) -> (u32, u32, u64) {
+        (self.table.0, self.rowset.0, self.vector.0)
+    }
+}
+
+// The live tables, rowsets and vectors, each ascending by its ids, and the next ids.
+#[derive(Drop)]
+pub struct Sets {
+    pub tables: SortedList<LiveTable, TABLE_ROOM>,
+    pub rowsets: SortedList<LiveRowset, HELD_ROOM>,
+    pub vectors: SortedList<LiveVector, HELD_ROOM>,
+    pub next: NextIds,
+    ghost tables_rise: { ascending (λ x. x.table.0 ∷ []) tables ≡ true },
+    ghost rowsets_rise: { ascending (λ x. x.table.0 ∷ x.rowset.0 ∷ []) rowsets ≡ true },
+    ghost vectors_rise: { ascending (λ x. x.table.0 ∷ x.rowset.0 ∷ x.vector.0 ∷ []) vectors ≡ true },
+}
+
+impl Sets {
+    ghost use Rattle.ids.specs.Limits.{most_operations};
+    ghost use Rattle.replay.specs.Replay.{at_start};
+    ghost use Rattle.replay.specs.Sets.{state_in, RoomFor};
+
+    pub fn new() -> Sets
+        ensures start { state_in result ≡ at_start.state }
+        ensures room { RoomFor most_operations result }
+    {
+        Sets {
+            tables: SortedList::new(),
+            rowsets: SortedList::new(),
+            vectors: SortedList::new(),
+            next: NextIds {
+                table: TableNo(0),
+                rowset: RowsetNo(0),
+                vector: VectorNo(0),
+            },
+        }
+    }
+}
