@@ -57,11 +57,8 @@ fn opened(inner: VersionManagerInner, out: &mut [u8]) -> Reopened
 pub fn bootstrap(src: &[u8], out: &mut [u8]) -> Reopened
     ensures { ReopenSays src.now out.old result out.new }
 {
-    let replayed = replay::replay(src);
-    let verdict = replayed.verdict;
-    if let Err(refusal) = verdict {
-        return refused(refusal);
+    match replay::replay(src) {
+        Ok(inner) => opened(inner, out),
+        Err(refusal) => refused(refusal),
     }
-    let inner = replayed.inner;
-    opened(inner, out)
 }
