@@ -8,7 +8,7 @@
 use ids::limits::LONGEST_REWRITTEN;
 use status::Status;
 use std::io;
-use text::Number;
+use text::ByteClasses;
 
 mod answers;
 
@@ -38,10 +38,9 @@ fn room(s: &[u8]) -> usize {
 }
 
 fn number(s: &[u8], at: usize) -> usize {
-    let classes = text::classes();
-    match text::read_number(&classes, s, at, LONGEST_REWRITTEN as u64) {
-        Number::At(n, _) => n as usize,
-        Number::Nothing => 0,
+    match ByteClasses::new().read_number(s, at, LONGEST_REWRITTEN as u64) {
+        Some((n, _)) => n as usize,
+        None => 0,
     }
 }
 
@@ -77,9 +76,8 @@ fn put_lines(src: &mut [u8], at: usize, s: &[u8], times: u64) -> usize {
 
 // `*N,line`.
 fn repeated(src: &mut [u8], at: usize, s: &[u8]) -> usize {
-    let classes = text::classes();
-    match text::read_number(&classes, s, 1, 65537) {
-        Number::At(n, i) if i < s.len() => put_lines(src, at, &s[i + 1..], n),
+    match ByteClasses::new().read_number(s, 1, 65537) {
+        Some((n, i)) if i < s.len() => put_lines(src, at, &s[i + 1..], n),
         _ => at,
     }
 }

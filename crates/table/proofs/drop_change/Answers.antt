@@ -5,8 +5,5 @@ use Rattle.lists.proofs.Places.{known}
 use Rattle.table.proofs.Judged.{drop-line}
 use Rattle.table.proofs.drop_change.Goals as goal
 
-pub none-requires : goal.none-requires
-none-requires c = search known
-
 pub returns : goal.returns
 returns c = (refl, drop-line _ (omega arith))

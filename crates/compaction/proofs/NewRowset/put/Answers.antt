@@ -9,9 +9,6 @@ enum_told-1 c = search known
 pub enum_known-self : goal.enum_known-self
 enum_known-self c = search known
 
-pub none-name-requires : goal.none-name-requires
-none-name-requires c = search known
-
 pub put_line-requires : goal.put_line-requires
 put_line-requires c = rw c.in-One.is at c.requires
 

@@ -10,9 +10,6 @@ use Rattle.compaction.proofs.Loops.{turn}
 use Rattle.lists.proofs.Places.{known}
 use Rattle.compaction.proofs.taken.put.Goals as goal
 
-pub none-name-requires : goal.none-name-requires
-none-name-requires c = search known
-
 pub loop-i-init : goal.loop-i-init
 loop-i-init c = (omega arith, c.requires, wrote_none _ _)
 

@@ -5,8 +5,5 @@ use Rattle.lists.proofs.Places.{known}
 use Rattle.table.proofs.Marked.{delete-vector-line}
 use Rattle.table.proofs.lines.delete_vector_change.Goals as goal
 
-pub none-requires : goal.none-requires
-none-requires c = search known
-
 pub returns : goal.returns
 returns c = (refl, delete-vector-line _ _ (omega arith) (omega arith) _ (omega arith))
