@@ -4,9 +4,8 @@ use crate::compactions::MOST_TAKEN;
 use crate::world::{Host, World};
 use answers::output::Output;
 use answers::say;
-use compaction::NewRowset;
-use ids::TableNo;
 use ids::name::Name;
+use ids::{RowsetNo, TableNo};
 use script::batches;
 use script::words::{Appended, Words};
 use version_manager::{Committed, Created, VersionManager};
@@ -66,7 +65,7 @@ fn drop(manager: VersionManager, s: &[u8], out: &mut [u8], output: &mut Output) 
 fn compacted(
     manager: VersionManager,
     table: TableNo,
-    new: NewRowset,
+    new: Option<RowsetNo>,
     taken: &[u32],
     n: usize,
     out: &mut [u8],

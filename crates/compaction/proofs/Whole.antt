@@ -39,14 +39,13 @@ use Rattle.table.proofs.Shown.{part-forms, part-below}
 use Rattle.table.proofs.Accepted.{three, vector-well, vectors-held}
 use Rattle.table.proofs.Dropping.{all_both}
 use Rattle.table.proofs.Marked.{marked-part}
-use Rattle.compaction.specs.declared.NewRowset.{NewRowset}
-use Rattle.compaction.specs.declared.NewRowset.TheVariants as new
-use Rattle.compaction.specs.New.{new_of}
+use Rattle.std.specs.Prelude.{Some, None}
+use Rattle.compaction.specs.New.{NewRowset, new_of}
 
 -- at most one
 pub few-new : (n : NewRowset) → length (new_of n) ≤ 1
-few-new new.None = omega arith
-few-new (new.One r) = omega arith
+few-new None = omega arith
+few-new (Some r) = omega arith
 
 pub few-places : (p : ℕ → Bool) (n : ℕ) → length (places_of p n) ≤ n
 few-places p n = omega (arith, length-keep p (rows (λ i. i) n), rows-length (λ (i : ℕ). i) n)

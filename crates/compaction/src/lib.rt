@@ -23,90 +23,20 @@ use ids::limits::{LAST_EPOCH, LONGEST_MANIFEST, MOST_HELD, MOST_OPERATIONS, MOST
 use ids::refusal::Refusal;
 use ids::{RowsetNo, TableNo};
 use manifest::operation::EpochOp;
-use snapshot::rowsets::Rowsets;
 use table::Made;
 use version_state::VersionManagerInner;
 
+pub mod new;
 pub mod over;
 pub mod taken;
 
-// The rowset that the taken ones were merged to, if anything is left of them.
-#[derive(Clone, Copy)]
-pub enum NewRowset {
-    None,
-    One(RowsetNo),
-}
-
-// Internal, as is what follows.
-impl NewRowset {
-    fn is_id(self) -> bool
-        ensures { result ≡ all_of is_id32 (new_of self) }
-    {
-        match self {
-            NewRowset::None => true,
-            NewRowset::One(r) => r.is_id(),
-        }
-    }
-
-    fn count(self) -> usize
-        ensures { result ≡ length (new_of self) }
-    {
-        match self {
-            NewRowset::None => 0,
-            NewRowset::One(_) => 1,
-        }
-    }
-
-    fn undrawn(self, next: RowsetNo) -> bool
-        ensures { result ≡ any_of (λ x. leb next.0 x) (new_of self) }
-    {
-        match self {
-            NewRowset::None => false,
-            NewRowset::One(r) => next.0 <= r.0,
-        }
-    }
-
-    // Held as a pair of the table, shown or waiting.
-    fn held(self, rowsets: &Rowsets, table: TableNo) -> bool
-        requires fits { rowsets.now.count ≤ most_held }
-        requires rises { ascending by_ids (rowsets_of rowsets.now) ≡ true }
-        ensures { result ≡ any_of (λ x. has by_ids (table.0 ∷ x ∷ []) (rowsets_of rowsets.now)) (new_of self) }
-    {
-        match self {
-            NewRowset::None => false,
-            NewRowset::One(r) => rowsets.holds(table, r),
-        }
-    }
-
-    // No room for it beside `count` pairs.
-    fn full(self, count: usize) -> bool
-        ensures { result ≡ any_of (λ x. leb most_held count) (new_of self) }
-    {
-        match self {
-            NewRowset::None => false,
-            NewRowset::One(_) => MOST_HELD <= count,
-        }
-    }
-
-    // Its `A` line, if there is one.
-    fn put(self, out: &mut [u8], at: usize, table: TableNo) -> usize
-        requires { at + length (texts_of (map (add_rowset table.0) (new_of self))) ≤ length out.old }
-        ensures { Wrote out.old at (texts_of (map (add_rowset table.0) (new_of self))) out.new result }
-    {
-        match self {
-            NewRowset::None => at,
-            NewRowset::One(r) => frames::put_line(out, at, EpochOp::AddRowSet(table, r)),
-        }
-    }
-}
-
-fn valid(table: TableNo, new: NewRowset, taken: &[u32]) -> bool
+fn valid(table: TableNo, new: Option<RowsetNo>, taken: &[u32]) -> bool
     ensures { result ≡ is_id32 table.0 && (all_of is_id32 (new_of new) && (all_of is_id32 taken.now && ascending by_number taken.now)) }
 {
     if !table.is_id() {
         return false;
     }
-    if !new.is_id() {
+    if !new::is_id(new) {
         return false;
     }
     taken::rising(taken)
@@ -141,7 +71,7 @@ fn locked<'a>(
 fn standing(
     inner: VersionManagerInner,
     table: TableNo,
-    new: NewRowset,
+    new: Option<RowsetNo>,
     taken: &[u32],
 ) -> Result<(), Refusal>
     requires { bad_inner inner ≡ false }
@@ -153,16 +83,16 @@ fn standing(
     if !taken::shown(&inner.rowsets, inner.epoch, table, taken) {
         return Err(Refusal::PairNotShown(0));
     }
-    if new.undrawn(inner.next.rowset) {
+    if new::is_undrawn(new, inner.next.rowset) {
         return Err(Refusal::IdNotDrawn(0));
     }
-    if new.held(&inner.rowsets, table) {
+    if new::is_held(new, &inner.rowsets, table) {
         return Err(Refusal::StillHeld(0));
     }
     if LAST_EPOCH <= inner.epoch {
         return Err(Refusal::EpochsFull);
     }
-    if new.full(inner.rowsets.count) {
+    if new::is_full(new, inner.rowsets.count) {
         return Err(Refusal::HeldFull(0));
     }
     Ok(())
@@ -199,7 +129,7 @@ fn ending(
 fn put_lines<'a>(
     out: &mut [u8],
     table: TableNo,
-    new: NewRowset,
+    new: Option<RowsetNo>,
     tables: &'a [u32; MOST_HELD],
     rowsets: &'a [u32; MOST_HELD],
     vectors: &'a [u64; MOST_HELD],
@@ -210,7 +140,7 @@ fn put_lines<'a>(
     requires { (count ≤ most_held) × (longest_line + longest_line * most_held ≤ length out.old) × (length (texts_of (map (add_rowset table.0) (new_of new))) ≤ longest_line) × (length (texts_of (map (add_rowset table.0) (new_of new) ++ (map delete_vector_of (marked_rows over.now (tables.now ∷ rowsets.now ∷ vectors.now ∷ []) count) ++ map (delete_rowset table.0) taken.now))) ≤ length out.old) }
     ensures { Wrote out.old 0 (texts_of (map (add_rowset table.0) (new_of new) ++ (map delete_vector_of (marked_rows over.now (tables.now ∷ rowsets.now ∷ vectors.now ∷ []) count) ++ map (delete_rowset table.0) taken.now))) out.new result }
 {
-    let at = new.put(out, 0, table);
+    let at = new::put(new, out, 0, table);
     let at = table::lines::put_vectors(out, at, tables, rowsets, vectors, over, count);
     taken::put(out, at, table, taken)
 }
@@ -220,7 +150,7 @@ fn put_lines<'a>(
 pub fn compact(
     inner: VersionManagerInner,
     table: TableNo,
-    new: NewRowset,
+    new: Option<RowsetNo>,
     taken: &[u32],
     room: usize,
     lines: &mut [u8],
@@ -245,7 +175,7 @@ pub fn compact(
         taken,
     );
     let vectors = over::number(&over, inner.vectors.count);
-    if MOST_OPERATIONS < new.count() + vectors + taken.len() {
+    if MOST_OPERATIONS < usize::from(new.is_some()) + vectors + taken.len() {
         return table::refused(Refusal::TooManyOperations(0));
     }
     let verdict = standing(inner, table, new, taken);

@@ -6,7 +6,6 @@ ghost use Rattle.transaction.specs.Groups.{handle_of};
 ghost use Rattle.transaction.specs.Says.{most_handles};
 ghost use Rattle.host.specs.Arguments.{name_in, new_in, handle_in, HandlesIn};
 
-use compaction::NewRowset;
 use ids::limits::LONGEST_NAME;
 use ids::name::Name;
 use ids::{RowNo, RowsetNo, SecondaryRowHandler};
@@ -22,13 +21,10 @@ pub fn name(bytes: &[u8]) -> Name
     Name::of(bytes)
 }
 
-pub fn new_rowset(has_new: bool, new: u32) -> NewRowset
+pub fn new_rowset(has_new: bool, new: u32) -> Option<RowsetNo>
     ensures { new_of result ≡ new_in has_new new }
 {
-    if has_new {
-        return NewRowset::One(RowsetNo(new));
-    }
-    NewRowset::None
+    has_new.then_some(RowsetNo(new))
 }
 
 fn handle(n: u64) -> SecondaryRowHandler

@@ -30,9 +30,8 @@ use Rattle.table.specs.Made.{committed, create_operations, drop_operations, comp
 use Rattle.table.specs.Create.{created_by}
 use Rattle.table.specs.Drop.{dropped_by}
 use Rattle.table.specs.Compact.{compacted_by}
-use Rattle.compaction.specs.declared.NewRowset.{NewRowset}
-use Rattle.compaction.specs.declared.NewRowset.TheVariants as new
-use Rattle.compaction.specs.New.{new_of}
+use Rattle.std.specs.Prelude.{Some, None}
+use Rattle.compaction.specs.New.{NewRowset, new_of}
 use Rattle.table.specs.Laws.{Accepts}
 use Rattle.table.proofs.Laws.{made-laws}
 use Rattle.version_manager.specs.Create.{create_verdict}
@@ -228,8 +227,8 @@ module _ (w : World) (t : Told) (l : List (List ℕ)) (v : World) (n : ℕ) (out
 
 -- A compaction.
 pub few-new : (n : NewRowset) → length (new_of n) ≤ 1
-few-new new.None = omega arith
-few-new (new.One r) = omega arith
+few-new None = omega arith
+few-new (Some r) = omega arith
 
 module _ (w : World) (t : Told) (l : List (List ℕ)) (v : World) (n : ℕ) (o : NewRowset) (taken out : List ℕ) (missing : ℕ) (r : Record) (i : Inv w r) where
   pub compact-keeps : DidCompact port w t l v n o taken out missing → Inv v (turn (as_commit (λ id s. compact_operations n (new_of o) taken s.vectors) missing) (is_accepted t) (value 0 t) r)

@@ -32,8 +32,7 @@ use Rattle.pins.specs.declared.PinBook.{PinBook}
 use Rattle.pins.specs.Book.{most_pinned, Keeps}
 use Rattle.operations.specs.Steps.{step_of}
 use Rattle.version_state.specs.Widths.{Narrow}
-use Rattle.compaction.specs.declared.NewRowset.{NewRowset}
-use Rattle.compaction.specs.New.{new_of}
+use Rattle.compaction.specs.New.{NewRowset, new_of}
 use Rattle.version_manager.specs.declared.VersionManager.{VersionManager}
 use Rattle.version_manager.specs.declared.Opened.{Opened}
 use Rattle.version_manager.specs.Answered.{DrawnRowset, DrawnVector, Committed, Created, Vacuumed, Checkpointed, Reported, Locked}

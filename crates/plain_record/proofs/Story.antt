@@ -12,9 +12,8 @@ use Rattle.lists.specs.Keyed.{keep, all_of, any_of}
 use Rattle.lists.proofs.Tests.{by_cases, clash, both}
 use Rattle.lists.proofs.Keyed.{all_any, keep-keep, keep_same, keep_all}
 use Rattle.manifest.specs.Operations.{Operation, add_rowset, delete_rowset}
-use Rattle.compaction.specs.declared.NewRowset.{NewRowset}
-use Rattle.compaction.specs.declared.NewRowset.TheVariants as new
-use Rattle.compaction.specs.New.{new_of}
+use Rattle.std.specs.Prelude.{Some, None}
+use Rattle.compaction.specs.New.{NewRowset, new_of}
 use Rattle.table.specs.Made.{delete_vector_of, is_over, compact_operations}
 use Rattle.table.specs.Laws.{pairs_with, put_all}
 use Rattle.version_manager.specs.Managers.{held_by}
@@ -52,8 +51,8 @@ all_append [] ps s = refl
 all_append (o ∷ os) ps s = all_append os ps _
 
 pairs-added : (t : ℕ) (n : NewRowset) (s : Sets) → (apply_all (map (add_rowset t) (new_of n)) s).pairs ≡ put_all (pairs_with t (new_of n)) s.pairs
-pairs-added t new.None s = refl
-pairs-added t (new.One r) s = refl
+pairs-added t None s = refl
+pairs-added t (Some r) s = refl
 
 pairs-stay : (ks : List (List ℕ)) (s : Sets) → (apply_all (map delete_vector_of ks) s).pairs ≡ s.pairs
 pairs-stay [] s = refl

@@ -21,8 +21,8 @@ use Rattle.snapshot.specs.declared.rowsets.Rowsets.{Rowsets}
 use Rattle.snapshot.specs.Entries.{gone_at, shown_at}
 use Rattle.operations.specs.Steps.{step_of}
 use Rattle.version_state.specs.Widths.{Narrow}
-use Rattle.compaction.specs.declared.NewRowset.{NewRowset}
-use Rattle.compaction.specs.declared.NewRowset.TheVariants as new
+use Rattle.compaction.specs.New.{NewRowset}
+use Rattle.std.specs.Prelude.{Some, None}
 use Rattle.version_manager.specs.declared.VersionManager.{VersionManager}
 use Rattle.version_manager.specs.Answered.{Created}
 use Rattle.version_manager.specs.Managers.{held_by}
@@ -201,7 +201,7 @@ pub leaves-vectors : Refuted leaves_vectors
 unfolding rows
 leaves-vectors claim =
     let S = leaves_vectors in
-    let e = compacts lock_tav.after 0 new.None (0 ∷ []) stays 2 12 (places 20 frame_d) in
+    let e = compacts lock_tav.after 0 None (0 ∷ []) stays 2 12 (places 20 frame_d) in
     let h =
     claim begun (draws ∷ draws_vector ∷ commit_tav ∷ lock_tav ∷ e ∷ []) (begins S fresh-says) (
       refl,
@@ -215,7 +215,7 @@ leaves-vectors claim =
           (
             refl,
             took-lock S commit_tav.after table after_lock lock-says-TAV,
-            (refl, compacted S lock_tav.after 0 new.None (0 ∷ []) stays 2 12 (places 20 frame_d) narrow-TAV stays-says, tt),
+            (refl, compacted S lock_tav.after 0 None (0 ∷ []) stays 2 12 (places 20 frame_d) narrow-TAV stays-says, tt),
           ),
         ),
       ),
@@ -255,7 +255,7 @@ abbrev three : ℕ → ℕ → Rowsets
 three a d = holds_pairs (0 ∷ 0 ∷ 0 ∷ []) (0 ∷ 1 ∷ 2 ∷ []) (1 ∷ 1 ∷ a ∷ []) (d ∷ d ∷ 0 ∷ []) 3
 
 abbrev merged : NewRowset
-merged = new.One (record { 0 = 2 })
+merged = Some (record { 0 = 2 })
 
 abbrev frame_a : List ℕ
 frame_a = 33 ∷ 10 ∷ 66 ∷ 10 ∷ 65 ∷ 44 ∷ 48 ∷ 44 ∷ 50 ∷ 10 ∷ 69 ∷ 10 ∷ []

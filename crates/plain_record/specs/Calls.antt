@@ -4,8 +4,7 @@ use Rattle.ids.specs.declared.TableNo.{TableNo}
 use Rattle.manifest.specs.Operations.{Operation}
 use Rattle.transaction.specs.declared.Handles.{Handles}
 use Rattle.table.specs.Made.{create_operations, drop_operations, compact_operations}
-use Rattle.compaction.specs.declared.NewRowset.{NewRowset}
-use Rattle.compaction.specs.New.{new_of}
+use Rattle.compaction.specs.New.{NewRowset, new_of}
 use Rattle.plain_record.specs.Sets.{Sets}
 
 -- Show and the other calls that only read are in no list: they settle nothing.

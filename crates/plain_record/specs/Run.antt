@@ -9,8 +9,7 @@ use Rattle.manifest.specs.declared.operation.Batch.{Batch}
 use Rattle.version_state.specs.Widths.{Narrow}
 use Rattle.pins.specs.declared.PinBook.{PinBook}
 use Rattle.show.specs.Says.{ShowAnswer}
-use Rattle.compaction.specs.declared.NewRowset.{NewRowset}
-use Rattle.compaction.specs.New.{new_of}
+use Rattle.compaction.specs.New.{NewRowset, new_of}
 use Rattle.version_manager.specs.declared.VersionManager.{VersionManager}
 use Rattle.version_manager.specs.declared.Opened.{Opened}
 use Rattle.version_manager.specs.Answered.{DrawnRowset, DrawnVector, Grouped, Committed, Created, Vacuumed, Checkpointed, Reported, Locked}

@@ -2,8 +2,7 @@
 use Rattle.std.specs.Prelude.{◌≡◌, Bool, true, false, cond, not, ◌||◌, List, [], ◌∷◌, ◌++◌, ℕ}
 use Rattle.lists.specs.Order.{same}
 use Rattle.lists.specs.Keyed.{keep, all_of, any_of}
-use Rattle.compaction.specs.declared.NewRowset.{NewRowset}
-use Rattle.compaction.specs.New.{new_of}
+use Rattle.compaction.specs.New.{NewRowset, new_of}
 use Rattle.table.specs.Laws.{pairs_with, put_all}
 use Rattle.version_manager.specs.Managers.{held_by}
 use Rattle.replay.specs.Replay.{reopened}

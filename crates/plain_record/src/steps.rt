@@ -7,10 +7,9 @@ ghost use Rattle.compaction.specs.New.{new_of};
 ghost use Rattle.commit.specs.Lent.{operations_in};
 ghost use Rattle.plain_record.specs.Run.{port};
 
-use compaction::NewRowset;
-use ids::TableNo;
 use ids::name::Name;
 use ids::refusal::Refusal;
+use ids::{RowsetNo, TableNo};
 use manifest::operation::Batch;
 use pinning::{PinStep, UnpinStep};
 use pins::PinBook;
@@ -92,7 +91,7 @@ pub fn drop(manager: VersionManager, table: TableNo, out: &mut [u8]) -> Committe
 pub fn compact(
     manager: VersionManager,
     table: TableNo,
-    new: NewRowset,
+    new: Option<RowsetNo>,
     taken: &[u32],
     out: &mut [u8],
 ) -> Committed

@@ -24,7 +24,6 @@ ghost use Rattle.version_manager.specs.Laws.{DrawLaws, CheckpointLaws, CommitLaw
 ghost use Rattle.version_manager.specs.TableLaws.{TableLaws};
 ghost use Rattle.version_manager.specs.CompactLaws.{CompactLaws};
 
-use compaction::NewRowset;
 use ids::limits::{LARGEST_32, LARGEST_64, LONGEST_LINE, MOST_OPERATIONS};
 use ids::name::Name;
 use ids::refusal::Refusal;
@@ -584,7 +583,13 @@ impl VersionManager {
     }
 
     // The taken rowsets, lent as rising ids, and their vectors deleted and the new rowset added, by one commit; it answers as that does.
-    pub fn compact(self, table: TableNo, new: NewRowset, taken: &[u32], out: &mut [u8]) -> Committed
+    pub fn compact(
+        self,
+        table: TableNo,
+        new: Option<RowsetNo>,
+        taken: &[u32],
+        out: &mut [u8],
+    ) -> Committed
         ensures { CompactSays self table.0 (new_of new) taken.now out.old result out.new }
     {
         if self.bad() {

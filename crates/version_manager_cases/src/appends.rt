@@ -1,6 +1,5 @@
 // Commit, create, drop, compaction and checkpoint, into so many bytes.
 use crate::{made, say};
-use compaction::NewRowset;
 use ids::{RowsetNo, TableNo};
 use std::io;
 use version_manager::{Appended, Checkpointed, Committed, Created};
@@ -54,9 +53,9 @@ fn compacted(
     let table = TableNo(made::narrow(f[1]));
     let taken = [made::narrow(f[2])];
     let new = if letter == b'y' {
-        NewRowset::None
+        None
     } else {
-        NewRowset::One(RowsetNo(made::narrow(f[3])))
+        Some(RowsetNo(made::narrow(f[3])))
     };
     committed(rt, manager.compact(table, new, &taken, out))
 }
