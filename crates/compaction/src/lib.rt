@@ -175,7 +175,7 @@ pub fn compact(
         taken,
     );
     let vectors = over::number(&over, inner.vectors.count);
-    if MOST_OPERATIONS < usize::from(new.is_some()) + vectors + taken.len() {
+    if MOST_OPERATIONS < new::count(new) + vectors + taken.len() {
         return table::refused(Refusal::TooManyOperations(0));
     }
     let verdict = standing(inner, table, new, taken);

@@ -24,6 +24,12 @@ pub fn is_id(new: Option<RowsetNo>) -> bool
     }
 }
 
+pub fn count(new: Option<RowsetNo>) -> usize
+    ensures { result ≡ length (new_of new) }
+{
+    usize::from(new.is_some())
+}
+
 pub fn is_undrawn(new: Option<RowsetNo>, next: RowsetNo) -> bool
     ensures { result ≡ any_of (λ x. leb next.0 x) (new_of new) }
 {

@@ -14,20 +14,10 @@ use Rattle.version_state.specs.Widths.{Narrow}
 use Rattle.table.proofs.Judged.{made-no}
 use Rattle.compaction.specs.New.{new_of}
 use Rattle.compaction.proofs.Whole.{few-new, few-places, rule-2, many-taken, taken-rise, rule-6, counted, lines-room, lines_are, state-refused, last-judged, new-short, lines-short, made-off}
-use Rattle.lists.proofs.Places.{known}
 use Rattle.compaction.proofs.compact.Goals as goal
-
-pub valid-requires : goal.valid-requires
-valid-requires c = search known
-
-pub refused-requires : goal.refused-requires
-refused-requires c = search known
 
 pub returns-then-not-valid : goal.returns-then-not-valid
 returns-then-not-valid c = made-no _ _ _ _ _ _ (rule-2 c.args.inner c.args.table.0 (new_of c.args.new) c.args.taken.now c.args.room (sym c.valid.ensures ∙ not-true _ c.if-not-valid.true-raw)) c.refused.ensures
-
-pub refused-requires-then-taken-gt-MOST_OPERATIONS : goal.refused-requires-then-taken-gt-MOST_OPERATIONS
-refused-requires-then-taken-gt-MOST_OPERATIONS c = search known
 
 pub returns-then-taken-gt-MOST_OPERATIONS : goal.returns-then-taken-gt-MOST_OPERATIONS
 returns-then-taken-gt-MOST_OPERATIONS c = made-no _ _ _ _ _ _ (rule-6 c.args.inner c.args.table.0 (new_of c.args.new) c.args.taken.now (sym c.valid.ensures ∙ not-false _ c.if-not-valid.false-raw) c.args.room (many-taken c.args.inner c.args.table.0 (new_of c.args.new) c.args.taken.now c.if-taken-gt-MOST_OPERATIONS.true)) c.refused-then-taken-gt-MOST_OPERATIONS.ensures
@@ -38,17 +28,11 @@ marks-over-requires c = ((sound-of c.args.inner c.requires.0).fits.vectors, take
 pub number-vectors-requires : goal.number-vectors-requires
 number-vectors-requires c = (sound-of c.args.inner c.requires.0).fits.vectors
 
-pub count-requires : goal.count-requires
-count-requires c = search known
-
 pub overflow_add-count : goal.overflow_add-count
 overflow_add-count c = let p = c.number-vectors.ensures in omega (arith, c.count.ensures, few-new c.args.new, p, few-places (marks c.marks-over.result) c.args.inner.vectors.count, (sound-of c.args.inner c.requires.0).fits.vectors)
 
 pub overflow_add-count-2 : goal.overflow_add-count-2
 overflow_add-count-2 c = let p = c.number-vectors.ensures in omega (arith, c.count.ensures, few-new c.args.new, p, few-places (marks c.marks-over.result) c.args.inner.vectors.count, (sound-of c.args.inner c.requires.0).fits.vectors, c.if-taken-gt-MOST_OPERATIONS.false)
-
-pub refused-requires-then-count-vectors-gt-MOST_OPERATIONS : goal.refused-requires-then-count-vectors-gt-MOST_OPERATIONS
-refused-requires-then-count-vectors-gt-MOST_OPERATIONS c = search known
 
 pub returns-then-count-vectors-gt-MOST_OPERATIONS : goal.returns-then-count-vectors-gt-MOST_OPERATIONS
 returns-then-count-vectors-gt-MOST_OPERATIONS c =
@@ -86,9 +70,6 @@ overflow_add-length c =
 
 pub ending-verdict-requires : goal.ending-verdict-requires
 ending-verdict-requires c = c.requires.0
-
-pub shape_of-lines : goal.shape_of-lines
-shape_of-lines c = search known
 
 pub returns : goal.returns
 returns c =

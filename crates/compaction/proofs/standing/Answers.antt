@@ -10,7 +10,6 @@ use Rattle.version_state.specs.State.{state_of}
 use Rattle.version_state.proofs.Facts.{sound-of}
 use Rattle.compaction.specs.New.{new_of}
 use Rattle.compaction.proofs.Judging.{live_of, pairs_of, rule-11, rule-12, rule-14, rule-16, rule-20, rule-22, state-passed}
-use Rattle.lists.proofs.Places.{known}
 use Rattle.compaction.proofs.standing.Goals as goal
 
 pub holds-requires : goal.holds-requires
@@ -28,29 +27,23 @@ shown-requires-clause-rises c = (sound-of c.args.inner c.requires).ordered.pairs
 pub returns-then-not-shown : goal.returns-then-not-shown
 returns-then-not-shown c = rule-12 (state_of c.args.inner) c.args.table.0 (new_of c.args.new) c.args.taken.now (ap not (live_of c.args.inner c.args.table.0 ∙ sym c.holds.ensures) ∙ c.if-not-holds.false-raw) (ap not (sym c.shown.ensures) ∙ c.if-not-shown.true-raw)
 
-pub undrawn-requires : goal.undrawn-requires
-undrawn-requires c = search known
+pub returns-then-is_undrawn : goal.returns-then-is_undrawn
+returns-then-is_undrawn c = rule-14 (state_of c.args.inner) c.args.table.0 (new_of c.args.new) c.args.taken.now (ap not (live_of c.args.inner c.args.table.0 ∙ sym c.holds.ensures) ∙ c.if-not-holds.false-raw) (ap not (sym c.shown.ensures) ∙ c.if-not-shown.false-raw) (sym c.is_undrawn.ensures ∙ c.if-is_undrawn.true)
 
-pub returns-then-undrawn : goal.returns-then-undrawn
-returns-then-undrawn c = rule-14 (state_of c.args.inner) c.args.table.0 (new_of c.args.new) c.args.taken.now (ap not (live_of c.args.inner c.args.table.0 ∙ sym c.holds.ensures) ∙ c.if-not-holds.false-raw) (ap not (sym c.shown.ensures) ∙ c.if-not-shown.false-raw) (sym c.undrawn.ensures ∙ c.if-undrawn.true)
+pub is_held-requires-clause-fits : goal.is_held-requires-clause-fits
+is_held-requires-clause-fits c = (sound-of c.args.inner c.requires).fits.rowsets
 
-pub held-requires-clause-fits : goal.held-requires-clause-fits
-held-requires-clause-fits c = (sound-of c.args.inner c.requires).fits.rowsets
+pub is_held-requires-clause-rises : goal.is_held-requires-clause-rises
+is_held-requires-clause-rises c = (sound-of c.args.inner c.requires).ordered.pairs
 
-pub held-requires-clause-rises : goal.held-requires-clause-rises
-held-requires-clause-rises c = (sound-of c.args.inner c.requires).ordered.pairs
-
-pub returns-then-held : goal.returns-then-held
-returns-then-held c = rule-16 (state_of c.args.inner) c.args.table.0 (new_of c.args.new) c.args.taken.now (ap not (live_of c.args.inner c.args.table.0 ∙ sym c.holds.ensures) ∙ c.if-not-holds.false-raw) (ap not (sym c.shown.ensures) ∙ c.if-not-shown.false-raw) (sym c.undrawn.ensures ∙ c.if-undrawn.false) (sym c.held.ensures ∙ c.if-held.true)
+pub returns-then-is_held : goal.returns-then-is_held
+returns-then-is_held c = rule-16 (state_of c.args.inner) c.args.table.0 (new_of c.args.new) c.args.taken.now (ap not (live_of c.args.inner c.args.table.0 ∙ sym c.holds.ensures) ∙ c.if-not-holds.false-raw) (ap not (sym c.shown.ensures) ∙ c.if-not-shown.false-raw) (sym c.is_undrawn.ensures ∙ c.if-is_undrawn.false) (sym c.is_held.ensures ∙ c.if-is_held.true)
 
 pub returns-then-inner-ge-LAST_EPOCH : goal.returns-then-inner-ge-LAST_EPOCH
-returns-then-inner-ge-LAST_EPOCH c = rule-20 (state_of c.args.inner) c.args.table.0 (new_of c.args.new) c.args.taken.now (ap not (live_of c.args.inner c.args.table.0 ∙ sym c.holds.ensures) ∙ c.if-not-holds.false-raw) (ap not (sym c.shown.ensures) ∙ c.if-not-shown.false-raw) (sym c.undrawn.ensures ∙ c.if-undrawn.false) (sym c.held.ensures ∙ c.if-held.false) (le-leb _ _ c.if-inner-ge-LAST_EPOCH.true)
+returns-then-inner-ge-LAST_EPOCH c = rule-20 (state_of c.args.inner) c.args.table.0 (new_of c.args.new) c.args.taken.now (ap not (live_of c.args.inner c.args.table.0 ∙ sym c.holds.ensures) ∙ c.if-not-holds.false-raw) (ap not (sym c.shown.ensures) ∙ c.if-not-shown.false-raw) (sym c.is_undrawn.ensures ∙ c.if-is_undrawn.false) (sym c.is_held.ensures ∙ c.if-is_held.false) (le-leb _ _ c.if-inner-ge-LAST_EPOCH.true)
 
-pub full-requires : goal.full-requires
-full-requires c = search known
-
-pub returns-then-full : goal.returns-then-full
-returns-then-full c = rule-22 (state_of c.args.inner) c.args.table.0 (new_of c.args.new) c.args.taken.now (ap not (live_of c.args.inner c.args.table.0 ∙ sym c.holds.ensures) ∙ c.if-not-holds.false-raw) (ap not (sym c.shown.ensures) ∙ c.if-not-shown.false-raw) (sym c.undrawn.ensures ∙ c.if-undrawn.false) (sym c.held.ensures ∙ c.if-held.false) (lt-leb _ _ c.if-inner-ge-LAST_EPOCH.false) (ap (λ (n : ℕ). any_of (λ r. leb most_held n) (new_of c.args.new)) (pairs_of c.args.inner) ∙ sym c.full.ensures ∙ c.if-full.true)
+pub returns-then-is_full : goal.returns-then-is_full
+returns-then-is_full c = rule-22 (state_of c.args.inner) c.args.table.0 (new_of c.args.new) c.args.taken.now (ap not (live_of c.args.inner c.args.table.0 ∙ sym c.holds.ensures) ∙ c.if-not-holds.false-raw) (ap not (sym c.shown.ensures) ∙ c.if-not-shown.false-raw) (sym c.is_undrawn.ensures ∙ c.if-is_undrawn.false) (sym c.is_held.ensures ∙ c.if-is_held.false) (lt-leb _ _ c.if-inner-ge-LAST_EPOCH.false) (ap (λ (n : ℕ). any_of (λ r. leb most_held n) (new_of c.args.new)) (pairs_of c.args.inner) ∙ sym c.is_full.ensures ∙ c.if-is_full.true)
 
 pub returns : goal.returns
-returns c = state-passed (state_of c.args.inner) c.args.table.0 (new_of c.args.new) c.args.taken.now (ap not (live_of c.args.inner c.args.table.0 ∙ sym c.holds.ensures) ∙ c.if-not-holds.false-raw) (ap not (sym c.shown.ensures) ∙ c.if-not-shown.false-raw) (sym c.undrawn.ensures ∙ c.if-undrawn.false) (sym c.held.ensures ∙ c.if-held.false) (lt-leb _ _ c.if-inner-ge-LAST_EPOCH.false) (ap (λ (n : ℕ). any_of (λ r. leb most_held n) (new_of c.args.new)) (pairs_of c.args.inner) ∙ sym c.full.ensures ∙ c.if-full.false)
+returns c = state-passed (state_of c.args.inner) c.args.table.0 (new_of c.args.new) c.args.taken.now (ap not (live_of c.args.inner c.args.table.0 ∙ sym c.holds.ensures) ∙ c.if-not-holds.false-raw) (ap not (sym c.shown.ensures) ∙ c.if-not-shown.false-raw) (sym c.is_undrawn.ensures ∙ c.if-is_undrawn.false) (sym c.is_held.ensures ∙ c.if-is_held.false) (lt-leb _ _ c.if-inner-ge-LAST_EPOCH.false) (ap (λ (n : ℕ). any_of (λ r. leb most_held n) (new_of c.args.new)) (pairs_of c.args.inner) ∙ sym c.is_full.ensures ∙ c.if-is_full.false)
