@@ -7,55 +7,16 @@ use Rattle.version_manager.proofs.Groups.{group-fits, group-no, group-yes}
 use borrow.Author.Rules.{rules}
 use Rattle.version_manager.proofs.VersionManager.group.Goals as goal
 
-pub bad-requires : goal.bad-requires
-bad-requires c = search rules
-
 pub returns-then-bad : goal.returns-then-bad
 returns-then-bad c = let b = sym c.bad.ensures ∙ c.if-bad.true in record { answer = rw b; rowsets = rw b; lengths = rw b; counts = rw b; files = rw b; memories = rw b; manager = rw b refl }
 
-pub enum_known-done : goal.enum_known-done
-enum_known-done c = search rules
-
-pub shape_of-rowsets-in-Err : goal.shape_of-rowsets-in-Err
-shape_of-rowsets-in-Err c = search rules
-
-pub shape_of-lengths-in-Err : goal.shape_of-lengths-in-Err
-shape_of-lengths-in-Err c = search rules
-
-pub shape_of-counts-in-Err : goal.shape_of-counts-in-Err
-shape_of-counts-in-Err c = search rules
-
-pub shape_of-files-in-Err : goal.shape_of-files-in-Err
-shape_of-files-in-Err c = search rules
-
-pub shape_of-rows-in-Err : goal.shape_of-rows-in-Err
-shape_of-rows-in-Err c = search rules
-
 pub returns-in-Err : goal.returns-in-Err
-returns-in-Err c = group-no c.args.self c.args.handles _ _ _ _ _ _ _ _ _ _ _ (sym c.bad.ensures ∙ c.if-bad.false) c.group-done.ensures _ _ c.in-Err.is refl refl
+returns-in-Err c = group-no c.args.self c.args.handles _ _ _ _ _ _ _ _ _ _ _ (sym c.bad.ensures ∙ c.if-bad.false) c.group.ensures _ _ c.in-Err.is refl refl
 
 pub overflow_add-raised : goal.overflow_add-raised
-overflow_add-raised c = omega (arith, group-fits c.args.self c.args.handles _ _ _ _ _ _ _ _ _ _ _ (sym c.bad.ensures ∙ c.if-bad.false) c.group-done.ensures _ c.in-Ok.is)
-
-pub handed-manager-requires : goal.handed-manager-requires
-handed-manager-requires c = search rules
-
-pub shape_of-rowsets-in-Ok : goal.shape_of-rowsets-in-Ok
-shape_of-rowsets-in-Ok c = search rules
-
-pub shape_of-lengths-in-Ok : goal.shape_of-lengths-in-Ok
-shape_of-lengths-in-Ok c = search rules
-
-pub shape_of-counts-in-Ok : goal.shape_of-counts-in-Ok
-shape_of-counts-in-Ok c = search rules
-
-pub shape_of-files-in-Ok : goal.shape_of-files-in-Ok
-shape_of-files-in-Ok c = search rules
-
-pub shape_of-rows-in-Ok : goal.shape_of-rows-in-Ok
-shape_of-rows-in-Ok c = search rules
+overflow_add-raised c = omega (arith, group-fits c.args.self c.args.handles _ _ _ _ _ _ _ _ _ _ _ (sym c.bad.ensures ∙ c.if-bad.false) c.group.ensures _ c.in-Ok.is)
 
 pub returns-in-Ok : goal.returns-in-Ok
 returns-in-Ok c =
     let f = (sound-of c.args.self.inner (inner-passes c.args.self (sym c.bad.ensures ∙ c.if-bad.false))).fits in
-    group-yes c.args.self c.args.handles _ _ _ _ _ _ _ _ _ _ _ (sym c.bad.ensures ∙ c.if-bad.false) c.group-done.ensures _ _ c.in-Ok.is (manages _ _ _ c.handed-manager.ensures (record { fits = record { tables = f.tables; rowsets = f.rowsets; vectors = f.vectors }; state = refl })) refl
+    group-yes c.args.self c.args.handles _ _ _ _ _ _ _ _ _ _ _ (sym c.bad.ensures ∙ c.if-bad.false) c.group.ensures _ _ c.in-Ok.is (manages _ _ _ c.handed-manager.ensures (record { fits = record { tables = f.tables; rowsets = f.rowsets; vectors = f.vectors }; state = refl })) refl
