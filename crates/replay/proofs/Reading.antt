@@ -1,6 +1,6 @@
 -- Lines and frames: what the loops over them keep. Assumes nothing.
 use Rattle.std.proofs.Common.{◌≡◌, refl, sym, ap, ◌∙◌, List, [], ◌∷◌, map, ℕ, zero, suc, ◌+◌, ◌-◌, ◌<◌, ◌≤◌, length, take, drop, arith, Result, Ok, Err}
-use Rattle.std.specs.Prelude.{not}
+use Rattle.std.specs.Prelude.{not, Option, Some, None}
 use Rattle.std.proofs.Math.ListN.{length-map}
 use Rattle.lists.specs.Keyed.{is_at}
 use Rattle.lists.proofs.Tests.{by_cases}
@@ -11,8 +11,7 @@ use Rattle.manifest.specs.Operations.{Operation, Line, bad, line_said, said_of, 
 use Rattle.manifest.specs.Edits.{Edit, leaves, adds, deletes, edits_of}
 use Rattle.manifest.specs.Lines.{line_of}
 use Rattle.manifest.specs.Split.{line_at}
-use Rattle.manifest.specs.declared.reader.LineAt.TheVariants as found
-use Rattle.manifest.specs.declared.operation.Parsed.{Parsed}
+use Rattle.manifest.specs.declared.reader.LineAt.{LineAt}
 use Rattle.manifest.specs.declared.operation.EpochOp.{EpochOp}
 use Rattle.manifest.specs.declared.operation.ManifestOperation.{ManifestOperation}
 use Rattle.manifest.specs.declared.operation.ManifestOperation.TheVariants.{Begin, End, Torn, Epoch}
@@ -30,27 +29,27 @@ use Rattle.replay.specs.Sets.{table_entry, rowset_entry, vector_entry, state_in,
 use Rattle.replay.specs.Reading.{said_from, leading, Says, Operates}
 
 -- The line at a place.
-pub says-line : (s : List ℕ) (at start e next : ℕ) → line_at s at ≡ found.Line start e next → (p : Parsed) → line_said p ≡ line_of (take (e - start) (drop start s))
-    → Says s at (record { parsed = p; next = next })
-says-line s at start e next h p q =
-    let f = line-further s at start e next h in
+pub says-line : (s : List ℕ) (at : ℕ) (l : LineAt) → line_at s at ≡ Some l → (p : Option ManifestOperation) → line_said p ≡ line_of (take (l.end - l.start) (drop l.start s))
+    → Says s at (record { parsed = p; next = l.next })
+says-line s at l h p q =
+    let f = line-further s at l h in
     record {
-      said = ap (map line_of) (lines_at s at start e next h) ∙ ap (λ (l : Line). l ∷ said_from s next) (sym q);
-      well = λ o w. (text-parse (take (e - start) (drop start s)) o (sym q ∙ w)).0;
+      said = ap (map line_of) (lines_at s at l h) ∙ ap (λ (x : Line). x ∷ said_from s l.next) (sym q);
+      well = λ o w. (text-parse (take (l.end - l.start) (drop l.start s)) o (sym q ∙ w)).0;
       after = f.0;
       inside = f.1;
     }
 
-pub says-none : (s : List ℕ) (at : ℕ) → line_at s at ≡ found.None → said_from s at ≡ []
+pub says-none : (s : List ℕ) (at : ℕ) → line_at s at ≡ None → said_from s at ≡ []
 says-none s at h = ap (map line_of) (lines_none s at h)
 
 -- what stands first is no operation
-pub leads-none : (n : List ℕ) (m : ManifestOperation) (x : List Line) → ((o : EpochOp) → m ≡ Epoch o → ⊥) → leading (said_of n m ∷ x) ≡ []
+pub leads-none : (m : ManifestOperation) (x : List Line) → ((o : EpochOp) → m ≡ Epoch o → ⊥) → leading (said_of m ∷ x) ≡ []
 unfolding leading
-leads-none n Begin x h = refl
-leads-none n End x h = refl
-leads-none n Torn x h = refl
-leads-none n (Epoch o) x h = absurd (h o refl)
+leads-none Begin x h = refl
+leads-none End x h = refl
+leads-none Torn x h = refl
+leads-none (Epoch o) x h = absurd (h o refl)
 
 pub leads_bad : (x : List Line) → leading (bad ∷ x) ≡ []
 unfolding leading

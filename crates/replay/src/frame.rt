@@ -31,8 +31,13 @@ pub struct Begun {
 fn operation_at(classes: &ByteClasses, src: &[u8], at: usize) -> Option<Here>
     ensures { HereSays src.now at result }
 {
-    let said = crate::said::said_at(classes, src, at)?;
-    let ManifestOperation::Epoch(change) = said.parsed? else {
+    let Some(said) = crate::said::said_at(classes, src, at) else {
+        return None;
+    };
+    let Some(operation) = said.parsed else {
+        return None;
+    };
+    let ManifestOperation::Epoch(change) = operation else {
         return None;
     };
     Some(Here {

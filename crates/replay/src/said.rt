@@ -15,7 +15,9 @@ pub struct Said {
 pub fn said_at(classes: &ByteClasses, src: &[u8], at: usize) -> Option<Said>
     ensures { SaysNext src.now at result }
 {
-    let line = manifest::reader::line_at(classes, src, at)?;
+    let Some(line) = manifest::reader::line_at(classes, src, at) else {
+        return None;
+    };
     Some(Said {
         parsed: manifest::parser::parse(classes, &src[line.start..line.end]),
         next: line.next,
