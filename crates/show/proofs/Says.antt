@@ -2,119 +2,134 @@
 use mathlib.Core.Path.{◌≡◌, refl, sym, ap, ◌∙◌}
 use mathlib.Core.Bool.{Bool, true, false, ◌||◌}
 use mathlib.Core.List.{List, [], ◌∷◌, map}
-use Prim.Native.Nat.{ℕ, ◌*◌, ◌≤◌, ◌<◌}
+use Prim.Native.Nat.{ℕ, ◌+◌, ◌*◌, ◌/◌, ◌≤◌, ◌<◌, min}
+use native.Mathlib.Omega.{arith}
+use native.Mathlib.Nat.{zero-add}
 use lib.Dec.{ltb}
-use lib.ListN.{length, get_or, length-map}
-use borrow.Author.Tests.{lt-ltb, le-ltb}
-use Rattle.std.specs.Prelude.{Ok, Err}
+use lib.ListN.{length, get_or, set, length-map}
+use borrow.Author.Tests.{lt-ltb, le-ltb, ltb-true, ltb-false}
+use Rattle.std.specs.Prelude.{Ok, Err, Option, Some, None}
+use Rattle.std.specs.Iterator.{Yields}
+use Rattle.std.specs.List.{enumerate_from}
+use Rattle.std.specs.Result.{IsErrAnd}
+use Rattle.std.proofs.lemmas.Iterator.{YieldsList}
+use Rattle.std.proofs.lemmas.Iterator.Consumers.{YieldsList-turn, YieldsList-end}
+use Rattle.std.proofs.lemmas.List.{get_or-map, get_or_default}
+use Rattle.std.proofs.lemmas.List.FromFn.{length-enumerate_from, get_or-enumerate_from}
 use Rattle.lists.specs.Keyed.{keep}
 use Rattle.lists.specs.Written.{over}
+use Rattle.lists.proofs.Keyed.{length-keep}
+use Rattle.lists.proofs.Tests.{by_cases}
 use Rattle.ids.specs.declared.refusal.Refusal.{Refusal}
-use Rattle.ids.specs.declared.refusal.Refusal.TheVariants.{BadPinBook, EpochNotPinned, OutputTooShort}
 use Rattle.ids.specs.Names.{longest_name}
-use Rattle.ids.specs.Verdicts.{◌⇒◌, judged}
-use Rattle.ids.proofs.Verdicts.{judged-none, refused-at}
-use Rattle.columns.specs.Rows.{rows, column, across}
-use Rattle.snapshot.specs.Entries.{Entry, shown_at, shown_by, shown, entry_at, entries}
-use Rattle.snapshot.specs.Picked.{places_of, Stand}
-use Rattle.snapshot.specs.Tables.{TableEntry}
-use Rattle.snapshot.proofs.Picked.{placed-numbers, placed-count}
+use Rattle.ids.specs.Verdicts.{judged}
+use Rattle.ids.proofs.Verdicts.{none-judged}
+use Rattle.columns.specs.Rows.{rows}
+use Rattle.columns.proofs.Rows.{rows_are, rows-length}
+use Rattle.snapshot.specs.Entries.{Entry, nothing, shown_by}
+use Rattle.snapshot.specs.Tables.{TableEntry, no_table}
+use Rattle.snapshot.proofs.Picked.{Filling, fill_more, fill_done}
 use Rattle.version_state.specs.State.{State, pairs_at, vectors_at}
 use Rattle.pins.specs.declared.PinBook.{PinBook}
-use Rattle.pins.specs.Book.{bad_book}
 use Rattle.show.specs.Names.{names_run}
-use Rattle.show.specs.Says.{shown_field, show_rules, unseen, not_current, show_pairs_rules, show_vectors_rules, show_tables_rules, ShowPairsIs, ShowVectorsIs, ShowTablesIs}
+use Rattle.show.specs.Says.{shown_field, show_rules, unseen, not_current, show_pairs_rules, show_vectors_rules, show_tables_rules, ShowAnswer, ShowPairsIs, ShowVectorsIs, ShowTablesIs}
 
--- What stands at the places that an epoch shows.
-module _ (ks : List (List ℕ)) (a d : List ℕ) (n e r : ℕ) (ps : List ℕ) (s : Stand n (places_of (λ i. shown_at e (column a i) (column d i)) n) r ps) where
-  pub shown-count : r ≡ length (shown e (entries ks a d n))
-  shown-count = placed-count (entry_at ks a d) (shown_by e) n r ps s ∙ sym (length-map (keep (shown_by e) (entries ks a d n)) (λ (x : Entry). x.ids))
+or_assoc : (a b c : Bool) → (a || b) || c ≡ a || (b || c)
+or_assoc true b c = refl
+or_assoc false b c = refl
 
-  pub shown-numbers : (j : ℕ) → map (λ i. get_or (across ks i) j 0) (rows (column ps) r) ≡ shown_field j (shown e (entries ks a d n))
-  shown-numbers j =
-      ap (map (λ i. get_or (across ks i) j 0)) s.told
-      ∙ placed-numbers (entry_at ks a d) (shown_by e) n (λ (x : Entry). get_or x.ids j 0)
-      ∙ again (keep (shown_by e) (entries ks a d n))
-    where
-      again : (l : List Entry) → map (λ (x : Entry). get_or x.ids j 0) l ≡ shown_field j (map (λ (x : Entry). x.ids) l)
-      again [] = refl
-      again (x ∷ l) = ap (λ (t : List ℕ). get_or x.ids j 0 ∷ t) (again l)
+or_all : (a b c d : Bool) → ((a || b) || c) || d ≡ a || (b || (c || d))
+or_all true b c d = refl
+or_all false b c d = or_assoc b c d
 
-module _ (s : State) (b : PinBook) (u w : Bool) where
-  pub book-bad : bad_book s.epoch b ≡ true → judged (show_rules s b u w) ≡ Err BadPinBook
-  book-bad h = refused-at [] (bad_book s.epoch b) BadPinBook ((u ⇒ EpochNotPinned) ∷ (w ⇒ OutputTooShort) ∷ []) tt h
+-- One value of each element of a list, by places.
+pub picked : {A B : Type 0} (l : List A) (d : A) (e : B) (g : A → B) → rows (λ i. g (get_or l i d)) (length l) ≡ map g l
+picked l d e g = rows_are (λ i. g (get_or l i d)) (length l) (map g l) e (length-map l g) (λ i h. get_or-map g l i d e h)
 
-  module _ (h : bad_book s.epoch b ≡ false) where
-    pub not_seen : u ≡ true → judged (show_rules s b u w) ≡ Err EpochNotPinned
-    not_seen k = refused-at ((bad_book s.epoch b ⇒ BadPinBook) ∷ []) u EpochNotPinned ((w ⇒ OutputTooShort) ∷ []) (h, tt) k
+pub rows-of : {B : Type 0} {n : ℕ} (l : List TableEntry) (k : n ≡ length l) (e : B) (g : TableEntry → B) → rows (λ i. g (get_or l i no_table)) n ≡ map g l
+rows-of l k e g = rw k (picked l no_table e g)
 
-    pub too-short : u ≡ false → w ≡ true → judged (show_rules s b u w) ≡ Err OutputTooShort
-    too-short k l = refused-at ((bad_book s.epoch b ⇒ BadPinBook) ∷ (u ⇒ EpochNotPinned) ∷ []) w OutputTooShort [] (h, (k, tt)) l
+-- What an iterator that numbers its items hands out next.
+module _ {S A B : Type 0} {steps : S → Option (ℕ × A) → S → Type 0} (v : A → B) {s : S} (all : List B) (e : YieldsList {B = ℕ × B} steps (λ p. (p.0, v p.1)) s (enumerate_from 0 all)) (xs : List (ℕ × A)) (t : S) (y : Yields steps s xs t) where
+  pub numbered-turn : (r : Option (ℕ × A)) (u : S) (p : ℕ × A) (d : B) → r ≡ Some p → steps t r u → (length xs < length all) × (p.0 ≡ length xs) × (v p.1 ≡ get_or all (length xs) d)
+  numbered-turn r u p d is st =
+      let w = YieldsList-turn e xs t y r u p is st in
+      let n : length xs < length all = omega (arith, w.0, length-enumerate_from 0 all) in
+      let q = w.1 ∙ get_or-enumerate_from 0 all (length xs) (p.0, v p.1) n in
+      (n, ap (λ (k : ℕ × B). k.0) q ∙ zero-add (length xs), ap (λ (k : ℕ × B). k.1) q ∙ get_or_default all (length xs) (v p.1) d n)
 
-    pub seen : u ≡ false → w ≡ false → judged (show_rules s b u w) ≡ Ok tt
-    seen k l = judged-none (show_rules s b u w) (h, (k, (l, tt)))
+  pub numbered-end : (r : Option (ℕ × A)) (u : S) → r ≡ None → steps t r u → length xs ≡ length all
+  numbered-end r u is st = (YieldsList-end e xs t y r u is st).1 ∙ length-enumerate_from 0 all
+
+-- What an epoch shows, field by field.
+fields : (l : List Entry) (n : ℕ) → map (λ (x : Entry). get_or x.ids n 0) l ≡ shown_field n (map (λ (x : Entry). x.ids) l)
+fields [] n = refl
+fields (x ∷ l) n = ap (λ (t : List ℕ). get_or x.ids n 0 ∷ t) (fields l n)
+
+-- An epoch shows no more than there is.
+pub kept-few : (p : Entry → Bool) (f : ℕ → Entry) (n : ℕ) → length (keep p (rows f n)) ≤ n
+kept-few p f n = omega (arith, length-keep p (rows f n), rows-length f n)
+
+-- One field of each entry written to the front of s, which is t after i of them.
+abbrev pub Fronts : List Entry → ℕ → List ℕ → ℕ → List ℕ → Type 0
+Fronts l n s i t = Filling (λ j. get_or (get_or l j nothing).ids n 0) (length l) s i t
+
+pub fronts-more : (l : List Entry) (n : ℕ) (s : List ℕ) (i : ℕ) (t : List ℕ) (j k : ℕ) (x : Entry) (w : ℕ) → Fronts l n s i t → i < length l → j ≡ i → x ≡ get_or l i nothing → w ≡ get_or x.ids n 0 → k ≡ i + 1 → Fronts l n s k (set t j w)
+fronts-more l n s i t j k x w f h a b c d = rw (a, c, b, d) (fill_more (λ j. get_or (get_or l j nothing).ids n 0) (length l) s i t h f)
+
+pub fronts-done : (l : List Entry) (n : ℕ) (s : List ℕ) (i : ℕ) (t : List ℕ) → Fronts l n s i t → i ≡ length l → t ≡ over (shown_field n (map (λ (x : Entry). x.ids) l)) s
+fronts-done l n s i t f e =
+    fill_done (λ j. get_or (get_or l j nothing).ids n 0) (length l) s i t (omega arith) f
+    ∙ ap (λ (r : List ℕ). over r s) (picked l nothing 0 (λ x. get_or x.ids n 0) ∙ fields l n)
+
+-- The room of slices that are lent together.
+pub lesser-short : (a b n : ℕ) → ltb (min a b) n ≡ ltb a n || ltb b n
+lesser-short a b n =
+    by_cases (ltb a n)
+    (λ e. let h = ltb-true a n e in rw e (lt-ltb (min a b) n (omega arith)))
+    (λ e.
+    let h = ltb-false a n e in
+    by_cases (ltb b n)
+    (λ f. let k = ltb-true b n f in rw (e, f) (lt-ltb (min a b) n (omega arith)))
+    (λ f. let k = ltb-false b n f in rw (e, f) (le-ltb (min a b) n (omega arith))))
+
+pub names-short : (a n : ℕ) → ltb (a / longest_name) n ≡ ltb a (longest_name * n)
+names-short a n =
+    by_cases (ltb (a / longest_name) n)
+    (λ e. let h = ltb-true (a / longest_name) n e in rw e (sym (lt-ltb a (longest_name * n) (omega arith))))
+    (λ e. let h = ltb-false (a / longest_name) n e in rw e (sym (le-ltb a (longest_name * n) (omega arith))))
+
+-- Room enough, where judging accepts.
+pub roomy : (s : State) (b : PinBook) (u : Bool) (r n : ℕ) → judged (show_rules s b u (ltb r n)) ≡ Ok tt → n ≤ r
+roomy s b u r n h = ltb-false r n (none-judged (show_rules s b u (ltb r n)) h).1.1.0
+
+module _ (s : State) (b : PinBook) (e : ℕ) (u : Bool) where
+  module _ (ts rs : List ℕ) (n r : ℕ) (seen : u ≡ unseen s b e) (counted : n ≡ length (keep (shown_by e) s.pairs)) (room : r ≡ min (length ts) (length rs)) where
+    pub pairs-judged : judged (show_rules s b u (ltb r n)) ≡ judged (show_pairs_rules s b e (length ts) (length rs))
+    pairs-judged = rw (seen, room, counted, length-map, lesser-short) refl
+
+  module _ (ts rs vs : List ℕ) (n r : ℕ) (seen : u ≡ unseen s b e) (counted : n ≡ length (keep (shown_by e) s.vectors)) (room : r ≡ min (min (length ts) (length rs)) (length vs)) where
+    pub vectors-judged : judged (show_rules s b u (ltb r n)) ≡ judged (show_vectors_rules s b e (length ts) (length rs) (length vs))
+    vectors-judged = rw (seen, room, counted, length-map, lesser-short, lesser-short, or_assoc) refl
+
+  module _ (is hs ls ns : List ℕ) (n r : ℕ) (seen : u ≡ not_current s b e) (counted : n ≡ length s.tables) (room : r ≡ min (min (min (length is) (length hs)) (length ls)) (length ns / longest_name)) where
+    pub tables-judged : judged (show_rules s b u (ltb r n)) ≡ judged (show_tables_rules s b e (length is) (length hs) (length ls) (length ns))
+    tables-judged = rw (seen, room, counted, lesser-short, lesser-short, lesser-short, names-short, or_all) refl
 
 module _ (s : State) (b : PinBook) (e : ℕ) where
-  module _ (ts rs : List ℕ) (n : ℕ) (counted : n ≡ length (pairs_at e s)) (h : bad_book s.epoch b ≡ false) (u : unseen s b e ≡ false) where
-    abbrev pairs-short : Bool
-    pairs-short = ltb (length ts) (length (pairs_at e s)) || ltb (length rs) (length (pairs_at e s))
-
-    pub pairs-short-1 : length ts < n → judged (show_pairs_rules s b e (length ts) (length rs)) ≡ Err OutputTooShort
-    pairs-short-1 x = too-short s b (unseen s b e) pairs-short h u (rw (← counted, lt-ltb _ _ x))
-
-    pub pairs-short-2 : n ≤ length ts → length rs < n → judged (show_pairs_rules s b e (length ts) (length rs)) ≡ Err OutputTooShort
-    pairs-short-2 x y = too-short s b (unseen s b e) pairs-short h u (rw (← counted, le-ltb _ _ x, lt-ltb _ _ y))
-
-    pub pairs-room : n ≤ length ts → n ≤ length rs → judged (show_pairs_rules s b e (length ts) (length rs)) ≡ Ok tt
-    pairs-room x y = seen s b (unseen s b e) pairs-short h u (rw (← counted, le-ltb _ _ x, le-ltb _ _ y))
-
-  module _ (ts rs vs : List ℕ) (n : ℕ) (counted : n ≡ length (vectors_at e s)) (h : bad_book s.epoch b ≡ false) (u : unseen s b e ≡ false) where
-    abbrev vectors-short : Bool
-    vectors-short = ltb (length ts) (length (vectors_at e s)) || (ltb (length rs) (length (vectors_at e s)) || ltb (length vs) (length (vectors_at e s)))
-
-    pub vectors-short-1 : length ts < n → judged (show_vectors_rules s b e (length ts) (length rs) (length vs)) ≡ Err OutputTooShort
-    vectors-short-1 x = too-short s b (unseen s b e) vectors-short h u (rw (← counted, lt-ltb _ _ x))
-
-    pub vectors-short-2 : n ≤ length ts → length rs < n → judged (show_vectors_rules s b e (length ts) (length rs) (length vs)) ≡ Err OutputTooShort
-    vectors-short-2 x y = too-short s b (unseen s b e) vectors-short h u (rw (← counted, le-ltb _ _ x, lt-ltb _ _ y))
-
-    pub vectors-short-3 : n ≤ length ts → n ≤ length rs → length vs < n → judged (show_vectors_rules s b e (length ts) (length rs) (length vs)) ≡ Err OutputTooShort
-    vectors-short-3 x y z = too-short s b (unseen s b e) vectors-short h u (rw (← counted, le-ltb _ _ x, le-ltb _ _ y, lt-ltb _ _ z))
-
-    pub vectors-room : n ≤ length ts → n ≤ length rs → n ≤ length vs → judged (show_vectors_rules s b e (length ts) (length rs) (length vs)) ≡ Ok tt
-    vectors-room x y z = seen s b (unseen s b e) vectors-short h u (rw (← counted, le-ltb _ _ x, le-ltb _ _ y, le-ltb _ _ z))
-
-  module _ (is hs ls ns : List ℕ) (n : ℕ) (counted : n ≡ length s.tables) (h : bad_book s.epoch b ≡ false) (u : not_current s b e ≡ false) where
-    abbrev tables-short : Bool
-    tables-short =
-        ltb (length is) (length s.tables) || (ltb (length hs) (length s.tables) || (ltb (length ls) (length s.tables) || ltb (length ns) (longest_name * length s.tables)))
-
-    pub tables-short-1 : length is < n → judged (show_tables_rules s b e (length is) (length hs) (length ls) (length ns)) ≡ Err OutputTooShort
-    tables-short-1 x = too-short s b (not_current s b e) tables-short h u (rw (← counted, lt-ltb _ _ x))
-
-    pub tables-short-2 : n ≤ length is → length hs < n → judged (show_tables_rules s b e (length is) (length hs) (length ls) (length ns)) ≡ Err OutputTooShort
-    tables-short-2 x y = too-short s b (not_current s b e) tables-short h u (rw (← counted, le-ltb _ _ x, lt-ltb _ _ y))
-
-    pub tables-short-3 : n ≤ length is → n ≤ length hs → length ls < n → judged (show_tables_rules s b e (length is) (length hs) (length ls) (length ns)) ≡ Err OutputTooShort
-    tables-short-3 x y z = too-short s b (not_current s b e) tables-short h u (rw (← counted, le-ltb _ _ x, le-ltb _ _ y, lt-ltb _ _ z))
-
-    pub tables-short-4 : n ≤ length is → n ≤ length hs → n ≤ length ls → length ns < longest_name * n → judged (show_tables_rules s b e (length is) (length hs) (length ls) (length ns)) ≡ Err OutputTooShort
-    tables-short-4 x y z w = too-short s b (not_current s b e) tables-short h u (rw (← counted, le-ltb _ _ x, le-ltb _ _ y, le-ltb _ _ z, lt-ltb _ _ w))
-
-    pub tables-room : n ≤ length is → n ≤ length hs → n ≤ length ls → longest_name * n ≤ length ns → judged (show_tables_rules s b e (length is) (length hs) (length ls) (length ns)) ≡ Ok tt
-    tables-room x y z w = seen s b (not_current s b e) tables-short h u (rw (← counted, le-ltb _ _ x, le-ltb _ _ y, le-ltb _ _ z, le-ltb _ _ w))
-
   module _ (ts rs : List ℕ) where
-    pub pairs-refuse : (q : Refusal) → judged (show_pairs_rules s b e (length ts) (length rs)) ≡ Err q → ShowPairsIs s b e ts rs (Err q) ts rs
-    pairs-refuse q d = record { answer = rw d; tables = rw d; rowsets = rw d }
+    pub pairs-refuse : (r : ShowAnswer) (q : Refusal) → IsErrAnd r (λ k. k ≡ q) → judged (show_pairs_rules s b e (length ts) (length rs)) ≡ Err q → ShowPairsIs s b e ts rs r ts rs
+    pairs-refuse (Ok n) q h d = absurd h
+    pairs-refuse (Err k) q h d = record { answer = rw (h, d); tables = rw d; rowsets = rw d }
 
     pub pairs-accept : (n : ℕ) (ts' rs' : List ℕ) → judged (show_pairs_rules s b e (length ts) (length rs)) ≡ Ok tt → n ≡ length (pairs_at e s)
         → ts' ≡ over (shown_field 0 (pairs_at e s)) ts → rs' ≡ over (shown_field 1 (pairs_at e s)) rs → ShowPairsIs s b e ts rs (Ok n) ts' rs'
     pairs-accept n ts' rs' d c x y = record { answer = rw (d, c); tables = rw d x; rowsets = rw d y }
 
   module _ (ts rs vs : List ℕ) where
-    pub vectors-refuse : (q : Refusal) → judged (show_vectors_rules s b e (length ts) (length rs) (length vs)) ≡ Err q → ShowVectorsIs s b e ts rs vs (Err q) ts rs vs
-    vectors-refuse q d = record { answer = rw d; tables = rw d; rowsets = rw d; vectors = rw d }
+    pub vectors-refuse : (r : ShowAnswer) (q : Refusal) → IsErrAnd r (λ k. k ≡ q) → judged (show_vectors_rules s b e (length ts) (length rs) (length vs)) ≡ Err q → ShowVectorsIs s b e ts rs vs r ts rs vs
+    vectors-refuse (Ok n) q h d = absurd h
+    vectors-refuse (Err k) q h d = record { answer = rw (h, d); tables = rw d; rowsets = rw d; vectors = rw d }
 
     pub vectors-accept : (n : ℕ) (ts' rs' vs' : List ℕ) → judged (show_vectors_rules s b e (length ts) (length rs) (length vs)) ≡ Ok tt → n ≡ length (vectors_at e s)
         → ts' ≡ over (shown_field 0 (vectors_at e s)) ts → rs' ≡ over (shown_field 1 (vectors_at e s)) rs → vs' ≡ over (shown_field 2 (vectors_at e s)) vs
@@ -122,8 +137,9 @@ module _ (s : State) (b : PinBook) (e : ℕ) where
     vectors-accept n ts' rs' vs' d c x y z = record { answer = rw (d, c); tables = rw d x; rowsets = rw d y; vectors = rw d z }
 
   module _ (is hs ls ns : List ℕ) where
-    pub tables-refuse : (q : Refusal) → judged (show_tables_rules s b e (length is) (length hs) (length ls) (length ns)) ≡ Err q → ShowTablesIs s b e is hs ls ns (Err q) is hs ls ns
-    tables-refuse q d = record { answer = rw d; ids = rw d; shapes = rw d; lengths = rw d; names = rw d }
+    pub tables-refuse : (r : ShowAnswer) (q : Refusal) → IsErrAnd r (λ k. k ≡ q) → judged (show_tables_rules s b e (length is) (length hs) (length ls) (length ns)) ≡ Err q → ShowTablesIs s b e is hs ls ns r is hs ls ns
+    tables-refuse (Ok n) q h d = absurd h
+    tables-refuse (Err k) q h d = record { answer = rw (h, d); ids = rw d; shapes = rw d; lengths = rw d; names = rw d }
 
     pub tables-accept : (n : ℕ) (is' hs' ls' ns' : List ℕ) → judged (show_tables_rules s b e (length is) (length hs) (length ls) (length ns)) ≡ Ok tt → n ≡ length s.tables
         → is' ≡ over (map (λ (t : TableEntry). t.table) s.tables) is → hs' ≡ over (map (λ (t : TableEntry). t.shape) s.tables) hs

@@ -422,8 +422,7 @@ impl VersionManager {
         if self.bad() {
             return Err(Refusal::BadManager);
         }
-        let inner = self.inner;
-        show::show_tables(inner, book, epoch, ids, shapes, lengths, names)
+        show::show_tables(&self.inner, &book, epoch, ids, shapes, lengths, names)
     }
 
     pub fn show_pairs(
@@ -438,8 +437,7 @@ impl VersionManager {
         if self.bad() {
             return Err(Refusal::BadManager);
         }
-        let inner = self.inner;
-        show::show_pairs(inner, book, epoch, tables, rowsets)
+        show::show_pairs(&self.inner, &book, epoch, tables, rowsets)
     }
 
     pub fn show_vectors(
@@ -455,8 +453,7 @@ impl VersionManager {
         if self.bad() {
             return Err(Refusal::BadManager);
         }
-        let inner = self.inner;
-        show::show_vectors(inner, book, epoch, tables, rowsets, vectors)
+        show::show_vectors(&self.inner, &book, epoch, tables, rowsets, vectors)
     }
 
     fn relock(self, table: TableNo, held: bool) -> Locked

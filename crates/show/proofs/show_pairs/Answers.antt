@@ -1,72 +1,51 @@
 -- `show::show_pairs` meets its contract.
 use mathlib.Core.Path.{refl, sym, ap, ◌∙◌}
-use mathlib.Core.Bool.{not, ◌||◌}
-use mathlib.Core.List.{List, [], ◌∷◌}
-use Prim.Native.Nat.{ℕ}
+use mathlib.Core.Bool.{not}
+use mathlib.Core.Logic.{inl}
+use Prim.Native.Nat.{◌≤◌}
 use native.Mathlib.Omega.{arith}
-use lib.Dec.{ltb}
-use lib.ListN.{length}
-use Rattle.lists.specs.Written.{over}
-use Rattle.lists.proofs.Places.{known}
-use Rattle.version_state.specs.State.{state_of, pairs_at}
+use lib.ListN.{length, length-map}
+use Rattle.std.proofs.lemmas.List.{length_push}
+use Rattle.std.proofs.lemmas.Iterator.Consumers.{YieldsList-from_first, YieldsList-from_enumerate, count_from_yields_List}
+use Rattle.lists.specs.Keyed.{keep}
+use Rattle.snapshot.specs.Entries.{Entry, nothing, shown_by}
+use Rattle.snapshot.specs.Views.{rowset_of}
+use Rattle.snapshot.specs.Shown.{shown_rowsets}
+use Rattle.version_state.specs.State.{state_of}
 use Rattle.version_state.proofs.Facts.{sound-of}
-use Rattle.show.specs.Says.{unseen}
-use Rattle.show.proofs.Says.{shown-count, shown-numbers, book-bad, not_seen, pairs-short-1, pairs-short-2, pairs-room, pairs-refuse, pairs-accept}
+use Rattle.show.proofs.Says.{kept-few, numbered-turn, numbered-end, fronts-more, fronts-done, pairs-judged, pairs-refuse, pairs-accept}
 use Rattle.show.proofs.show_pairs.Goals as goal
 
-pub bad-requires : goal.bad-requires
-bad-requires c = search known
+pub count-count-requires-clause-fits : goal.count-count-requires-clause-fits
+count-count-requires-clause-fits c =
+    let f = (sound-of c.args.inner.now c.requires).fits.rowsets in
+    let h : length (keep (shown_by c.args.epoch) (state_of c.args.inner.now).pairs) ≤ c.args.inner.now.rowsets.count = kept-few _ _ _ in
+    inl (omega (arith, ap length c.shown.ensures))
 
-pub returns-then-bad : goal.returns-then-bad
-returns-then-bad c =
-    let a = c.args in
-    pairs-refuse (state_of c.args.inner) c.args.book c.args.epoch c.args.tables.now c.args.rowsets.now _ (book-bad (state_of c.args.inner) c.args.book (unseen (state_of c.args.inner) c.args.book c.args.epoch) (ltb (length c.args.tables.now) (length (pairs_at c.args.epoch (state_of c.args.inner))) || ltb (length c.args.rowsets.now) (length (pairs_at c.args.epoch (state_of c.args.inner)))) (sym c.bad.ensures ∙ c.if-bad.true))
+pub returns-in_err-judge : goal.returns-in_err-judge
+returns-in_err-judge c =
+    let l = keep (shown_by c.args.epoch) (state_of c.args.inner.now).pairs in
+    let n = count_from_yields_List c.shown.result c.count-count.result c.count-count.ensures.ran (YieldsList-from_first rowset_of shown_rowsets l c.shown.ensures) in
+    let d = pairs-judged (state_of c.args.inner.now) c.args.book.now c.args.epoch _ c.args.tables.now c.args.rowsets.now _ _ (ap not c.may_show-unseen.ensures) n c.min-room.ensures in
+    pairs-refuse (state_of c.args.inner.now) c.args.book.now c.args.epoch c.args.tables.now c.args.rowsets.now _ _ c.from_residual.ensures.1 (sym d ∙ sym c.judge.ensures ∙ c.in_err-judge.was)
 
-pub returns-then-not-may_show : goal.returns-then-not-may_show
-returns-then-not-may_show c =
-    let a = c.args in
-    pairs-refuse (state_of c.args.inner) c.args.book c.args.epoch c.args.tables.now c.args.rowsets.now _ (not_seen (state_of c.args.inner) c.args.book (unseen (state_of c.args.inner) c.args.book c.args.epoch) (ltb (length c.args.tables.now) (length (pairs_at c.args.epoch (state_of c.args.inner))) || ltb (length c.args.rowsets.now) (length (pairs_at c.args.epoch (state_of c.args.inner)))) (sym c.bad.ensures ∙ c.if-bad.false) (ap not (sym c.may_show.ensures) ∙ c.if-not-may_show.true-raw))
-
-pub shown_places-count-requires : goal.shown_places-count-requires
-shown_places-count-requires c = ((sound-of c.args.inner c.requires).fits.rowsets, refl)
-
-pub returns-then-tables-count : goal.returns-then-tables-count
-returns-then-tables-count c =
-    let a = c.args in
-    let l = c.shown_places-count in
-    let n = shown-count (c.args.inner.rowsets.tables ∷ c.args.inner.rowsets.rowsets ∷ []) c.args.inner.rowsets.added c.args.inner.rowsets.deleted c.args.inner.rowsets.count c.args.epoch c.shown_places-count.result _ c.shown_places-count.ensures in
-    pairs-refuse (state_of c.args.inner) c.args.book c.args.epoch c.args.tables.now c.args.rowsets.now _ (pairs-short-1 (state_of c.args.inner) c.args.book c.args.epoch c.args.tables.now c.args.rowsets.now c.shown_places-count.result n (sym c.bad.ensures ∙ c.if-bad.false) (ap not (sym c.may_show.ensures) ∙ c.if-not-may_show.false-raw) c.if-tables-count.true)
-
-pub returns-then-rowsets-count : goal.returns-then-rowsets-count
-returns-then-rowsets-count c =
-    let a = c.args in
-    let l = c.shown_places-count in
-    let n = shown-count (c.args.inner.rowsets.tables ∷ c.args.inner.rowsets.rowsets ∷ []) c.args.inner.rowsets.added c.args.inner.rowsets.deleted c.args.inner.rowsets.count c.args.epoch c.shown_places-count.result _ c.shown_places-count.ensures in
-    pairs-refuse (state_of c.args.inner) c.args.book c.args.epoch c.args.tables.now c.args.rowsets.now _ (pairs-short-2 (state_of c.args.inner) c.args.book c.args.epoch c.args.tables.now c.args.rowsets.now c.shown_places-count.result n (sym c.bad.ensures ∙ c.if-bad.false) (ap not (sym c.may_show.ensures) ∙ c.if-not-may_show.false-raw) c.if-tables-count.false c.if-rowsets-count.true)
-
-pub write-requires : goal.write-requires
-write-requires c =
-    let l = c.shown_places-count.ensures in
-    let f = (sound-of c.args.inner c.requires).fits.rowsets in
-    (c.if-tables-count.false, omega (arith, c.shown_places-count.ensures.fewer), λ i h. omega (arith, c.shown_places-count.ensures.inside i h))
-
-pub write-requires-2 : goal.write-requires-2
-write-requires-2 c =
-    let l = c.shown_places-count.ensures in
-    let f = (sound-of c.args.inner c.requires).fits.rowsets in
-    (c.if-rowsets-count.false, omega (arith, c.shown_places-count.ensures.fewer), λ i h. omega (arith, c.shown_places-count.ensures.inside i h))
-
-pub shape_of-tables : goal.shape_of-tables
-shape_of-tables c = search known
-
-pub shape_of-rowsets : goal.shape_of-rowsets
-shape_of-rowsets c = search known
+pub loop-i-preserved : goal.loop-i-preserved
+loop-i-preserved c =
+    let l = keep (shown_by c.args.epoch) (state_of c.args.inner.now).pairs in
+    let road = YieldsList-from_enumerate {s = c.into_iter-i-iterator.result} (YieldsList-from_first rowset_of shown_rowsets l (cc)) (cc) in
+    let t = numbered-turn rowset_of l road c.loop-i.yielded c.loop-i.i-iterator c.loop-i.yielded_by _ c.next.new.self (c.in-Some.i, c.in-Some.pair) nothing c.in-Some.is c.next.ensures.steps in
+    let k = length_push c.loop-i.yielded (c.in-Some.i, c.in-Some.pair) in (
+      fronts-more l 0 c.args.tables.now (length c.loop-i.yielded) c.loop-i.tables c.in-Some.i _ (rowset_of c.in-Some.pair) c.in-Some.pair.table.0 c.loop-i.invariant.0 t.0 t.1 t.2 refl k,
+      fronts-more l 1 c.args.rowsets.now (length c.loop-i.yielded) c.loop-i.rowsets c.in-Some.i _ (rowset_of c.in-Some.pair) c.in-Some.pair.rowset.0 c.loop-i.invariant.1 t.0 t.1 t.2 refl k,
+    )
 
 pub returns : goal.returns
 returns c =
-    let a = c.args in
-    let l = c.shown_places-count in
-    let n = shown-count (c.args.inner.rowsets.tables ∷ c.args.inner.rowsets.rowsets ∷ []) c.args.inner.rowsets.added c.args.inner.rowsets.deleted c.args.inner.rowsets.count c.args.epoch c.shown_places-count.result _ c.shown_places-count.ensures in
-    let x = c.write.ensures ∙ ap (λ (t : List ℕ). over t c.args.tables.now) (shown-numbers (c.args.inner.rowsets.tables ∷ c.args.inner.rowsets.rowsets ∷ []) c.args.inner.rowsets.added c.args.inner.rowsets.deleted c.args.inner.rowsets.count c.args.epoch c.shown_places-count.result _ c.shown_places-count.ensures 0) in
-    let y = c.write-2.ensures ∙ ap (λ (t : List ℕ). over t c.args.rowsets.now) (shown-numbers (c.args.inner.rowsets.tables ∷ c.args.inner.rowsets.rowsets ∷ []) c.args.inner.rowsets.added c.args.inner.rowsets.deleted c.args.inner.rowsets.count c.args.epoch c.shown_places-count.result _ c.shown_places-count.ensures 1) in
-    pairs-accept (state_of c.args.inner) c.args.book c.args.epoch c.args.tables.now c.args.rowsets.now c.shown_places-count.result _ _ (pairs-room (state_of c.args.inner) c.args.book c.args.epoch c.args.tables.now c.args.rowsets.now c.shown_places-count.result n (sym c.bad.ensures ∙ c.if-bad.false) (ap not (sym c.may_show.ensures) ∙ c.if-not-may_show.false-raw) c.if-tables-count.false c.if-rowsets-count.false) n x y
+    let l = keep (shown_by c.args.epoch) (state_of c.args.inner.now).pairs in
+    let road = YieldsList-from_enumerate {s = c.into_iter-i-iterator.result} (YieldsList-from_first rowset_of shown_rowsets l (cc)) (cc) in
+    let t = numbered-end rowset_of l road c.loop-i.yielded c.loop-i.i-iterator c.loop-i.yielded_by _ c.next.new.self c.in-None.is c.next.ensures.steps in
+    let n = count_from_yields_List c.shown.result c.count-count.result c.count-count.ensures.ran (YieldsList-from_first rowset_of shown_rowsets l c.shown.ensures) in
+    let d = pairs-judged (state_of c.args.inner.now) c.args.book.now c.args.epoch _ c.args.tables.now c.args.rowsets.now _ _ (ap not c.may_show-unseen.ensures) n c.min-room.ensures in
+    pairs-accept (state_of c.args.inner.now) c.args.book.now c.args.epoch c.args.tables.now c.args.rowsets.now _ _ _ (sym d ∙ sym c.judge.ensures ∙ c.in_ok-judge.was) (n ∙ sym (length-map l (λ (x : Entry). x.ids)))
+    (fronts-done l 0 c.args.tables.now (length c.loop-i.yielded) c.loop-i.tables c.loop-i.invariant.0 t)
+    (fronts-done l 1 c.args.rowsets.now (length c.loop-i.yielded) c.loop-i.rowsets c.loop-i.invariant.1 t)

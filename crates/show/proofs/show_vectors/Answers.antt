@@ -1,89 +1,53 @@
 -- `show::show_vectors` meets its contract.
 use mathlib.Core.Path.{refl, sym, ap, ◌∙◌}
-use mathlib.Core.Bool.{not, ◌||◌}
-use mathlib.Core.List.{List, [], ◌∷◌}
-use Prim.Native.Nat.{ℕ}
+use mathlib.Core.Bool.{not}
+use mathlib.Core.Logic.{inl}
+use Prim.Native.Nat.{ℕ, ◌≤◌, min}
 use native.Mathlib.Omega.{arith}
-use lib.Dec.{ltb}
-use lib.ListN.{length}
-use Rattle.lists.specs.Written.{over}
-use Rattle.lists.proofs.Places.{known}
-use Rattle.version_state.specs.State.{state_of, vectors_at}
+use lib.ListN.{length, length-map}
+use Rattle.std.proofs.lemmas.List.{length_push}
+use Rattle.std.proofs.lemmas.Iterator.Consumers.{YieldsList-from_first, YieldsList-from_enumerate, count_from_yields_List}
+use Rattle.lists.specs.Keyed.{keep}
+use Rattle.snapshot.specs.Entries.{Entry, nothing, shown_by}
+use Rattle.snapshot.specs.Views.{vector_of}
+use Rattle.snapshot.specs.Shown.{shown_vectors}
+use Rattle.version_state.specs.State.{state_of}
 use Rattle.version_state.proofs.Facts.{sound-of}
-use Rattle.show.specs.Says.{unseen}
-use Rattle.show.proofs.Says.{shown-count, shown-numbers, book-bad, not_seen, vectors-short-1, vectors-short-2, vectors-short-3, vectors-room, vectors-refuse, vectors-accept}
+use Rattle.show.proofs.Says.{kept-few, numbered-turn, numbered-end, fronts-more, fronts-done, vectors-judged, vectors-refuse, vectors-accept}
 use Rattle.show.proofs.show_vectors.Goals as goal
 
-pub bad-requires : goal.bad-requires
-bad-requires c = search known
+pub count-count-requires-clause-fits : goal.count-count-requires-clause-fits
+count-count-requires-clause-fits c =
+    let f = (sound-of c.args.inner.now c.requires).fits.vectors in
+    let h : length (keep (shown_by c.args.epoch) (state_of c.args.inner.now).vectors) ≤ c.args.inner.now.vectors.count = kept-few _ _ _ in
+    inl (omega (arith, ap length c.shown.ensures))
 
-pub returns-then-bad : goal.returns-then-bad
-returns-then-bad c =
-    let a = c.args in
-    vectors-refuse (state_of c.args.inner) c.args.book c.args.epoch c.args.tables.now c.args.rowsets.now c.args.vectors.now _ (book-bad (state_of c.args.inner) c.args.book (unseen (state_of c.args.inner) c.args.book c.args.epoch) (ltb (length c.args.tables.now) (length (vectors_at c.args.epoch (state_of c.args.inner))) || (ltb (length c.args.rowsets.now) (length (vectors_at c.args.epoch (state_of c.args.inner))) || ltb (length c.args.vectors.now) (length (vectors_at c.args.epoch (state_of c.args.inner))))) (sym c.bad.ensures ∙ c.if-bad.true))
+pub returns-in_err-judge : goal.returns-in_err-judge
+returns-in_err-judge c =
+    let l = keep (shown_by c.args.epoch) (state_of c.args.inner.now).vectors in
+    let n = count_from_yields_List c.shown.result c.count-count.result c.count-count.ensures.ran (YieldsList-from_first vector_of shown_vectors l c.shown.ensures) in
+    let d = vectors-judged (state_of c.args.inner.now) c.args.book.now c.args.epoch _ c.args.tables.now c.args.rowsets.now c.args.vectors.now _ _ (ap not c.may_show-unseen.ensures) n (c.min-room.ensures ∙ ap (λ (n : ℕ). min n (length c.args.vectors.now)) c.min.ensures) in
+    vectors-refuse (state_of c.args.inner.now) c.args.book.now c.args.epoch c.args.tables.now c.args.rowsets.now c.args.vectors.now _ _ c.from_residual.ensures.1 (sym d ∙ sym c.judge.ensures ∙ c.in_err-judge.was)
 
-pub returns-then-not-may_show : goal.returns-then-not-may_show
-returns-then-not-may_show c =
-    let a = c.args in
-    vectors-refuse (state_of c.args.inner) c.args.book c.args.epoch c.args.tables.now c.args.rowsets.now c.args.vectors.now _ (not_seen (state_of c.args.inner) c.args.book (unseen (state_of c.args.inner) c.args.book c.args.epoch) (ltb (length c.args.tables.now) (length (vectors_at c.args.epoch (state_of c.args.inner))) || (ltb (length c.args.rowsets.now) (length (vectors_at c.args.epoch (state_of c.args.inner))) || ltb (length c.args.vectors.now) (length (vectors_at c.args.epoch (state_of c.args.inner))))) (sym c.bad.ensures ∙ c.if-bad.false) (ap not (sym c.may_show.ensures) ∙ c.if-not-may_show.true-raw))
-
-pub shown_places-count-requires : goal.shown_places-count-requires
-shown_places-count-requires c = ((sound-of c.args.inner c.requires).fits.vectors, refl)
-
-pub returns-then-tables-count : goal.returns-then-tables-count
-returns-then-tables-count c =
-    let a = c.args in
-    let l = c.shown_places-count in
-    let n = shown-count (c.args.inner.vectors.tables ∷ c.args.inner.vectors.rowsets ∷ c.args.inner.vectors.vectors ∷ []) c.args.inner.vectors.added c.args.inner.vectors.deleted c.args.inner.vectors.count c.args.epoch c.shown_places-count.result _ c.shown_places-count.ensures in
-    vectors-refuse (state_of c.args.inner) c.args.book c.args.epoch c.args.tables.now c.args.rowsets.now c.args.vectors.now _ (vectors-short-1 (state_of c.args.inner) c.args.book c.args.epoch c.args.tables.now c.args.rowsets.now c.args.vectors.now c.shown_places-count.result n (sym c.bad.ensures ∙ c.if-bad.false) (ap not (sym c.may_show.ensures) ∙ c.if-not-may_show.false-raw) c.if-tables-count.true)
-
-pub returns-then-rowsets-count : goal.returns-then-rowsets-count
-returns-then-rowsets-count c =
-    let a = c.args in
-    let l = c.shown_places-count in
-    let n = shown-count (c.args.inner.vectors.tables ∷ c.args.inner.vectors.rowsets ∷ c.args.inner.vectors.vectors ∷ []) c.args.inner.vectors.added c.args.inner.vectors.deleted c.args.inner.vectors.count c.args.epoch c.shown_places-count.result _ c.shown_places-count.ensures in
-    vectors-refuse (state_of c.args.inner) c.args.book c.args.epoch c.args.tables.now c.args.rowsets.now c.args.vectors.now _ (vectors-short-2 (state_of c.args.inner) c.args.book c.args.epoch c.args.tables.now c.args.rowsets.now c.args.vectors.now c.shown_places-count.result n (sym c.bad.ensures ∙ c.if-bad.false) (ap not (sym c.may_show.ensures) ∙ c.if-not-may_show.false-raw) c.if-tables-count.false c.if-rowsets-count.true)
-
-pub returns-then-vectors-count : goal.returns-then-vectors-count
-returns-then-vectors-count c =
-    let a = c.args in
-    let l = c.shown_places-count in
-    let n = shown-count (c.args.inner.vectors.tables ∷ c.args.inner.vectors.rowsets ∷ c.args.inner.vectors.vectors ∷ []) c.args.inner.vectors.added c.args.inner.vectors.deleted c.args.inner.vectors.count c.args.epoch c.shown_places-count.result _ c.shown_places-count.ensures in
-    vectors-refuse (state_of c.args.inner) c.args.book c.args.epoch c.args.tables.now c.args.rowsets.now c.args.vectors.now _ (vectors-short-3 (state_of c.args.inner) c.args.book c.args.epoch c.args.tables.now c.args.rowsets.now c.args.vectors.now c.shown_places-count.result n (sym c.bad.ensures ∙ c.if-bad.false) (ap not (sym c.may_show.ensures) ∙ c.if-not-may_show.false-raw) c.if-tables-count.false c.if-rowsets-count.false c.if-vectors-count.true)
-
-pub write-requires : goal.write-requires
-write-requires c =
-    let l = c.shown_places-count.ensures in
-    let f = (sound-of c.args.inner c.requires).fits.vectors in
-    (c.if-tables-count.false, omega (arith, c.shown_places-count.ensures.fewer), λ i h. omega (arith, c.shown_places-count.ensures.inside i h))
-
-pub write-requires-2 : goal.write-requires-2
-write-requires-2 c =
-    let l = c.shown_places-count.ensures in
-    let f = (sound-of c.args.inner c.requires).fits.vectors in
-    (c.if-rowsets-count.false, omega (arith, c.shown_places-count.ensures.fewer), λ i h. omega (arith, c.shown_places-count.ensures.inside i h))
-
-pub write_wide-requires : goal.write_wide-requires
-write_wide-requires c =
-    let l = c.shown_places-count.ensures in
-    let f = (sound-of c.args.inner c.requires).fits.vectors in
-    (c.if-vectors-count.false, omega (arith, c.shown_places-count.ensures.fewer), λ i h. omega (arith, c.shown_places-count.ensures.inside i h))
-
-pub shape_of-tables : goal.shape_of-tables
-shape_of-tables c = search known
-
-pub shape_of-rowsets : goal.shape_of-rowsets
-shape_of-rowsets c = search known
-
-pub shape_of-vectors : goal.shape_of-vectors
-shape_of-vectors c = search known
+pub loop-i-preserved : goal.loop-i-preserved
+loop-i-preserved c =
+    let l = keep (shown_by c.args.epoch) (state_of c.args.inner.now).vectors in
+    let road = YieldsList-from_enumerate {s = c.into_iter-i-iterator.result} (YieldsList-from_first vector_of shown_vectors l (cc)) (cc) in
+    let t = numbered-turn vector_of l road c.loop-i.yielded c.loop-i.i-iterator c.loop-i.yielded_by _ c.next.new.self (c.in-Some.i, c.in-Some.vector) nothing c.in-Some.is c.next.ensures.steps in
+    let k = length_push c.loop-i.yielded (c.in-Some.i, c.in-Some.vector) in (
+      fronts-more l 0 c.args.tables.now (length c.loop-i.yielded) c.loop-i.tables c.in-Some.i _ (vector_of c.in-Some.vector) c.in-Some.vector.table.0 c.loop-i.invariant.0 t.0 t.1 t.2 refl k,
+      fronts-more l 1 c.args.rowsets.now (length c.loop-i.yielded) c.loop-i.rowsets c.in-Some.i _ (vector_of c.in-Some.vector) c.in-Some.vector.rowset.0 c.loop-i.invariant.1 t.0 t.1 t.2 refl k,
+      fronts-more l 2 c.args.vectors.now (length c.loop-i.yielded) c.loop-i.vectors c.in-Some.i _ (vector_of c.in-Some.vector) c.in-Some.vector.vector.0 c.loop-i.invariant.2 t.0 t.1 t.2 refl k,
+    )
 
 pub returns : goal.returns
 returns c =
-    let a = c.args in
-    let l = c.shown_places-count in
-    let n = shown-count (c.args.inner.vectors.tables ∷ c.args.inner.vectors.rowsets ∷ c.args.inner.vectors.vectors ∷ []) c.args.inner.vectors.added c.args.inner.vectors.deleted c.args.inner.vectors.count c.args.epoch c.shown_places-count.result _ c.shown_places-count.ensures in
-    let x = c.write.ensures ∙ ap (λ (t : List ℕ). over t c.args.tables.now) (shown-numbers (c.args.inner.vectors.tables ∷ c.args.inner.vectors.rowsets ∷ c.args.inner.vectors.vectors ∷ []) c.args.inner.vectors.added c.args.inner.vectors.deleted c.args.inner.vectors.count c.args.epoch c.shown_places-count.result _ c.shown_places-count.ensures 0) in
-    let y = c.write-2.ensures ∙ ap (λ (t : List ℕ). over t c.args.rowsets.now) (shown-numbers (c.args.inner.vectors.tables ∷ c.args.inner.vectors.rowsets ∷ c.args.inner.vectors.vectors ∷ []) c.args.inner.vectors.added c.args.inner.vectors.deleted c.args.inner.vectors.count c.args.epoch c.shown_places-count.result _ c.shown_places-count.ensures 1) in
-    let z = c.write_wide.ensures ∙ ap (λ (t : List ℕ). over t c.args.vectors.now) (shown-numbers (c.args.inner.vectors.tables ∷ c.args.inner.vectors.rowsets ∷ c.args.inner.vectors.vectors ∷ []) c.args.inner.vectors.added c.args.inner.vectors.deleted c.args.inner.vectors.count c.args.epoch c.shown_places-count.result _ c.shown_places-count.ensures 2) in
-    vectors-accept (state_of c.args.inner) c.args.book c.args.epoch c.args.tables.now c.args.rowsets.now c.args.vectors.now c.shown_places-count.result _ _ _ (vectors-room (state_of c.args.inner) c.args.book c.args.epoch c.args.tables.now c.args.rowsets.now c.args.vectors.now c.shown_places-count.result n (sym c.bad.ensures ∙ c.if-bad.false) (ap not (sym c.may_show.ensures) ∙ c.if-not-may_show.false-raw) c.if-tables-count.false c.if-rowsets-count.false c.if-vectors-count.false) n x y z
+    let l = keep (shown_by c.args.epoch) (state_of c.args.inner.now).vectors in
+    let road = YieldsList-from_enumerate {s = c.into_iter-i-iterator.result} (YieldsList-from_first vector_of shown_vectors l (cc)) (cc) in
+    let t = numbered-end vector_of l road c.loop-i.yielded c.loop-i.i-iterator c.loop-i.yielded_by _ c.next.new.self c.in-None.is c.next.ensures.steps in
+    let n = count_from_yields_List c.shown.result c.count-count.result c.count-count.ensures.ran (YieldsList-from_first vector_of shown_vectors l c.shown.ensures) in
+    let d = vectors-judged (state_of c.args.inner.now) c.args.book.now c.args.epoch _ c.args.tables.now c.args.rowsets.now c.args.vectors.now _ _ (ap not c.may_show-unseen.ensures) n (c.min-room.ensures ∙ ap (λ (n : ℕ). min n (length c.args.vectors.now)) c.min.ensures) in
+    vectors-accept (state_of c.args.inner.now) c.args.book.now c.args.epoch c.args.tables.now c.args.rowsets.now c.args.vectors.now _ _ _ _ (sym d ∙ sym c.judge.ensures ∙ c.in_ok-judge.was) (n ∙ sym (length-map l (λ (x : Entry). x.ids)))
+    (fronts-done l 0 c.args.tables.now (length c.loop-i.yielded) c.loop-i.tables c.loop-i.invariant.0 t)
+    (fronts-done l 1 c.args.rowsets.now (length c.loop-i.yielded) c.loop-i.rowsets c.loop-i.invariant.1 t)
+    (fronts-done l 2 c.args.vectors.now (length c.loop-i.yielded) c.loop-i.vectors c.loop-i.invariant.2 t)
