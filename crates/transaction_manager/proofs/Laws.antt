@@ -16,14 +16,14 @@ use Rattle.ids.proofs.Verdicts.{none-judged}
 use Rattle.manifest.specs.Operations.{drop_table}
 use Rattle.text.specs.Name.{is_name}
 use Rattle.snapshot.specs.Entries.{Entry, shown_by, within}
-use Rattle.snapshot.specs.Tables.{TableEntry, by_table, created}
+use Rattle.snapshot.specs.Tables.{TableEntry, by_table, created, with_lock}
 use Rattle.version_state.specs.declared.VersionManagerInner.{VersionManagerInner}
 use Rattle.version_state.specs.State.{State, state_of, with_tables, Hands}
 use Rattle.version_state.specs.Sound.{has_table, has_rowset, left_behind, bad_inner}
 use Rattle.version_state.proofs.Facts.{Ordered, sound-of, of-sound}
 use Rattle.operations.specs.Effect.{effect}
 use Rattle.operations.specs.Judge.{is_live}
-use Rattle.transaction_manager.specs.Locks.{is_locked, with_lock, relocked, lock_rules}
+use Rattle.transaction_manager.specs.Locks.{is_locked, relocked, lock_rules}
 
 module _ (t : ℕ) (b : Bool) where
   abbrev relock : TableEntry → TableEntry

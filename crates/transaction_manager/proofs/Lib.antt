@@ -1,3 +1,2 @@
 -- The laws that this crate's proofs cite. Assumes nothing.
-pub mod Locks
 pub mod Laws

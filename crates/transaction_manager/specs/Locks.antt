@@ -1,20 +1,16 @@
 -- One lock a table: whether it is held, when it is taken or given back, and what that does. Assumes nothing.
-use Rattle.std.specs.Prelude.{Bool, true, false, not, ◌&&◌, List, [], ◌∷◌, ℕ}
-use Rattle.lists.specs.Keyed.{any_of, is_at, changed}
+use Rattle.std.specs.Prelude.{Bool, true, false, not, List, [], ◌∷◌, ℕ}
+use Rattle.lists.specs.Keyed.{changed}
 use Rattle.ids.specs.Ids.{is_id32}
 use Rattle.ids.specs.declared.refusal.Refusal.TheVariants.{Malformed, TableNotLive, LockHeld, LockNotHeld}
 use Rattle.ids.specs.Verdicts.{Rule, ◌⇒◌}
-use Rattle.snapshot.specs.Tables.{TableEntry, by_table}
+use Rattle.snapshot.specs.Tables.{by_table, lock_held, with_lock}
 use Rattle.version_state.specs.State.{State, with_tables}
 use Rattle.operations.specs.Judge.{is_live}
 
 -- the lock of table t is held
 abbrev pub is_locked : ℕ → State → Bool
-is_locked t s = any_of (λ x. is_at by_table (t ∷ []) x && x.locked) s.tables
-
--- a table, its lock held or free
-abbrev pub with_lock : Bool → TableEntry → TableEntry
-with_lock b x = record { table = x.table; shape = x.shape; name = x.name; locked = b }
+is_locked t s = lock_held t s.tables
 
 -- the lock of table t held or free, and all else as it was
 abbrev pub relocked : ℕ → Bool → State → State

@@ -20,7 +20,8 @@ use Rattle.ids.specs.Answers.{told, after}
 use Rattle.manifest.specs.declared.operation.Batch.{Batch}
 use Rattle.manifest.specs.Operations.{Operation, operation_of, batch_of}
 use Rattle.snapshot.specs.Entries.{field}
-use Rattle.version_state.specs.State.{State}
+use Rattle.version_state.specs.declared.VersionManagerInner.{VersionManagerInner}
+use Rattle.version_state.specs.State.{State, Hands}
 use Rattle.pins.specs.declared.PinBook.{PinBook}
 use Rattle.frames.specs.Frames.{texts_of}
 use Rattle.commit.specs.Commit.{commit_of}
@@ -33,7 +34,6 @@ use Rattle.rewrite.specs.Says.{with_rewritten, RewriteIs}
 use Rattle.vacuum.specs.declared.Released.{Released}
 use Rattle.vacuum.specs.LetGo.{vacuumed}
 use Rattle.vacuum.specs.Says.{bound_of, list_of, VacuumIs}
-use Rattle.transaction_manager.specs.declared.Relocked.{Relocked}
 use Rattle.transaction_manager.specs.Locks.{relocked}
 use Rattle.transaction_manager.specs.Says.{LockIs}
 use Rattle.version_manager.specs.declared.VersionManager.{VersionManager}
@@ -117,26 +117,27 @@ module _ (m : VersionManager) (b : PinBook) (ts rs : List ℕ) (v : Released) (t
         }
 
 -- a lock of a manager that passed 29 taken or given back
-module _ (m : VersionManager) (t : TableNo) (b : Bool) (v : Relocked) (g : bad_manager m ≡ false) (i : LockIs (held_by m) t.0 b v) where
-  lock-verdict : v.verdict ≡ lock_verdict m t.0 b
+module _ (m : VersionManager) (t : TableNo) (b : Bool) (v : Verdict) (n : VersionManagerInner) (g : bad_manager m ≡ false) (i : LockIs (held_by m) t.0 b v n) where
+  lock-verdict : v ≡ lock_verdict m t.0 b
   lock-verdict = rw g i.verdict
 
-  module _ (r : Locked) (a : r.answer ≡ v.verdict) where
+  module _ (r : Locked) (a : r.answer ≡ v) where
     lock-told : told r.answer [] ≡ told (lock_verdict m t.0 b) []
     lock-told = ap (λ (d : Verdict). told d []) (a ∙ lock-verdict)
 
-    pub lock-no : (k : Refusal) → v.verdict ≡ Err k → r.manager ≡ m → RelockSays m t b r
+    pub lock-no : (k : Refusal) → v ≡ Err k → r.manager ≡ m → RelockSays m t b r
     lock-no k e h =
         record {
           answer = lock-told;
           manager = subst (λ (d : Verdict). HandsBack d m (relocked t.0 b (held_by m)) r.manager) (sym e ∙ lock-verdict) h;
         }
 
-    pub lock-yes : v.verdict ≡ Ok tt → (r.manager.inner ≡ v.inner) × (r.manager.append ≡ 0) → RelockSays m t b r
+    pub lock-yes : v ≡ Ok tt → (r.manager.inner ≡ n) × (r.manager.append ≡ 0) → RelockSays m t b r
     lock-yes e h =
+        let k = subst (λ (d : Verdict). Hands n (after d (relocked t.0 b (held_by m)) (held_by m))) e i.inner in
         record {
           answer = lock-told;
-          manager = subst (λ (d : Verdict). HandsBack d m (relocked t.0 b (held_by m)) r.manager) (sym e ∙ lock-verdict) (manages r.manager v.inner _ h i.inner);
+          manager = subst (λ (d : Verdict). HandsBack d m (relocked t.0 b (held_by m)) r.manager) (sym e ∙ lock-verdict) (manages r.manager n _ h k);
         }
 
 -- a checkpoint of a manager that passed 29

@@ -465,20 +465,16 @@ impl VersionManager {
                 answer: Err(Refusal::BadManager),
             };
         }
-        let inner = self.inner;
-        let done = transaction_manager::relock(inner, table, held);
-        let verdict = done.verdict;
-        if let Err(refusal) = verdict {
-            return Answered {
+        let mut inner = self.inner;
+        match transaction_manager::relock(&mut inner, table, held) {
+            Err(refusal) => Answered {
                 manager: self,
                 answer: Err(refusal),
-            };
-        }
-        let inner = done.inner;
-        let manager = handed(inner);
-        Answered {
-            manager,
-            answer: Ok(()),
+            },
+            Ok(()) => Answered {
+                manager: handed(inner),
+                answer: Ok(()),
+            },
         }
     }
 
