@@ -25,7 +25,7 @@ use Rattle.operations.specs.Effect.{edited, marked, as_entry, raised, applied}
 use Rattle.operations.specs.Judge.{state_rules, op_rules}
 use Rattle.operations.specs.Steps.{step_of}
 use Rattle.operations.specs.Ready.{Leaves, Turned, Ready, StepIs}
-use Rattle.operations.proofs.Turns.{tables-count, rowsets-count, vectors-count}
+use Rattle.operations.proofs.Turns.{tables-count, rowsets_count, vectors-count}
 use Rattle.operations.proofs.Edits.{adds_map, all-edited, ascending-edited, ascending-marked, rises, passed, fits, short-edited, short-marked}
 
 ordered-marked : (e : ℕ) (d : Edit (List ℕ)) (l : List Entry) → ascending by_ids l ≡ true → ascending by_ids (marked e d l) ≡ true
@@ -75,7 +75,7 @@ module _ (m : VersionManagerInner) where
   short y =
       record {
         tables = omega (arith, y.fits.tables, tables-count m.tables);
-        pairs = omega (arith, y.fits.rowsets, rowsets-count m.rowsets);
+        pairs = omega (arith, y.fits.rowsets, rowsets_count m.rowsets);
         vectors = omega (arith, y.fits.vectors, vectors-count m.vectors);
       }
 
@@ -88,7 +88,7 @@ module _ (m : VersionManagerInner) where
         fits =
             record {
               tables = omega (arith, g.tables, tables-count m.tables);
-              rowsets = omega (arith, g.pairs, rowsets-count m.rowsets);
+              rowsets = omega (arith, g.pairs, rowsets_count m.rowsets);
               vectors = omega (arith, g.vectors, vectors-count m.vectors);
             };
         tables = p.tables;

@@ -1,34 +1,63 @@
 -- What the tests of an operation say: counts are lengths, a drawn id raises no next id, and a table with the next id comes last. Assumes nothing.
-use mathlib.Core.Path.{◌≡◌, ◌∙◌}
-use mathlib.Core.Bool.{true}
+use mathlib.Core.Path.{◌≡◌, refl, sym, ◌∙◌}
+use mathlib.Core.Bool.{Bool, true, false}
 use mathlib.Core.List.{List, [], ◌∷◌, ◌++◌}
 use Prim.Native.Nat.{ℕ, ◌+◌, ◌<◌, max}
 use native.Mathlib.Omega.{arith}
-use lib.Dec.{ltb}
+use lib.Dec.{leb, ltb}
 use lib.ListN.{length}
-use Rattle.lists.specs.Keyed.{all_of, put}
+use borrow.Author.Tests.{leb-false, lt-leb}
+use Rattle.std.specs.Prelude.{Ok}
+use Rattle.std.specs.Ordering.{is_le, nat_cmp}
+use Rattle.std.proofs.lemmas.Bool.Decides.{nat_tests}
+use Rattle.lists.specs.Keyed.{all_of, has, put}
 use Rattle.lists.proofs.Order.{lex-last}
 use Rattle.lists.proofs.Keyed.{all_map, all_of-all, put_last}
+use Rattle.ids.specs.Limits.{most_held}
+use Rattle.manifest.specs.Operations.{add_rowset, add_vector}
 use Rattle.columns.proofs.Rows.{rows-length}
-use Rattle.snapshot.specs.Entries.{entry_at}
+use Rattle.snapshot.specs.Entries.{by_ids, added_at, entry_at}
 use Rattle.snapshot.specs.Tables.{TableEntry, created, by_table, table_at}
 use Rattle.snapshot.specs.Views.{tables_of, rowsets_of, vectors_of}
 use Rattle.snapshot.specs.declared.tables.Tables.{Tables}
 use Rattle.snapshot.specs.declared.rowsets.Rowsets.{Rowsets}
 use Rattle.snapshot.specs.declared.vectors.Vectors.{Vectors}
+use Rattle.version_state.specs.State.{State, with_pairs, with_vectors}
+use Rattle.operations.specs.Judge.{is_live, is_shown, vector_held}
+use Rattle.operations.specs.Ready.{Turned, Leaves}
 pub use Rattle.operations.proofs.Entries.{not-held}
 
 pub tables-count : (t : Tables) → length (tables_of t) ≡ t.count
 tables-count t = rows-length (table_at t.ids t.shapes t.lengths t.names t.locked) t.count
 
-pub rowsets-count : (r : Rowsets) → length (rowsets_of r) ≡ r.count
-rowsets-count r = rows-length (entry_at (r.tables ∷ r.rowsets ∷ []) r.added r.deleted) r.count
+pub rowsets_count : (r : Rowsets) → length (rowsets_of r) ≡ r.count
+rowsets_count r = rows-length (entry_at (r.tables ∷ r.rowsets ∷ []) r.added r.deleted) r.count
 
 pub vectors-count : (v : Vectors) → length (vectors_of v) ≡ v.count
 vectors-count v = rows-length (entry_at (v.tables ∷ v.rowsets ∷ v.vectors ∷ []) v.added v.deleted) v.count
 
-pub not-raised : (n x : ℕ) → x < n → max n (x + 1) ≡ n
-not-raised n x h = omega arith
+-- an id that is not below the next one, as the derived order tests it
+pub undrawn : (n x : ℕ) (b : Bool) → b ≡ is_le (nat_cmp n x) → leb n x ≡ b
+undrawn n x b h = h' ∙ sym h
+  where
+    h' : leb n x ≡ is_le (nat_cmp n x)
+    h' = grind (arith, nat_tests)
+
+-- an id that was drawn raises no next id
+drawn : (n x : ℕ) → leb n x ≡ false → max n (x + 1) ≡ n
+drawn n x h = let q = leb-false n x h in omega arith
+
+-- x is put in, and u is left
+module _ (i e : ℕ) (s u : State) (t r n : ℕ) where
+  pub pair-in : is_live t s ≡ true → leb s.next_rowset r ≡ false → has by_ids (t ∷ r ∷ []) s.pairs ≡ false → length s.pairs ≡ n → n < most_held
+      → u ≡ with_pairs s (put by_ids (added_at e (t ∷ r ∷ [])) s.pairs) → Turned i e (add_rowset t r) s (Ok tt) u
+  unfolding Turned Leaves
+  pair-in a b c l d h = rw (a, b, c, l, lt-leb _ _ d, drawn s.next_rowset r b) (refl, h)
+
+  pub vector-in : (v : ℕ) → is_shown e (t ∷ r ∷ []) s.pairs ≡ true → leb s.next_vector v ≡ false → vector_held v s.vectors ≡ false → length s.vectors ≡ n → n < most_held
+      → u ≡ with_vectors s (put by_ids (added_at e (t ∷ r ∷ v ∷ [])) s.vectors) → Turned i e (add_vector t r v) s (Ok tt) u
+  unfolding Turned Leaves
+  vector-in v a b c l d h = rw (a, b, c, l, lt-leb _ _ d, drawn s.next_vector v b) (refl, h)
 
 -- a table with the next id stands after all others
 pub create-last : (l : List TableEntry) (n t h : ℕ) (name : List ℕ) → all_of (λ x. ltb x.table n) l ≡ true → t ≡ n
@@ -39,6 +68,4 @@ create-last l n t h name b e =
 
 pub ruleset table_turns = (tables-count, create-last)
 
-pub ruleset pair_turns = (rowsets-count, not-raised)
-
-pub ruleset vector_turns = (vectors-count, not-raised, not-held)
+pub ruleset vector_turns = (vectors-count, not-held)

@@ -34,7 +34,9 @@ pub fn step(
     ensures { StepIs (step_of place epoch (operation_of change) (state_of inner.old)) result inner.new }
 {
     match change {
-        EpochOp::CreateTable(table, shape, name) => tables::create(inner, place, table, shape, name),
+        EpochOp::CreateTable(table, shape, name) => tables::create(
+            inner, place, table, shape, name,
+        ),
         EpochOp::DropTable(table) => tables::drop(inner, place, table),
         EpochOp::AddRowSet(table, rowset) => pairs::add(inner, place, epoch, table, rowset),
         EpochOp::DeleteRowSet(table, rowset) => pairs::delete(inner, place, epoch, table, rowset),

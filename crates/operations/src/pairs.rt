@@ -10,7 +10,7 @@ use ids::{RowsetNo, TableNo};
 use version_state::VersionManagerInner;
 
 // `A`.
-#[tactic(auto, using(crate::proofs::Turns::pair_turns), unfolding(crate::specs::Ready::Turned, crate::specs::Ready::Leaves))]
+#[tactic(auto, using(crate::proofs::Turns::rowsets_count), unfolding(crate::specs::Ready::Turned, crate::specs::Ready::Leaves))]
 pub(crate) fn add(
     inner: &mut VersionManagerInner,
     place: usize,
@@ -24,7 +24,7 @@ pub(crate) fn add(
     if !inner.tables.holds(table) {
         return Err(Refusal::TableNotLive(place));
     }
-    if inner.next.rowset.0 <= rowset.0 {
+    if inner.next.rowset <= rowset {
         return Err(Refusal::IdNotDrawn(place));
     }
     let Err(at) = inner.rowsets.find(table, rowset) else {
@@ -38,7 +38,7 @@ pub(crate) fn add(
 }
 
 // `D`.
-#[tactic(auto, using(crate::proofs::Turns::pair_turns), unfolding(crate::specs::Ready::Turned, crate::specs::Ready::Leaves))]
+#[tactic(auto, unfolding(crate::specs::Ready::Turned, crate::specs::Ready::Leaves))]
 pub(crate) fn delete(
     inner: &mut VersionManagerInner,
     place: usize,

@@ -25,7 +25,7 @@ pub(crate) fn create(
     requires ready { Ready inner.old }
     ensures { (epoch : ℕ) → Turned place epoch (create_table table.0 shape (name_of name)) (state_of inner.old) result (state_of inner.new) }
 {
-    if table.0 != inner.next.table.0 {
+    if table != inner.next.table {
         return Err(Refusal::IdNotDrawn(place));
     }
     if inner.tables.taken(name) {
@@ -40,7 +40,7 @@ pub(crate) fn create(
 }
 
 // `X`.
-#[tactic(auto, using(crate::proofs::Turns::table_turns), unfolding(crate::specs::Ready::Turned, crate::specs::Ready::Leaves))]
+#[tactic(auto, unfolding(crate::specs::Ready::Turned, crate::specs::Ready::Leaves))]
 pub(crate) fn drop(
     inner: &mut VersionManagerInner,
     place: usize,

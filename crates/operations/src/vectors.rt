@@ -26,7 +26,7 @@ pub(crate) fn add(
     if !inner.rowsets.shows(table, rowset, epoch) {
         return Err(Refusal::PairNotShown(place));
     }
-    if inner.next.vector.0 <= vector.0 {
+    if inner.next.vector <= vector {
         return Err(Refusal::IdNotDrawn(place));
     }
     if inner.vectors.numbered(vector) {
@@ -41,7 +41,7 @@ pub(crate) fn add(
 }
 
 // `W`.
-#[tactic(auto, using(crate::proofs::Turns::vector_turns), unfolding(crate::specs::Ready::Turned, crate::specs::Ready::Leaves))]
+#[tactic(auto, unfolding(crate::specs::Ready::Turned, crate::specs::Ready::Leaves))]
 pub(crate) fn delete(
     inner: &mut VersionManagerInner,
     place: usize,
