@@ -5,15 +5,16 @@ use mathlib.Core.Bool.{true, false}
 use mathlib.Core.List.{List, [], ◌∷◌, ◌++◌, map, append-nil}
 use Prim.Native.Nat.{ℕ, suc, ◌+◌, ◌*◌, ◌<◌, ◌≤◌}
 use native.Mathlib.Omega.{arith}
-use lib.ListN.{length, get_or, take, drop, length-map}
-use lib.Seq.{append_snoc}
+use native.Mathlib.Numerals.{add-one}
+use lib.ListN.{length, get_or, drop, length-map}
+use lib.Seq.{append_snoc, drop-cons}
 use borrow.Author.Tests.{not-false}
 use Rattle.std.specs.Prelude.{Result, Ok, Err}
 use Rattle.std.specs.Result.{result_and}
 use Rattle.lists.specs.Keyed.{all_of}
 use Rattle.lists.proofs.Tests.{by_cases}
 use Rattle.lists.proofs.Keyed.{All}
-use Rattle.lists.proofs.Views.{map-drop, seen}
+use Rattle.lists.proofs.Views.{map-drop}
 use Rattle.ids.specs.Limits.{most_operations, longest_line}
 use Rattle.ids.specs.declared.refusal.Refusal.{Refusal}
 use Rattle.ids.specs.declared.refusal.Refusal.TheVariants.{Malformed}
@@ -52,12 +53,13 @@ all-well (o ∷ os) = (as-line-well o, all-well os)
 pub lines-room : (os : List Operation) → length os ≤ most_operations → length (texts_of (map as_line os)) ≤ most_operations * longest_line
 lines-room os h = omega (arith, texts-short (map as_line os) (all-well os), length-map os as_line)
 
--- a turn of a loop over the changes l, of which there are n
-pub line-turn : (l : List EpochOp) (n i : ℕ) (d : EpochOp) → i < n → n ≤ length l
-    → drop i (map as_line (map operation_of (take n l))) ≡ as_line (operation_of (get_or l i d)) ∷ drop (i + 1) (map as_line (map operation_of (take n l)))
-line-turn l n i d h k =
-    let os = map operation_of (take n l) in
-    map-drop as_line i os ∙ ap (map as_line) (seen operation_of l n i d h k) ∙ ap (λ (r : List Operation). as_line (operation_of (get_or l i d)) ∷ r) (sym (map-drop as_line (i + 1) os))
+-- a turn of a loop over changes
+pub line-turn : (l : List EpochOp) (i : ℕ) (d : EpochOp) → i < length l
+    → drop i (map as_line (map operation_of l)) ≡ as_line (operation_of (get_or l i d)) ∷ drop (i + 1) (map as_line (map operation_of l))
+line-turn l i d h =
+    let on : (k : ℕ) → drop k (map as_line (map operation_of l)) ≡ map as_line (map operation_of (drop k l)) =
+    λ k. map-drop as_line k (map operation_of l) ∙ ap (map as_line) (map-drop operation_of k l) in
+    rw add-one (on i ∙ ap (λ (m : List EpochOp). map as_line (map operation_of m)) (drop-cons l i d h) ∙ ap (λ (os : List Operation). as_line (operation_of (get_or l i d)) ∷ os) (sym (on (suc i))))
 
 -- Read back.
 texts-of : (os : List Operation) → map line_text (map operation os) ≡ map text_of os

@@ -1,11 +1,10 @@
 -- Operations lent as lines: one after another, and the frame of those that are accepted. Assumes nothing.
 use mathlib.Core.Path.{◌≡◌, refl, sym, ap, ap₂, ◌∙◌}
 use mathlib.Core.Bool.{true}
-use mathlib.Core.List.{List, [], ◌∷◌, ◌++◌, map, append-nil, append_assoc}
-use Prim.Native.Nat.{ℕ, ◌+◌, ◌-◌, ◌*◌, ◌<◌, ◌≤◌}
+use mathlib.Core.List.{List, [], ◌∷◌, ◌++◌, map, append-nil}
+use Prim.Native.Nat.{ℕ, ◌+◌, ◌*◌, ◌≤◌}
 use native.Mathlib.Omega.{arith}
-use lib.ListN.{length, take, drop, length-append, length-take, length-drop, drop_of_length-le}
-use lib.Seq.{drop-cons, append_snoc}
+use lib.ListN.{length, length-append}
 use Rattle.std.specs.Prelude.{Result, Ok, Err}
 use Rattle.lists.proofs.Tests.{clash}
 use Rattle.lists.proofs.Keyed.{All}
@@ -14,16 +13,12 @@ use Rattle.ids.specs.declared.refusal.Refusal.{Refusal}
 use Rattle.ids.specs.Verdicts.{judged}
 use Rattle.ids.specs.Results.{and_then}
 use Rattle.ids.proofs.Verdicts.{none-judged}
-use Rattle.text.specs.Class.{newline}
-use Rattle.std.specs.Prelude.{Some, None}
-use Rattle.manifest.specs.declared.reader.LineAt.{LineAt}
 use Rattle.manifest.specs.Operations.{Operation, next_ids, Line, begin, end, torn, operation, bad, well_formed}
 use Rattle.manifest.specs.Lines.{line_of, text_of, line_text}
-use Rattle.manifest.specs.Split.{lines, lines_on, lines_from, rest_on, joined, line_at}
-use Rattle.manifest.proofs.Fields.{drop_past}
+use Rattle.manifest.specs.Split.{lines, lines_on, rest_on, joined}
 use Rattle.manifest.proofs.Lines.{text-parse}
 use Rattle.manifest.proofs.Texts.{text-room}
-use Rattle.manifest.proofs.Split.{joined-lines, rest-on-append, rest_ended, line-placed, lines_at, lines_none}
+use Rattle.manifest.proofs.Split.{joined-lines}
 use Rattle.version_state.specs.State.{State}
 use Rattle.operations.specs.Judge.{op_rules}
 use Rattle.operations.specs.Steps.{step_of, steps_of}
@@ -32,34 +27,6 @@ use Rattle.commit.specs.Commit.{append_of}
 use Rattle.frames.proofs.Texts.{joined-append, texts-cons}
 use Rattle.commit.specs.Lent.{operation_said, unended, operations_in}
 use Rattle.commit.proofs.Stepwise.{halt, step_given}
-
--- The operations from a place on.
-module _ (s : List ℕ) (at : ℕ) (l : LineAt) (h : line_at s at ≡ Some l) where
-  abbrev line_here : List ℕ
-  line_here = take (l.end - l.start) (drop l.start s)
-
-  text_at : drop at s ≡ line_here ++ (newline ∷ drop l.next s)
-  unfolding lines_from lines
-  text_at =
-      let p = line-placed s at l h in
-      let d = drop at s in
-      let rest = joined (lines (drop l.next s)) ++ rest_on [] d in
-      let e : d ≡ line_here ++ (newline ∷ rest) =
-      sym (joined-lines [] d) ∙ ap (λ (ls : List (List ℕ)). joined ls ++ rest_on [] d) (lines_at s at l h) ∙ append_assoc line_here (newline ∷ joined (lines (drop l.next s))) (rest_on [] d) in
-      let n : length line_here ≡ l.end - l.start = simp (length-take, length-drop) (omega (arith, p.from, p.within, p.on, p.inside)) in
-      let t : drop (at + length line_here + 1) s ≡ rest = drop_past s (at + length line_here) (newline ∷ []) rest (drop_past s at line_here (newline ∷ rest) e) in
-      let q : at + length line_here + 1 ≡ l.next = omega (arith, n, p.from, p.within, p.on) in
-      e ∙ ap (λ (r : List ℕ). line_here ++ (newline ∷ r)) (sym (rw q at t))
-
-  rest_at : rest_on [] (drop at s) ≡ rest_on [] (drop l.next s)
-  rest_at =
-      ap (rest_on []) (text_at ∙ sym (append_snoc line_here newline (drop l.next s)))
-      ∙ rest-on-append [] (line_here ++ (newline ∷ [])) (drop l.next s)
-      ∙ ap (λ (r : List ℕ). rest_on r (drop l.next s)) (rest_ended line_here)
-
-  pub lent-line : operations_in (drop at s) ≡ operation_said (line_of line_here) ∷ operations_in (drop l.next s)
-  unfolding operations_in lines_from
-  lent-line = ap₂ (λ (ls : List (List ℕ)) (r : List ℕ). map (λ x. operation_said (line_of x)) ls ++ unended r) (lines_at s at l h) rest_at
 
 -- what a line is read as is well formed
 pub said-well : (l : List ℕ) → well_formed (operation_said (line_of l)) ≡ true
@@ -72,19 +39,9 @@ said-well l = go (line_of l) refl
     go (operation o) h = (text-parse l o h).0
     go bad h = refl
 
-none_lent : operations_in [] ≡ []
+pub none_lent : operations_in [] ≡ []
 unfolding operations_in lines lines_on rest_on
 none_lent = refl
-
-pub lent-end : (s : List ℕ) (at : ℕ) → length s ≤ at → operations_in (drop at s) ≡ []
-lent-end s at h = rw (drop_of_length-le s {i = at} h) none_lent
-
-pub lent-rest : (s : List ℕ) (at : ℕ) → at < length s → line_at s at ≡ None → operations_in (drop at s) ≡ next_ids 0 0 0 ∷ operations_in (drop (length s) s)
-unfolding operations_in lines_from lines
-lent-rest s at w h =
-    let none = lines_none s at h in
-    let r : rest_on [] (drop at s) ≡ drop at s = rw none at (joined-lines [] (drop at s)) in
-    rw (none, r, drop-cons s at 0 w, lent-end s (length s) (omega arith))
 
 -- A commit accepts no `N`, so no operation that stands for what is no operation.
 abbrev Whole : Operation → Type 0

@@ -4,4 +4,5 @@ pub mod Sounds
 pub mod Older
 pub mod Calls
 pub mod Lent
+pub mod Pieces
 pub mod AsLines

@@ -52,15 +52,14 @@ pub fn commit_lines(
     requires manifest { inner.old.manifest ≤ longest_manifest }
     ensures { CommitIs (commit_of (state_of inner.old) (length (operations_in ops.now)) (operations_in ops.now) (length out.old)) (operations_in ops.now) out.old result inner.new out.new }
 {
-    let classes = ByteClasses::new();
-    if MOST_OPERATIONS < lines::count(&classes, ops) {
+    if MOST_OPERATIONS < lines::count(ops) {
         return Err(Refusal::TooManyOperations(0));
     }
     if LAST_EPOCH <= inner.epoch {
         return Err(Refusal::EpochsFull);
     }
     let epoch = inner.epoch + 1;
-    lines::steps(inner, epoch, &classes, ops)?;
+    lines::steps(inner, epoch, &ByteClasses::new(), ops)?;
     let size = ops.len() + 6;
     ending(inner, epoch, size, out.len())?;
     frames::put_append(out, ops);

@@ -33,14 +33,9 @@ pub fn put_lines(out: &mut [u8], batch: Batch) -> usize
     ensures { Wrote out.old 0 (texts_of (map as_line (batch_of batch))) out.new result }
 {
     let classes = ByteClasses::new();
-    let count = batch.count;
-    let mut at: usize = 0;
-    let mut i = 0;
-    while i < count {
-        let change = batch.changes[i];
-        let line = as_line(&classes, change);
-        at = frames::put_line(out, at, line);
-        i += 1;
+    let mut at = 0;
+    for change in &batch.changes[..batch.count] {
+        at = frames::put_line(out, at, as_line(&classes, *change));
     }
     at
 }
