@@ -2,8 +2,6 @@
 // else as one number each.
 #![tactic(auto)]
 
-ghost use Rattle.std.specs.Prelude.{◌≤◌};
-
 use ids::limits::{LARGEST_32, LARGEST_64};
 use ids::refusal::Refusal;
 use ids::{RowNo, RowsetNo, SecondaryRowHandler, VectorNo};
@@ -24,7 +22,7 @@ fn number(rt: &impl Print, word: &str, n: u64) -> io::Result<()> {
 }
 
 fn refused(rt: &impl Print, why: Refusal) -> io::Result<()> {
-    number(rt, " refused ", why.number() as u64)?;
+    number(rt, " refused ", u64::from(why.number()))?;
     number(rt, " place ", why.place() as u64)
 }
 
@@ -43,14 +41,6 @@ fn next_of(rt: &impl Print, manager: &VersionManager) -> io::Result<()> {
     say(rt, "\n")
 }
 
-fn wide(x: u32) -> u64 {
-    x as u64
-}
-
-fn byte(x: u8) -> u64 {
-    x as u64
-}
-
 // One number for all that came before and one more.
 fn mixed(sum: u64, x: u64) -> u64 {
     (sum % 1000003 * 31 + x % 1000003 + 1) % 1000003
@@ -61,9 +51,9 @@ fn numbers(rt: &impl Print, word: &str, s: &[u32]) -> io::Result<()> {
     let mut sum: u64 = 0;
     for x in s {
         if s.len() <= 8 {
-            number(rt, " ", wide(*x))?;
+            number(rt, " ", u64::from(*x))?;
         }
-        sum = mixed(sum, wide(*x));
+        sum = mixed(sum, u64::from(*x));
     }
     number(rt, " =", sum)
 }
@@ -75,7 +65,7 @@ fn bytes(rt: &impl Print, word: &str, s: &[u8]) -> io::Result<()> {
         if s.len() <= 24 {
             print!(rt; " {x:02x}")?;
         }
-        sum = mixed(sum, byte(*x));
+        sum = mixed(sum, u64::from(*x));
     }
     number(rt, " =", sum)
 }
@@ -88,15 +78,6 @@ struct Room {
     counts: usize,
     bytes: usize,
     rows: usize,
-}
-
-fn at_most(n: usize, most: usize) -> usize
-    ensures { (result ≤ n) × (result ≤ most) }
-{
-    if n < most {
-        return n;
-    }
-    most
 }
 
 fn called(
@@ -133,11 +114,11 @@ fn group(
     let mut cs = [79u32; MOST_HANDLES];
     let mut fs = [0xaau8; MOST_BYTES];
     let mut ms = [80u32; MOST_HANDLES];
-    let a = at_most(room.vectors, MOST_HANDLES);
-    let b = at_most(room.lengths, MOST_HANDLES);
-    let c = at_most(room.counts, MOST_HANDLES);
-    let d = at_most(room.bytes, MOST_BYTES);
-    let e = at_most(room.rows, MOST_HANDLES);
+    let a = room.vectors.min(MOST_HANDLES);
+    let b = room.lengths.min(MOST_HANDLES);
+    let c = room.counts.min(MOST_HANDLES);
+    let d = room.bytes.min(MOST_BYTES);
+    let e = room.rows.min(MOST_HANDLES);
     called(
         rt,
         manager,
@@ -170,12 +151,11 @@ fn handle(rowset: u32, row: u32) -> SecondaryRowHandler {
     SecondaryRowHandler(RowsetNo(rowset), RowNo(row))
 }
 
-// Handles of rowsets and rows by turns; the count is what the call says.
-fn listed(pairs: &[u32], count: usize) -> Handles {
+// Handles of rowsets and rows; the count is what the call says.
+fn listed(pairs: &[(u32, u32)], count: usize) -> Handles {
     let mut items = [handle(0, 0); MOST_HANDLES];
-    let n = at_most(pairs.len() / 2, MOST_HANDLES);
-    for i in 0..n {
-        items[i] = handle(pairs[2 * i], pairs[2 * i + 1]);
+    for (item, (rowset, row)) in items.iter_mut().zip(pairs) {
+        *item = handle(*rowset, *row);
     }
     Handles { items, count }
 }
@@ -211,13 +191,12 @@ fn whole() -> Room {
 
 // Two rowsets, out of order and with repeats: two vectors of 17 bytes and 4 rows.
 fn mixed_handles() -> Handles {
-    let pairs = [5u32, 3, 2, 128, 5, 0, 5, 3, 2, 1, 5, 3];
+    let pairs = [(5, 3), (2, 128), (5, 0), (5, 3), (2, 1), (5, 3)];
     listed(&pairs, 6)
 }
 
 fn none() -> Handles {
-    let pairs = [0u32; 2];
-    listed(&pairs[..0], 0)
+    listed(&[], 0)
 }
 
 fn small(rt: &impl Print) -> io::Result<()> {
@@ -230,7 +209,7 @@ fn small(rt: &impl Print) -> io::Result<()> {
         none(),
         lent(1, 1, 1),
     )?;
-    let one = [9u32, 4294967295];
+    let one = [(9, 4294967295)];
     let single = listed(&one, 1);
     group(rt, "one:", drawn(0), single, lent(2, 8, 2))?;
     group(rt, "mixed:", drawn(40), mixed_handles(), lent(3, 20, 5))?;
@@ -241,7 +220,7 @@ fn small(rt: &impl Print) -> io::Result<()> {
         mixed_handles(),
         lent(2, 17, 4),
     )?;
-    let pairs = [5u32, 3, 2, 128, 5, 0, 5, 3, 2, 1, 5, 3];
+    let pairs = [(5, 3), (2, 128), (5, 0), (5, 3), (2, 1), (5, 3)];
     group(
         rt,
         "first four:",
@@ -294,7 +273,7 @@ fn short(rt: &impl Print) -> io::Result<()> {
 
 // 26: two ids of which the second would be the largest value; one id, and none.
 fn used_up(rt: &impl Print) -> io::Result<()> {
-    let one = [9u32, 1];
+    let one = [(9, 1)];
     group(
         rt,
         "last two:",
@@ -327,7 +306,7 @@ fn used_up(rt: &impl Print) -> io::Result<()> {
 
 // 2: the largest value is no rowset; it may stand past the count, and may be a row.
 fn malformed(rt: &impl Print) -> io::Result<()> {
-    let last = [LARGEST_32 - 1, LARGEST_32, 3, 1];
+    let last = [(LARGEST_32 - 1, LARGEST_32), (3, 1)];
     group(
         rt,
         "last rowset:",
@@ -335,7 +314,7 @@ fn malformed(rt: &impl Print) -> io::Result<()> {
         listed(&last, 2),
         lent(2, 12, 2),
     )?;
-    let bad = [3u32, 1, LARGEST_32, 1];
+    let bad = [(3, 1), (LARGEST_32, 1)];
     group(rt, "no rowset:", drawn(0), listed(&bad, 2), lent(2, 12, 2))?;
     group(
         rt,
