@@ -1,14 +1,29 @@
 -- `pinning::unpin` meets its contract.
 use mathlib.Core.Path.{◌≡◌, refl, sym, ap, ◌∙◌}
-use mathlib.Core.Bool.{cond}
+use mathlib.Core.Bool.{true, false, not, ◌&&◌}
+use mathlib.Core.Logic.{◌⊎◌, inl, inr}
 use Prim.Native.Nat.{ℕ}
+use borrow.Author.Tests.{eq-eqb, ne_eqb}
+use lib.Dec.{eqb}
+use lib.ListN.{length}
+use Rattle.lists.specs.Keyed.{keep}
+use Rattle.columns.specs.Rows.{rows, column}
+use Rattle.snapshot.specs.Entries.{gone_at}
 use Rattle.std.specs.Prelude.{Ok}
 use Rattle.vacuum.proofs.Laws.{counted-list}
-use Rattle.pinning.specs.Says.{unpin_verdict}
+use Rattle.pinning.specs.Says.{current, unpin_verdict}
 use Rattle.pinning.proofs.Says.{two-passed, unpin-early, unpin-24, unpin-passes, unpinnable, unpin-refuses, unpin-accepts}
 use Rattle.pinning.proofs.Laws.{unpinned-good}
 use Rattle.pinning.proofs.unpin.Goals as goal
 use Rattle.pinning.proofs.unpin.Goals.{Else-pins-eq0}
+
+-- whether a vacuum is due, as the two tests tell it
+not-due : (n e c : ℕ) → (n ≡ 0 → ⊥) ⊎ ((n ≡ 0) × (e ≡ c)) → false ≡ eqb n 0 && not (eqb e c)
+not-due n e c (inl h) = rw (ne_eqb n 0 h)
+not-due n e c (inr h) = rw (eq-eqb n 0 h.0, eq-eqb e c h.1)
+
+is-due : (n e c : ℕ) → n ≡ 0 → (e ≡ c → ⊥) → true ≡ eqb n 0 && not (eqb e c)
+is-due n e c h k = rw (eq-eqb n 0 h, ne_eqb e c k)
 
 -- where the epoch has pins
 accepted : (c : Else-pins-eq0) → unpin_verdict c.args.manager c.args.epoch c.args.book.now ≡ Ok tt
@@ -30,12 +45,18 @@ recount-requires c =
     let p = unpinnable c.args.manager c.args.book.now c.args.epoch (accepted (goal.at.recount-requires c).Else-pins-eq0) in
     (p.good.fits, p.good.ordered, p.place)
 
-pub after-requires : goal.after-requires
-after-requires c =
-    let a = accepted (goal.at.after-requires c).Else-pins-eq0 in
-    let p = unpinnable c.args.manager c.args.book.now c.args.epoch a in
-    (p.fits.rowsets, unpinned-good c.args.manager c.args.epoch c.args.book.now _ a (rw c.pins_at-pins.ensures at c.recount.ensures))
+pub returns-then-left-ne0 : goal.returns-then-left-ne0
+returns-then-left-ne0 c =
+    let due = rw c.pins_at-pins.ensures at (not-due _ c.args.epoch (current c.args.manager) c.then-left-ne0.either) in
+    unpin-accepts c.args.manager c.args.book.now c.args.epoch _ _ (accepted (goal.at.returns-then-left-ne0 c).Else-pins-eq0) due refl (rw c.pins_at-pins.ensures at c.recount.ensures)
+
+pub bound-bound-requires : goal.bound-bound-requires
+bound-bound-requires c =
+    unpinned-good c.args.manager c.args.epoch c.args.book.now _ (accepted (goal.at.bound-bound-requires c).Else-pins-eq0) (rw c.pins_at-pins.ensures at c.recount.ensures)
 
 pub returns : goal.returns
 returns c =
-    unpin-accepts c.args.manager c.args.book.now c.args.epoch _ _ (accepted (goal.at.returns c).Else-pins-eq0) (rw c.pins_at-pins.ensures at c.after.ensures.due) (c.after.ensures.ready ∙ ap (λ (n : ℕ). cond c.after.result.due n 0) (counted-list _ c.args.manager.inner)) (rw c.pins_at-pins.ensures at c.recount.ensures)
+    let i = c.args.manager.inner in
+    let due = rw c.pins_at-pins.ensures at (is-due _ c.args.epoch (current c.args.manager) c.if-left-ne0.false c.if-epoch-current.false) in
+    let ready = c.counted-ready.ensures ∙ ap (λ (n : ℕ). length (keep (gone_at n) (rows (column i.rowsets.deleted) i.rowsets.count))) c.bound-bound.ensures ∙ counted-list _ i in
+    unpin-accepts c.args.manager c.args.book.now c.args.epoch _ _ (accepted (goal.at.returns c).Else-pins-eq0) due ready (rw c.pins_at-pins.ensures at c.recount.ensures)
