@@ -8,7 +8,7 @@ ghost use Rattle.ids.specs.Names.{longest_name, name_of};
 
 use crate::limits::LONGEST_NAME;
 
-// A table's name: the first `len` bytes. A greater length is no name's.
+// A table's name: the first `len` bytes, in an array since the library has no heap. A greater length is no name's.
 #[repr(C)]
 #[derive(Clone, Copy)]
 pub struct Name {

@@ -20,7 +20,7 @@ pub enum EpochOp {
     NextIds(TableNo, RowsetNo, VectorNo),
 }
 
-// The operations of a commit or of a frame: the first `count`.
+// The operations of a commit or of a frame: the first `count`, in an array since the library has no heap.
 #[derive(Drop)]
 pub struct Batch {
     pub changes: [EpochOp; MOST_OPERATIONS],

@@ -134,7 +134,8 @@ pub fn number_length(n: u64) -> usize
     }
 }
 
-// Internal: the caller has looked for room. Each function that writes returns the place after what it wrote.
+// Internal: the caller has looked for room. Each function that writes returns the place after what it wrote. A struct of the slice
+// and the place would be no plainer: each call would ask for its room all the same.
 #[tactic(auto, using(crate::proofs::Decimal::digit_lengths))]
 pub fn put_number(out: &mut [u8], at: usize, n: u64) -> usize
     requires { at + length (digits n) ≤ length out.old }
