@@ -2,6 +2,7 @@
 ghost use Rattle.replay.specs.Reading.{SaysNext};
 
 use manifest::operation::ManifestOperation;
+use manifest_lines::ManifestLines;
 use text::ByteClasses;
 
 // What a line says, nothing where it is none of a manifest, and the place after it.
@@ -15,7 +16,7 @@ pub struct Said {
 pub fn said_at(classes: &ByteClasses, src: &[u8], at: usize) -> Option<Said>
     ensures { SaysNext src.now at result }
 {
-    let Some(line) = manifest::reader::line_at(classes, src, at) else {
+    let Some(line) = ManifestLines::new(classes, src, at).next() else {
         return None;
     };
     Some(Said {

@@ -435,9 +435,11 @@ module _ (t : ℕ) (b : Bool) (s : Tables) where
   pub lock_done : (i : ℕ) (r : Tables) → s.count ≤ i → Locking t b s i r → (tables_of r ≡ changed by_table (t ∷ []) (with_lock b) (tables_of s)) × (r.count ≡ s.count)
   lock_done i r h l =
       let f = table_at s.ids s.shapes s.lengths s.names s.locked in
-      let g = table_at s.ids s.shapes s.lengths s.names r.locked in
-      (ap tables_of l.rest
-      ∙ rows_same g (λ j. cond (is_at by_table (t ∷ []) (f j)) (with_lock b (f j)) (f j)) s.count (λ j q. by_cases (same (column s.ids j ∷ []) (t ∷ []))
-      (λ e. rw (l.behind j (omega arith), e))
-      (λ e. rw (l.behind j (omega arith), e)))
-      ∙ sym (rows-map f (λ y. cond (is_at by_table (t ∷ []) y) (with_lock b y) y) s.count), ap (λ (x : Tables). x.count) l.rest)
+      let g = table_at s.ids s.shapes s.lengths s.names r.locked in (
+        ap tables_of l.rest
+            ∙ rows_same g (λ j. cond (is_at by_table (t ∷ []) (f j)) (with_lock b (f j)) (f j)) s.count (λ j q. by_cases (same (column s.ids j ∷ []) (t ∷ []))
+            (λ e. rw (l.behind j (omega arith), e))
+            (λ e. rw (l.behind j (omega arith), e)))
+            ∙ sym (rows-map f (λ y. cond (is_at by_table (t ∷ []) y) (with_lock b y) y) s.count),
+        ap (λ (x : Tables). x.count) l.rest,
+      )

@@ -102,7 +102,14 @@ impl Rowsets {
         ensures { FoundAt (table.0 ∷ rowset.0 ∷ []) (rowsets_of self.now) self.now.count result }
     {
         let at = columns::place(&self.tables, &self.rowsets, self.count, table.0, rowset.0);
-        if columns::stands(&self.tables, &self.rowsets, self.count, at, table.0, rowset.0) {
+        if columns::stands(
+            &self.tables,
+            &self.rowsets,
+            self.count,
+            at,
+            table.0,
+            rowset.0,
+        ) {
             return Ok(at);
         }
         Err(at)
@@ -156,8 +163,14 @@ impl Rowsets {
         requires fits { self.now.count ≤ most_held }
         ensures { result ≡ leads by_ids (shown_by epoch) (table.0 ∷ rowset.0 ∷ []) (drop at (rowsets_of self.now)) }
     {
-        columns::stands(&self.tables, &self.rowsets, self.count, at, table.0, rowset.0)
-            && self.shown_at(at, epoch)
+        columns::stands(
+            &self.tables,
+            &self.rowsets,
+            self.count,
+            at,
+            table.0,
+            rowset.0,
+        ) && self.shown_at(at, epoch)
     }
 
     // The first place from one on, and before another, that the epoch shows.

@@ -107,8 +107,25 @@ impl Vectors {
         requires rises { ascending by_ids (vectors_of self.now) ≡ true }
         ensures { FoundAt (table.0 ∷ rowset.0 ∷ vector.0 ∷ []) (vectors_of self.now) self.now.count result }
     {
-        let at = columns::triples::place(&self.tables, &self.rowsets, &self.vectors, self.count, table.0, rowset.0, vector.0);
-        if columns::triples::stands(&self.tables, &self.rowsets, &self.vectors, self.count, at, table.0, rowset.0, vector.0) {
+        let at = columns::triples::place(
+            &self.tables,
+            &self.rowsets,
+            &self.vectors,
+            self.count,
+            table.0,
+            rowset.0,
+            vector.0,
+        );
+        if columns::triples::stands(
+            &self.tables,
+            &self.rowsets,
+            &self.vectors,
+            self.count,
+            at,
+            table.0,
+            rowset.0,
+            vector.0,
+        ) {
             return Ok(at);
         }
         Err(at)
@@ -178,8 +195,24 @@ impl Vectors {
         requires id { is_id32 table.0 ≡ true }
         ensures { shown_vectors result ≡ keep (of_table table.0) (keep (shown_by epoch) (vectors_of self.now)) }
     {
-        let next = columns::triples::place(&self.tables, &self.rowsets, &self.vectors, self.count, table.0, 0, 0);
-        let end = columns::triples::place(&self.tables, &self.rowsets, &self.vectors, self.count, table.0 + 1, 0, 0);
+        let next = columns::triples::place(
+            &self.tables,
+            &self.rowsets,
+            &self.vectors,
+            self.count,
+            table.0,
+            0,
+            0,
+        );
+        let end = columns::triples::place(
+            &self.tables,
+            &self.rowsets,
+            &self.vectors,
+            self.count,
+            table.0 + 1,
+            0,
+            0,
+        );
         ShownVectors {
             held: self,
             epoch,
@@ -189,7 +222,14 @@ impl Vectors {
     }
 
     // One that is not held is put in at its place, as added at the epoch.
-    pub fn insert(&mut self, at: usize, table: TableNo, rowset: RowsetNo, vector: VectorNo, epoch: u32)
+    pub fn insert(
+        &mut self,
+        at: usize,
+        table: TableNo,
+        rowset: RowsetNo,
+        vector: VectorNo,
+        epoch: u32,
+    )
         requires room { self.old.count < most_held }
         requires rises { ascending by_ids (vectors_of self.old) ≡ true }
         requires place { FoundAt (table.0 ∷ rowset.0 ∷ vector.0 ∷ []) (vectors_of self.old) self.old.count (Err at) }

@@ -60,6 +60,8 @@ impl VersionManagerInner {
         let next = self.next;
         !(self.tables.all_below(next.table)
             && self.rowsets.within(self.epoch, next.table, next.rowset)
-            && self.vectors.within(self.epoch, next.table, next.rowset, next.vector))
+            && self
+                .vectors
+                .within(self.epoch, next.table, next.rowset, next.vector))
     }
 }

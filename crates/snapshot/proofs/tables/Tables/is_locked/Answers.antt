@@ -18,8 +18,8 @@ loop-i-preserved c =
     let s = c.args.self.now in
     seek-more (λ (x : TableEntry). is_at by_table (c.args.table.0 ∷ []) x && x.locked) (table_at s.ids s.shapes s.lengths s.names s.locked) s.count c.loop-i.i c.loop-i.invariant c.loop-i-test.true
     (elim c.else-self-i.branch [
-      else-self-i-via-then-self-i+else-self-i-2 w ↦ rw (eq-eqb _ _ w.if-self-i.true) w.if-self-i-2.false
-    | else-self-i-via-else-self-i w ↦ rw (ne_eqb _ _ w.if-self-i.false)
+      | else-self-i-via-then-self-i+else-self-i-2 w ↦ rw (eq-eqb _ _ w.if-self-i.true) w.if-self-i-2.false
+      | else-self-i-via-else-self-i w ↦ rw (ne_eqb _ _ w.if-self-i.false)
     ])
 
 pub returns : goal.returns
