@@ -27,8 +27,11 @@ frame-long os = ap length (frame_is os) ∙ length-append (66 ∷ 10 ∷ texts_o
 pub texts-cons : (o : Operation) (os : List Operation) → length (texts_of (o ∷ os)) ≡ length (text_of o) + 1 + length (texts_of os)
 texts-cons o os = length-append (text_of o) (10 ∷ texts_of os) ∙ omega arith
 
+pub texts-append : (os ps : List Operation) → texts_of (os ++ ps) ≡ texts_of os ++ texts_of ps
+texts-append os ps = ap joined (map-append text_of os ps) ∙ joined-append (map text_of os) (map text_of ps)
+
 pub texts-snoc : (os : List Operation) (o : Operation) → texts_of (os ++ (o ∷ [])) ≡ texts_of os ++ (text_of o ++ (10 ∷ []))
-texts-snoc os o = ap joined (map-append text_of os (o ∷ [])) ∙ joined-append (map text_of os) (text_of o ∷ [])
+texts-snoc os o = texts-append os (o ∷ [])
 
 pub texts-split : (i : ℕ) (os : List Operation) → length (texts_of os) ≡ length (texts_of (take i os)) + length (texts_of (drop i os))
 texts-split zero os = omega arith

@@ -8,7 +8,7 @@ ghost use Rattle.manifest.specs.Lines.{text_of};
 
 use manifest::operation::EpochOp;
 
-// Internal, as is all here: the caller has looked for room.
+// Internal, as is all here: the caller has checked that there is room.
 pub fn put_line(out: &mut [u8], at: usize, change: EpochOp) -> usize
     requires { at + length (text_of (operation_of change) ++ (10 ∷ [])) ≤ length out.old }
     ensures { Wrote out.old at (text_of (operation_of change) ++ (10 ∷ [])) out.new result }

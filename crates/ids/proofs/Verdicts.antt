@@ -6,7 +6,7 @@ use Rattle.lists.proofs.Keyed.{All}
 use Rattle.ids.specs.declared.refusal.Refusal.{Refusal}
 use Rattle.std.specs.Prelude.{Ok, Err}
 use Rattle.std.specs.Result.{result_and}
-use Rattle.ids.specs.Verdicts.{Rule, ◌⇒◌, judged}
+use Rattle.ids.specs.Verdicts.{Rule, ◌⇒◌, judged, Verdict}
 
 -- the rule's condition does not hold
 abbrev pub Passed : Rule → Type 0
@@ -31,3 +31,12 @@ none-judged ((false ⇒ r) ∷ l) h = (refl, none-judged l h)
 pub refused-at : (before : List Rule) (b : Bool) (r : Refusal) (after : List Rule) → All Passed before → b ≡ true → judged (before ++ ((b ⇒ r) ∷ after)) ≡ Err r
 refused-at [] b r after p h = rw h
 refused-at ((c ⇒ q) ∷ before) b r after p h = rw p.0 (refused-at before b r after p.1 h)
+
+-- an answer that a verdict decides
+pub accepted-with : {A : Type 0} (v : Verdict) (a b : A) → result_and v (Ok a) ≡ Ok b → (v ≡ Ok tt) × (a ≡ b)
+accepted-with (Ok _) a b h = (refl, cc)
+accepted-with (Err k) a b h = absurd (cc)
+
+pub refused-with : {A : Type 0} (v : Verdict) (a : A) (k : Refusal) → result_and v (Ok a) ≡ Err k → v ≡ Err k
+refused-with (Ok _) a k h = absurd (cc)
+refused-with (Err j) a k h = cc

@@ -8,18 +8,23 @@ pub mod limits;
 pub mod name;
 pub mod refusal;
 
+// A type for each kind of id, so that none is taken for another: one type with a marker would need the marker named wherever it stands, and be no
+// plainer.
 #[repr(C)]
 #[derive(Clone, Copy, PartialEq, Eq, PartialOrd, Ord)]
 pub struct TableNo(pub u32);
 
+// As `TableNo`: one type with a marker would be no plainer.
 #[repr(C)]
 #[derive(Clone, Copy, PartialEq, Eq, PartialOrd, Ord)]
 pub struct RowsetNo(pub u32);
 
+// As `TableNo`: one type with a marker would be no plainer.
 #[repr(C)]
 #[derive(Clone, Copy, PartialEq, Eq, PartialOrd, Ord)]
 pub struct RowNo(pub u32);
 
+// As `TableNo`: one type with a marker would be no plainer.
 #[repr(C)]
 #[derive(Clone, Copy, PartialEq, Eq, PartialOrd, Ord)]
 pub struct VectorNo(pub u64);
@@ -28,7 +33,7 @@ pub struct VectorNo(pub u64);
 #[derive(Clone, Copy, PartialEq, Eq, PartialOrd, Ord)]
 pub struct SecondaryRowHandler(pub RowsetNo, pub RowNo);
 
-// Each is one comparison with its width's own limit: a trait over the widths would be longer than the three.
+// Each is one comparison with its width's own limit: a trait over the widths would be longer than the three, and no plainer.
 impl TableNo {
     pub fn is_id(self) -> bool
         ensures { result ≡ is_id32 self.0 }
@@ -37,6 +42,7 @@ impl TableNo {
     }
 }
 
+// With its own width's limit, as above: a trait would be no plainer.
 impl RowsetNo {
     pub fn is_id(self) -> bool
         ensures { result ≡ is_id32 self.0 }
@@ -45,6 +51,7 @@ impl RowsetNo {
     }
 }
 
+// With its own width's limit, as above: a trait would be no plainer.
 impl VectorNo {
     pub fn is_id(self) -> bool
         ensures { result ≡ is_id64 self.0 }

@@ -8,7 +8,7 @@ ghost use Rattle.ids.specs.Names.{longest_name, name_of};
 
 use crate::limits::LONGEST_NAME;
 
-// A table's name: the first `len` bytes, in an array since the library has no heap. A greater length is no name's.
+// A table's name: the first `len` bytes, in an array since the library has no heap. Where `len` is larger than the array, the name is empty.
 #[repr(C)]
 #[derive(Clone, Copy)]
 pub struct Name {
@@ -17,7 +17,7 @@ pub struct Name {
 }
 
 impl Name {
-    // Internal: the caller has looked at the length.
+    // Internal: the caller has checked the length.
     #[tactic(auto, unfolding(crate::specs::Names::name_of))]
     pub fn of(src: &[u8]) -> Name
         requires { length src.now ≤ longest_name }
@@ -31,7 +31,7 @@ impl Name {
         }
     }
 
-    // The bytes of the name: none, where `len` is no name's.
+    // The bytes of the name; none where `len` is larger than the array.
     #[tactic(auto, unfolding(crate::specs::Names::name_of))]
     pub fn as_slice(&self) -> &[u8]
         ensures { result.now ≡ name_of self.now }
@@ -46,7 +46,7 @@ impl Name {
     }
 }
 
-// The name that a change without one carries.
+// The empty name, which is no table's: for a name that is too long, and in free places.
 impl Default for Name {
     #[tactic(auto, unfolding(crate::specs::Names::name_of))]
     fn default() -> Name

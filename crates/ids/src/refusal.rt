@@ -69,6 +69,7 @@ pub enum Refusal {
 }
 
 impl Refusal {
+    // A method, as `place` is: `u32::from` would not say which of the two numbers it is, and be no plainer.
     pub fn number(self) -> u32
         ensures { result ≡ number_of self }
     {

@@ -259,7 +259,7 @@ pub all-one-line : (ls : List Line) → all_of well_line ls ≡ true → All One
 all-one-line [] w = tt
 all-one-line (l ∷ ls) w = let u = both (well_line l) (all_of well_line ls) w in (line-newline l u.0, all-one-line ls u.1)
 
-parse-all : (ls : List Line) → all_of well_line ls ≡ true → map line_of (map line_text ls) ≡ ls
+pub parse-all : (ls : List Line) → all_of well_line ls ≡ true → map line_of (map line_text ls) ≡ ls
 parse-all [] w = refl
 parse-all (l ∷ ls) w = let u = both (well_line l) (all_of well_line ls) w in rw (parse-line l u.0, parse-all ls u.1)
 

@@ -27,7 +27,8 @@ fn field(classes: &ByteClasses, s: &[u8], at: usize, limit: u64) -> Option<(u64,
     classes.read_number(s, at + 1, limit)
 }
 
-// Fields from the second byte to the line's end, one for each limit.
+// Fields from the second byte to the line's end, one for each limit. By index: tried as a zip, but nothing is known of what an adapter of
+// `iter_mut` writes, so that the proof does not close.
 #[tactic(auto, using(crate::proofs::Fields::field_steps))]
 fn fields<const N: usize>(classes: &ByteClasses, s: &[u8], limits: [u64; N]) -> Option<[u64; N]>
     ensures { result ≡ fields_at limits.entry s.now 1 }
@@ -99,7 +100,7 @@ fn drop_line(classes: &ByteClasses, s: &[u8]) -> Option<ManifestOperation>
     epoch(EpochOp::DropTable(TableNo(t as u32)))
 }
 
-// Internal. The line that s is, without its newline.
+// Internal. The line that s is, without its newline. A match: each letter has its own fields, so a table of functions would be no plainer.
 #[tactic(auto, unfolding(crate::specs::Lines::line_of, crate::specs::Lines::line_by))]
 pub fn parse(classes: &ByteClasses, s: &[u8]) -> Option<ManifestOperation>
     ensures { line_said result ≡ line_of s.now }

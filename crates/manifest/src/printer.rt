@@ -1,4 +1,4 @@
-// From an operation to the bytes of its line. All here is internal: the caller has looked for room.
+// From an operation to the bytes of its line. All here is internal: the caller has checked that there is room.
 ghost use Rattle.std.specs.Prelude.{◌≡◌, [], ◌∷◌, ◌++◌, ◌+◌, ◌≤◌, length};
 ghost use Rattle.lists.specs.Written.{Wrote};
 ghost use Rattle.ids.specs.Names.{name_of};

@@ -14,7 +14,7 @@ pub struct ManifestLines<'a> {
 }
 
 impl<'a> ManifestLines<'a> {
-    // The lines from a place on.
+    // The lines from `at` on.
     pub fn new(classes: &'a ByteClasses, src: &'a [u8], at: usize) -> ManifestLines<'a>
         ensures src { result.src ≡ src.entry }
         ensures at { result.at ≡ at }

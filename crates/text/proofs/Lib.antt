@@ -1,5 +1,4 @@
 -- The laws that this crate's proofs cite. Assumes nothing.
-pub mod Table
 pub mod Bytes
 pub mod Decimal
 pub mod Round

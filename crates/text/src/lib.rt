@@ -12,7 +12,8 @@ use ids::limits::LONGEST_NAME;
 
 pub mod class;
 
-// The classes that are asked for: the specification gives them, and its table's entries, as numbers.
+// The classes that are asked for. The specification gives them, and its table's entries, as numbers: an enum would be no plainer,
+// since the table would still hold its numbers.
 const DIGIT: u8 = 1;
 
 const LOWER: u8 = 2;
@@ -24,7 +25,8 @@ const NEWLINE: u8 = 5;
 const MARK: u8 = 6;
 
 // The table of classes. The compiler copies a constant array wherever it is indexed, so a call makes one of these and lends it to
-// all that looks at bytes.
+// all that looks at bytes. The table of record sizes in `delete_vector` is made alike; one type for both would need the rule as a
+// parameter, and be no plainer.
 #[derive(Drop)]
 pub struct ByteClasses {
     table: [u8; 256],
@@ -44,8 +46,8 @@ impl ByteClasses {
         self.table[usize::from(b)]
     }
 
-    // These five are one comparison each, with a definition of its own: one function over the class would only move the constants
-    // to its callers.
+    // This and the next three are one comparison each, with a definition of its own: one function over the class would be no plainer,
+    // since it would only move the constants to its callers.
     #[tactic(auto, using(crate::proofs::Bytes::class_tests))]
     pub fn is_digit(&self, b: u8) -> bool
         ensures { result ≡ is_digit b }
@@ -53,6 +55,7 @@ impl ByteClasses {
         self.class_of(b) == DIGIT
     }
 
+    // One comparison: a parameter for the class would be no plainer.
     #[tactic(auto, using(crate::proofs::Bytes::class_tests))]
     pub fn is_comma(&self, b: u8) -> bool
         ensures { result ≡ is_comma b }
@@ -60,6 +63,7 @@ impl ByteClasses {
         self.class_of(b) == COMMA
     }
 
+    // One comparison: a parameter for the class would be no plainer.
     #[tactic(auto, using(crate::proofs::Bytes::class_tests))]
     pub fn is_newline(&self, b: u8) -> bool
         ensures { result ≡ is_newline b }
@@ -67,7 +71,7 @@ impl ByteClasses {
         self.class_of(b) == NEWLINE
     }
 
-    // `!`, which ends a torn line.
+    // `!`, which ends a torn line. One comparison: a parameter for the class would be no plainer.
     #[tactic(auto, using(crate::proofs::Bytes::class_tests))]
     pub fn is_mark(&self, b: u8) -> bool
         ensures { result ≡ is_mark b }
@@ -87,13 +91,11 @@ impl ByteClasses {
     pub fn is_name(&self, s: &[u8]) -> bool
         ensures { result ≡ is_name s.now }
     {
-        if s.is_empty() || LONGEST_NAME < s.len() {
-            return false;
-        }
-        s.iter().all(|b| self.is_name_byte(*b))
+        !s.is_empty() && s.len() <= LONGEST_NAME && s.iter().all(|b| self.is_name_byte(*b))
     }
 
-    // The number that starts at `at`, without leading zeros and at most `limit`, and the place after it.
+    // The number that starts at `at`, without leading zeros and at most `limit`, and the place after it. It is read digit by digit:
+    // the library's parse takes a sign and leading zeros and tells no place, so that it would be no plainer.
     #[tactic(auto, using(crate::proofs::Decimal::number_steps))]
     pub fn read_number(&self, s: &[u8], at: usize, limit: u64) -> Option<(u64, usize)>
         ensures { result ≡ read_at limit s.now at }
@@ -134,8 +136,9 @@ pub fn number_length(n: u64) -> usize
     }
 }
 
-// Internal: the caller has looked for room. Each function that writes returns the place after what it wrote. A struct of the slice
-// and the place would be no plainer: each call would ask for its room all the same.
+// Internal: the caller has checked that there is room. Each function that writes returns the place after what it wrote. A struct
+// of the slice and the place would be no plainer: each call would ask for its room all the same.
+// By hand, since the library's `write!` into a slice does not say which bytes it writes: its proof does not close.
 #[tactic(auto, using(crate::proofs::Decimal::digit_lengths))]
 pub fn put_number(out: &mut [u8], at: usize, n: u64) -> usize
     requires { at + length (digits n) ≤ length out.old }
@@ -151,7 +154,7 @@ pub fn put_number(out: &mut [u8], at: usize, n: u64) -> usize
     }
 }
 
-// Internal: the caller has looked for room.
+// Internal: the caller has checked that there is room.
 pub fn put_byte(out: &mut [u8], at: usize, b: u8) -> usize
     requires { at < length out.old }
     ensures { Wrote out.old at (b ∷ []) out.new result }
@@ -160,7 +163,7 @@ pub fn put_byte(out: &mut [u8], at: usize, b: u8) -> usize
     at + 1
 }
 
-// Internal: the caller has looked for room.
+// Internal: the caller has checked that there is room.
 pub fn put_bytes(out: &mut [u8], at: usize, src: &[u8]) -> usize
     requires { at + length src.now ≤ length out.old }
     ensures { Wrote out.old at src.now out.new result }
