@@ -1,4 +1,5 @@
 -- What the loops over bytes need: a record written, compared and read byte by byte. Assumes nothing.
+use mathlib.Core.Bool.{and-true}
 use Rattle.std.proofs.Common.{◌≡◌, ℕ, ◌+◌, ◌-◌, ◌*◌, ◌/◌, ◌%◌, ◌<◌, ◌≤◌, min, Bool, true, false, ◌&&◌, eqb, ltb, List, [], ◌∷◌, length, get_or, take, drop, set, sym, refl, ap, ◌++◌, reverse, ◌∙◌, add-one, arith, length-set, drop_of_length-le, drop-cons, ltb-false, ltb-true, eq-eqb, ne_eqb, eqb-true}
 use Rattle.std.proofs.lemmas.List.{reverse-append}
 use Rattle.std.proofs.lemmas.Slice.{between_to_end}
@@ -42,11 +43,7 @@ pub starts-big : (s : List ℕ) (i n : ℕ) → 128 ≤ n → i < length s
 starts-big s i n h l = rw (varint-big n h, drop-cons s i 0 l, add-one)
 
 pub starts-small : (s : List ℕ) (i n : ℕ) → n < 128 → i < length s → starts_with (varint n) (drop i s) ≡ eqb (get_or s i 0) n
-starts-small s i n h l = rw (varint-small n h, drop-cons s i 0 l) (and_true (eqb (get_or s i 0) n))
-  where
-    and_true : (b : Bool) → b && true ≡ b
-    and_true true = refl
-    and_true false = refl
+starts-small s i n h l = rw (varint-small n h, drop-cons s i 0 l) (and-true (eqb (get_or s i 0) n))
 
 -- the groups, the last one first: l is what was looked at
 pub value-more : (l : List ℕ) (x v : ℕ) → v ≡ min (value_of (reverse l)) row_limit → min (v * 128 + x % 128) row_limit ≡ min (value_of (reverse (l ++ (x ∷ [])))) row_limit

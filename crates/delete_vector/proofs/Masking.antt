@@ -1,7 +1,14 @@
 -- Laws of masks. Assumes nothing.
 use Rattle.std.proofs.Common.{◌≡◌, ℕ, zero, suc, ◌+◌, ◌<◌, ◌≤◌, Bool, true, false, cond, ◌&&◌, ◌||◌, eqb, List, [], ◌∷◌, length, get_or, drop, set, sym, refl, ap, ◌∙◌, ap₂, le_of_suc-le-suc, not-suc-le-zero, add-one, arith, drop_of_length-le, drop-cons, eq-eqb, ne_eqb}
+use Rattle.std.specs.Prelude.{ltb}
+use Rattle.std.specs.Ordering.{nat_cmp, is_lt}
+use Rattle.lists.proofs.Tests.{by_cases}
 use Rattle.delete_vector.specs.Memory.{is_in}
 use Rattle.delete_vector.specs.Mask.{masked}
+
+-- the order of row numbers, as a derived comparison has it
+pub is-below : (m n : ℕ) → is_lt (nat_cmp m n) ≡ ltb m n
+is-below m n = by_cases (ltb m n) (λ t. rw t) (λ t. by_cases (eqb m n) (λ u. rw (t, u)) (λ u. rw (t, u)))
 
 pub masked-none : (offset : ℕ) (bits : List ℕ) → masked (is_in []) offset bits ≡ bits
 masked-none offset [] = refl

@@ -1,11 +1,12 @@
 -- The size of a record. Assumes nothing.
-use Rattle.std.proofs.Common.{◌≡◌, ℕ, zero, suc, ◌+◌, ◌-◌, ◌*◌, ◌/◌, ◌^◌, ◌<◌, ◌≤◌, eqb, ltb, leb, [], ◌∷◌, length, get_or, ap, ◌∙◌, le_of_suc-le-suc, not-suc-le-zero, add-zero, add-suc, suc-add, zero-add, arith, pow_mono, pow-add, ltb-false, ltb-true, ne_eqb, eqb-true, leb-false, leb-true}
+use Rattle.std.proofs.Common.{◌≡◌, ℕ, zero, suc, ◌+◌, ◌-◌, ◌*◌, ◌/◌, ◌^◌, ◌<◌, ◌≤◌, eqb, ltb, leb, [], ◌∷◌, length, get_or, ap, ◌∙◌, arith, pow_mono, pow-add, ltb-false, ltb-true, ne_eqb, eqb-true, leb-false, leb-true}
 use lib.Count.{count_leading_zeros, leading_length}
 use borrow.Author.Tests.{eqb-false}
 use Rattle.lists.proofs.Tests.{by_cases}
+use Rattle.lists.proofs.Tabled.{rule}
 use Rattle.delete_vector.specs.Encoding.{varint, uint_field, delimited}
 use Rattle.delete_vector.specs.Records.{record_of, row_limit}
-use Rattle.delete_vector.specs.Sizes.{row_bits, Significant, size_of_bits, tabled, size_table}
+use Rattle.delete_vector.specs.Sizes.{row_bits, Significant, size_of_bits, size_table}
 use Rattle.delete_vector.proofs.Encoding.{varint-small, varint-big}
 
 -- a varint has a byte for each seven bits begun
@@ -84,14 +85,6 @@ row-of-bits row b h s =
     omega arith
 
 -- a table's entry is what its rule says there
-from : (f : ℕ → ℕ) (i n k : ℕ) → k < n → get_or (tabled f i n) k 0 ≡ f (i + k)
-from f i zero k h = absurd (not-suc-le-zero h)
-from f i (suc n) zero h = rw add-zero
-from f i (suc n) (suc k) h = from f (suc i) n k (le_of_suc-le-suc h) ∙ rw (suc-add, add-suc)
-
-rule : (f : ℕ → ℕ) (n k : ℕ) → k < n → get_or (tabled f 0 n) k 0 ≡ f k
-rule f n k h = from f 0 n k h ∙ rw zero-add
-
 pub size-rule : (k : ℕ) → k ≤ row_bits → get_or size_table k 0 ≡ size_of_bits k
 unfolding size_table
 size-rule k h = rule size_of_bits (row_bits + 1) k (omega arith)

@@ -8,7 +8,7 @@ use Rattle.delete_vector.specs.Laws.{are_rows, BadFrom, Laws}
 use Rattle.delete_vector.proofs.Records.{reads-back, Holds, holds}
 use Rattle.delete_vector.proofs.InMemory.{memory-ascending, memory-same-set, memory-ext, memory-own}
 
-rows_all : (rows : List ℕ) → are_rows rows ≡ true → All (λ row. row < row_limit) rows
+pub rows_all : (rows : List ℕ) → are_rows rows ≡ true → All (λ row. row < row_limit) rows
 rows_all rows h = all_map rows (λ row. ltb-true row row_limit) (all_of-all (λ row. ltb row row_limit) rows h)
 
 all-rows : (rows : List ℕ) → All (λ row. row < row_limit) rows → are_rows rows ≡ true

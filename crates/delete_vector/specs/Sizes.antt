@@ -1,5 +1,6 @@
 -- A record's size by the count of significant bits of its row. Assumes nothing.
-use Rattle.std.specs.Prelude.{ℕ, zero, suc, ◌+◌, ◌*◌, ◌/◌, ◌^◌, ◌<◌, ◌≤◌, cond, List, [], ◌∷◌, ◌==◌}
+use Rattle.std.specs.Prelude.{ℕ, ◌+◌, ◌*◌, ◌/◌, ◌^◌, ◌<◌, ◌≤◌, cond, List, ◌==◌}
+use Rattle.lists.specs.Tabled.{tabled}
 
 -- the bits of a row number
 abbrev pub row_bits : ℕ
@@ -13,11 +14,6 @@ pub record Significant (n b : ℕ) : Type 0 where
 -- a length byte, and where there is a row, the tag byte and a byte for each seven bits begun
 abbrev pub size_of_bits : ℕ → ℕ
 size_of_bits b = cond (b == 0) 1 (2 + (b + 6) / 7)
-
--- what the rule says at n places, from i on
-abbrev pub tabled : (ℕ → ℕ) → ℕ → ℕ → List ℕ
-tabled f i zero = []
-tabled f i (suc n) = f i ∷ tabled f (suc i) n
 
 -- the table of sizes, for every count of bits that a row number can have
 unfoldable pub size_table : List ℕ

@@ -9,7 +9,7 @@ use super::record;
 use super::record::Sizes;
 use ids::RowNo;
 
-// Internal: the caller has looked at the count.
+// Internal: the caller has checked the count.
 pub fn file_size(rows: &[u32], sizes: &Sizes) -> usize
     requires { length rows.now ≤ most_records }
     ensures { (result ≡ length (records_of rows.now)) × (result ≤ 7 * length rows.now) }
@@ -21,7 +21,7 @@ pub fn file_size(rows: &[u32], sizes: &Sizes) -> usize
     size
 }
 
-// Internal: the caller has looked at the room.
+// Internal: the caller has checked that there is room.
 pub fn put_records(rows: &[u32], out: &mut [u8], at: usize, sizes: &Sizes) -> usize
     requires { at + length (records_of rows.now) ≤ length out.old }
     ensures { Wrote out.old at (records_of rows.now) out.new result }
@@ -39,6 +39,7 @@ pub fn scan(file: &[u8], sizes: &Sizes) -> Result<usize, usize>
 {
     let mut rest = file;
     let mut count = 0;
+    // A turn takes one to seven bytes; an iterator would also have to tell where a bad record stands, and be no plainer.
     while !rest.is_empty() {
         let Some(row) = record::first_row(rest, sizes) else {
             return Err(file.len() - rest.len());
@@ -49,7 +50,7 @@ pub fn scan(file: &[u8], sizes: &Sizes) -> Result<usize, usize>
     Ok(count)
 }
 
-// Internal: the caller has looked through the file, and lends a place for each record.
+// Internal: the caller has scanned the file, and lends a place for each record.
 pub fn put_rows(file: &[u8], rows: &mut [u32], sizes: &Sizes)
     requires { (is_bad (records_in file.now) ≡ false) × (length (rows_in (records_in file.now)) ≡ length rows.old) }
     ensures { rows.new ≡ rows_in (records_in file.now) }

@@ -7,7 +7,7 @@ ghost use Rattle.delete_vector.specs.Mask.{masked};
 use super::record::ROW_LIMIT;
 use ids::RowNo;
 
-// The row number that bit i has at the offset, as the Rust's cast cuts it.
+// The row number that bit i has at the offset, as RisingLight's cast cuts it.
 pub fn row_at(offset: RowNo, i: usize) -> RowNo
     ensures { result.0 ≡ (offset.0 + i) % row_limit }
 {
@@ -24,13 +24,13 @@ fn clear(bits: &mut [u8], offset: RowNo, row: RowNo)
         return;
     }
     let here = row_at(offset, i);
-    if here.0 < offset.0 {
+    if here < offset {
         return;
     }
     bits[i] = 0;
 }
 
-// Internal: one pass over the rows.
+// Internal: one pass over the rows. The three are as C lends them, and go no further together.
 pub fn clear_all(rows: &[u32], bits: &mut [u8], offset: RowNo)
     ensures { bits.new ≡ masked (is_in rows.now) offset.0 bits.old }
 {

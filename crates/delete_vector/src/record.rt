@@ -17,7 +17,8 @@ pub const ROW_LIMIT: u64 = 4294967296;
 const KEY: u8 = 8;
 
 // The size of a record by the count of significant bits of its row. An entry point makes it once and lends it: a constant that is
-// indexed is stored to the stack at each read.
+// indexed is stored to the stack at each read. `text::ByteClasses` has the same form round another rule, which as a parameter
+// would be no plainer.
 #[derive(Drop)]
 pub struct Sizes {
     table: [usize; ROW_BITS + 1],
@@ -48,14 +49,14 @@ fn significant_bits(row: RowNo) -> usize
     ROW_BITS - row.0.leading_zeros() as usize
 }
 
-// Internal: the caller has looked at the room.
+// Internal: the caller has checked that there is room.
 fn put_varint(n: u32, out: &mut [u8], at: usize) -> usize
     requires { at + length (varint n) ≤ length out.old }
     ensures { Wrote out.old at (varint n) out.new result }
 {
     let mut left = n;
     let mut i = at;
-    // The groups are counted by hand: a `for` over the room would have to be left at the last group.
+    // A `while`: how many groups there are shows only as the number runs out, so a `for` would be no plainer.
     while left >= 128 {
         out[i] = (128 + left % 128) as u8;
         left /= 128;
@@ -65,7 +66,7 @@ fn put_varint(n: u32, out: &mut [u8], at: usize) -> usize
     i + 1
 }
 
-// Internal: the caller has looked at the room.
+// Internal: the caller has checked that there is room.
 pub fn put_record(row: RowNo, out: &mut [u8], at: usize, sizes: &Sizes) -> usize
     requires { at + length (record_of row.0) ≤ length out.old }
     ensures { Wrote out.old at (record_of row.0) out.new result }
@@ -96,7 +97,8 @@ fn holds_varint(file: &[u8], n: u32) -> bool
     false
 }
 
-// Whether the file begins with what the writer makes of the row.
+// Whether the file begins with what the writer makes of the row. Byte by byte, since each says whether the next is read: one expression would be no
+// plainer.
 fn holds_record(file: &[u8], row: RowNo, sizes: &Sizes) -> bool
     ensures { result ≡ starts_with (record_of row.0) file.now }
 {
@@ -112,10 +114,7 @@ fn holds_record(file: &[u8], row: RowNo, sizes: &Sizes) -> bool
     let [key, groups @ ..] = field else {
         return false;
     };
-    if *key != KEY {
-        return false;
-    }
-    holds_varint(groups, row.0)
+    *key == KEY && holds_varint(groups, row.0)
 }
 
 // The number that the groups stand for, or ROW_LIMIT where that is smaller.

@@ -1,4 +1,5 @@
 -- How vectors are made of handles by rowset, one run of a rowset after another. Assumes nothing.
+use mathlib.Core.Bool.{or_self, or-false}
 use Rattle.std.proofs.Common.{◌≡◌, ℕ, suc, ◌+◌, ◌-◌, ◌<◌, ◌≤◌, Bool, true, false, ◌||◌, eqb, List, [], ◌∷◌, ◌++◌, map, length, take, drop, set, drop-drop, drop_of_length-le, length-drop, length-take-le, take-suc, take-suc-set, get_or, sym, refl, ap, subst, ◌∙◌, append-nil, append_assoc, add-one, arith, length-append, eq-eqb, ne_eqb, eqb-true}
 use Rattle.std.proofs.lemmas.List.{length-map, drop_at, take_at, get_or_at, get_or-map}
 use borrow.Rule.Slice.PartMut.{put_mid}
@@ -26,10 +27,6 @@ rows hs = map (λ (h : Handle). h.row) hs
 abbrev rowsets : List Handle → List ℕ
 rowsets hs = map (λ (h : Handle). h.rowset) hs
 
-twice : (b : Bool) → b || b ≡ b
-twice true = refl
-twice false = refl
-
 later : (a b c : Bool) → b ≡ a → b || c ≡ a || c
 later a b c e = ap (λ (x : Bool). x || c) e
 
@@ -41,15 +38,11 @@ from-all r (x ∷ l) h = let a = h.0 in (a, all_map l (λ y b. omega arith) (fro
 -- A run of handles of the rowset r, and those of larger rowsets.
 module _ (r : ℕ) (run t : List Handle) (some : 0 < length run) (here : All (λ (h : Handle). h.rowset ≡ r) run) (there : All (λ (h : Handle). r < h.rowset) t) where
   has-run : (k : List ℕ) (x : Handle) (l : List Handle) → All (λ (h : Handle). h.rowset ≡ r) (x ∷ l) → has row_key k (rowsets (x ∷ l)) ≡ is_at row_key k r
-  has-run k x [] h = ap (λ (y : ℕ). is_at row_key k y || false) h.0 ∙ no (is_at row_key k r)
-    where
-      no : (b : Bool) → b || false ≡ b
-      no true = refl
-      no false = refl
+  has-run k x [] h = ap (λ (y : ℕ). is_at row_key k y || false) h.0 ∙ or-false (is_at row_key k r)
   has-run k x (y ∷ l) h =
       ap (λ (b : Bool). is_at row_key k x.rowset || b) (has-run k y l h.1)
       ∙ ap (λ (z : ℕ). is_at row_key k z || is_at row_key k r) h.0
-      ∙ twice (is_at row_key k r)
+      ∙ or_self (is_at row_key k r)
 
   has-is : (k : List ℕ) (l : List Handle) → 0 < length l → All (λ (h : Handle). h.rowset ≡ r) l → has row_key k (rowsets l) ≡ is_at row_key k r
   has-is k [] s h = absurd (omega arith)

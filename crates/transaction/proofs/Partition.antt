@@ -1,6 +1,6 @@
 -- The laws of grouping hold. Assumes nothing.
 use mathlib.Core.Path.{◌≡◌, refl, sym, ap, ◌∙◌}
-use mathlib.Core.Bool.{Bool, true, false, ◌&&◌}
+use mathlib.Core.Bool.{Bool, true, false, ◌&&◌, and-true}
 use mathlib.Core.List.{List, [], ◌∷◌, map}
 use Prim.Native.Nat.{ℕ}
 use lib.Dec.{ltb, eqb}
@@ -21,10 +21,6 @@ rows-kept r [] e = refl
 rows-kept r (h ∷ hs) e =
     let d = both (ltb h.row row_limit) (are_rows (map (λ (k : Handle). k.row) hs)) e in
     by_cases (eqb h.rowset r) (λ t. rw t (join d.0 (rows-kept r hs d.1))) (λ t. rw t (rows-kept r hs d.1))
-
-and-true : (b : Bool) → b && true ≡ b
-and-true true = refl
-and-true false = refl
 
 rows-held : (r row : ℕ) (hs : List Handle) → is_in (rows_of r hs) row ≡ any_of (λ (h : Handle). eqb h.rowset r && eqb h.row row) hs
 rows-held r row [] = refl

@@ -1,6 +1,6 @@
 -- The rows by rowset are those of the handles, each once. Assumes nothing.
 use mathlib.Core.Path.{◌≡◌, refl, sym, ap, ◌∙◌}
-use mathlib.Core.Bool.{Bool, true, false, ◌&&◌, ◌||◌}
+use mathlib.Core.Bool.{Bool, true, false, ◌&&◌, ◌||◌, or-true}
 use mathlib.Core.List.{List, [], ◌∷◌, map}
 use Prim.Native.Nat.{ℕ, suc}
 use native.Mathlib.Omega.{arith}
@@ -14,10 +14,6 @@ use Rattle.lists.proofs.Keyed.{All, all_map, After, Ascending}
 use Rattle.delete_vector.specs.Memory.{row_key, is_in, in_memory}
 use Rattle.delete_vector.proofs.InMemory.{memory-ascends, memory-same-set}
 use Rattle.transaction.specs.Groups.{Handle, rows_of, rowsets_of, runs_of}
-
-or-true : (b : Bool) → b || true ≡ true
-or-true true = refl
-or-true false = refl
 
 -- The rows of different rowsets are different handles'.
 absent : (r : ℕ) (rs : List ℕ) (h : Handle) (hs : List Handle) → After row_key (row_key r) rs → h.rowset ≡ r → runs_of rs (h ∷ hs) ≡ runs_of rs hs

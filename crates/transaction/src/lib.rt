@@ -1,18 +1,19 @@
 // Grouping: the row handles of a transaction become one delete vector a rowset.
 #![tactic(auto)]
 
-ghost use Rattle.std.specs.Prelude.{◌≡◌, false, ◌≤◌, length, map};
+ghost use Rattle.std.specs.Prelude.{◌≡◌, false, length, map};
 ghost use Rattle.std.specs.List.{list_all};
 ghost use Rattle.ids.specs.Ids.{is_id32};
 ghost use Rattle.ids.specs.declared.SecondaryRowHandler.{SecondaryRowHandler};
 ghost use Rattle.transaction.specs.Groups.{handle_of, handles_of};
-ghost use Rattle.transaction.specs.Says.{most_handles, no_id, GroupIs};
+ghost use Rattle.transaction.specs.Says.{no_id, GroupIs};
 ghost use Rattle.transaction.specs.Laws.{GroupLaws};
 
 use delete_vector::record::Sizes;
 use ids::limits::LARGEST_64;
 use ids::refusal::Refusal;
 use ids::{RowNo, RowsetNo, SecondaryRowHandler};
+use order::FewHandles;
 use vectors::Vectors;
 
 mod order;
@@ -21,7 +22,7 @@ mod vectors;
 // The most handles of a transaction.
 pub const MOST_HANDLES: usize = 4096;
 
-// The handles of a transaction: the first `count`. The C interface hands them over so, by value.
+// The handles of a transaction: the first `count`, in an array since there is no heap. A count above the array is refused.
 #[derive(Drop)]
 pub struct Handles {
     pub items: [SecondaryRowHandler; MOST_HANDLES],
@@ -39,9 +40,10 @@ fn are_ids(handles: &[SecondaryRowHandler]) -> bool
     handles.iter().all(|handle| handle.rowset_id().is_id())
 }
 
-// Handles whose rowsets are ids, at most as many as a transaction may have. Answers how many vectors there are.
+// Handles whose rowsets are ids. Answers how many vectors there are. The five slices stay five in here too: tried as a struct, the
+// proof does not close that what `hand_out` leaves in it is what this leaves.
 fn grouped(
-    handles: &[SecondaryRowHandler],
+    given: &FewHandles,
     next: u64,
     rs: &mut [u32],
     ls: &mut [u32],
@@ -49,24 +51,23 @@ fn grouped(
     fs: &mut [u8],
     ms: &mut [u32],
 ) -> Result<usize, Refusal>
-    requires { (length handles.now ≤ most_handles) × (no_id (map handle_of handles.now) ≡ false) }
-    ensures { GroupIs (map handle_of handles.now) (length handles.now) next rs.old ls.old cs.old fs.old ms.old result rs.new ls.new cs.new fs.new ms.new }
+    requires { no_id (map handle_of given.now.handles.now) ≡ false }
+    ensures { GroupIs (map handle_of given.now.handles.now) (length given.now.handles.now) next rs.old ls.old cs.old fs.old ms.old result rs.new ls.new cs.new fs.new ms.new }
 {
+    let n = given.handles.len();
     let mut ordered = [SecondaryRowHandler(RowsetNo(0), RowNo(0)); MOST_HANDLES];
-    let ordered = &mut ordered[..handles.len()];
-    order::by_rowset(handles, ordered);
+    let ordered = &mut ordered[..n];
+    given.by_rowset(ordered);
     let sizes = Sizes::new();
     let mut rows = [0u32; MOST_HANDLES];
-    let rows = &mut rows[..handles.len()];
+    let rows = &mut rows[..n];
     vectors::put_rows(ordered, rows);
-    let vectors = Vectors::of(ordered, rows, &sizes);
+    let vectors = Vectors::of(&FewHandles { handles: ordered }, rows, &sizes);
     let count = vectors.count;
     if LARGEST_64 - next < count as u64 {
         return Err(Refusal::IdsUsedUp);
     }
-    if vectors.hand_out(rows, rs, ls, cs, fs, ms, &sizes) {
-        return Err(Refusal::OutputTooShort);
-    }
+    vectors.hand_out(rows, rs, ls, cs, fs, ms, &sizes)?;
     Ok(count)
 }
 
@@ -89,5 +90,5 @@ pub fn group(
     if MOST_HANDLES < handles.count {
         return Err(Refusal::WrongCount);
     }
-    grouped(items, next, rs, ls, cs, fs, ms)
+    grouped(&FewHandles { handles: items }, next, rs, ls, cs, fs, ms)
 }

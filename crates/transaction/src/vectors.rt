@@ -3,15 +3,18 @@ ghost use Rattle.std.specs.Prelude.{◌≡◌, ◌+◌, ◌≤◌, ◌<◌, leng
 ghost use Rattle.delete_vector.specs.Records.{records_of};
 ghost use Rattle.delete_vector.specs.Memory.{in_memory};
 ghost use Rattle.transaction.specs.Groups.{Handle, Vector, handle_of, vectors_of, files_in};
-ghost use Rattle.transaction.specs.Says.{most_handles, HandedOut};
+ghost use Rattle.transaction.specs.Says.{most_handles};
 ghost use Rattle.transaction.specs.Orders.{From};
 
 use super::MOST_HANDLES;
+use crate::order::FewHandles;
 use delete_vector::record::Sizes;
 use delete_vector::{file, memory};
+use ids::refusal::Refusal;
 use ids::{RowsetNo, SecondaryRowHandler};
 
 // Vectors one after another: of each its rowset, the bytes of its file and its count of rows in memory; then those rows of all.
+// In columns, since each is copied to a slice that C lends.
 #[derive(Drop)]
 pub struct Vectors {
     pub count: usize,
@@ -24,6 +27,7 @@ pub struct Vectors {
 }
 
 // Rows that rise already are only copied. `delete_vector::in_memory` would make two arrays for each vector.
+// The slices are lent one by one: a struct of them would be no plainer, as in `delete_vector`.
 fn ascend(rows: &[u32], out: &mut [u32], spare: &mut [u32]) -> usize
     requires { (length rows.now ≤ length out.old) × (length rows.now ≤ length spare.old) }
     ensures { (take result out.new ≡ in_memory rows.now) × (result ≤ length rows.now) }
@@ -35,7 +39,8 @@ fn ascend(rows: &[u32], out: &mut [u32], spare: &mut [u32]) -> usize
     memory::ascend(rows, out, spare)
 }
 
-// The rows of handles.
+// The rows of handles. By index: tried as a zip, but nothing is known of what an adapter of `iter_mut` writes, so that the proof does not
+// close.
 pub fn put_rows(handles: &[SecondaryRowHandler], out: &mut [u32])
     requires { length out.old ≡ length handles.now }
     ensures { out.new ≡ map (λ (h : Handle). h.row) (map handle_of handles.now) }
@@ -46,8 +51,9 @@ pub fn put_rows(handles: &[SecondaryRowHandler], out: &mut [u32])
 }
 
 impl Vectors {
-    ghost use Rattle.transaction.specs.Made.{Holds};
+    ghost use Rattle.transaction.specs.Made.{Holds, Handed};
 
+    // By hand, since a type that holds a fact derives no `Default`.
     fn new() -> Vectors
         ensures { (result.kept ≡ 0) × Holds [] result }
     {
@@ -76,14 +82,17 @@ impl Vectors {
     }
 
     // The vectors of handles that are in the order of their rowsets, and have these rows.
-    pub fn of(handles: &[SecondaryRowHandler], rows: &[u32], sizes: &Sizes) -> Vectors
-        requires { From 0 (map handle_of handles.now) × (length handles.now ≤ most_handles) × (rows.now ≡ map (λ (h : Handle). h.row) (map handle_of handles.now)) }
-        ensures { Holds (vectors_of (map handle_of handles.now)) result × (records_of rows.now ≡ files_in (vectors_of (map handle_of handles.now))) }
+    pub fn of(ordered: &FewHandles, rows: &[u32], sizes: &Sizes) -> Vectors
+        requires { From 0 (map handle_of ordered.now.handles.now) × (rows.now ≡ map (λ (h : Handle). h.row) (map handle_of ordered.now.handles.now)) }
+        ensures { Holds (vectors_of (map handle_of ordered.now.handles.now)) result × (records_of rows.now ≡ files_in (vectors_of (map handle_of ordered.now.handles.now))) }
     {
         let mut vectors = Vectors::new();
         let mut spare = [0u32; MOST_HANDLES];
         let mut at = 0;
-        for run in handles.chunk_by(|a, b| a.rowset_id().0 == b.rowset_id().0) {
+        for run in ordered
+            .handles
+            .chunk_by(|a, b| a.rowset_id() == b.rowset_id())
+        {
             let end = at + run.len();
             vectors.add(run[0].rowset_id(), &rows[at..end], &mut spare, sizes);
             at = end;
@@ -91,7 +100,7 @@ impl Vectors {
         vectors
     }
 
-    // The vectors go to the lent slices where every one has room; rows are those of all. Answers whether one was too short.
+    // The vectors go to the lent slices, as C lends them, where every one has room; rows are those of all.
     pub fn hand_out(
         &self,
         rows: &[u32],
@@ -101,9 +110,9 @@ impl Vectors {
         fs: &mut [u8],
         ms: &mut [u32],
         sizes: &Sizes,
-    ) -> bool
+    ) -> Result<(), Refusal>
         requires { length rows.now ≤ most_handles }
-        ensures { (vs : List Vector) → Holds vs self.now → records_of rows.now ≡ files_in vs → HandedOut vs result rs.old ls.old cs.old fs.old ms.old rs.new ls.new cs.new fs.new ms.new }
+        ensures { (vs : List Vector) → Holds vs self.now → records_of rows.now ≡ files_in vs → Handed vs result rs.old ls.old cs.old fs.old ms.old rs.new ls.new cs.new fs.new ms.new }
     {
         let n = self.count;
         let bytes = file::file_size(rows, sizes);
@@ -113,13 +122,13 @@ impl Vectors {
             || fs.len() < bytes
             || ms.len() < self.kept
         {
-            return true;
+            return Err(Refusal::OutputTooShort);
         }
         rs[..n].copy_from_slice(&self.rowsets[..n]);
         ls[..n].copy_from_slice(&self.lengths[..n]);
         cs[..n].copy_from_slice(&self.counts[..n]);
         file::put_records(rows, fs, 0, sizes);
         ms[..self.kept].copy_from_slice(&self.held[..self.kept]);
-        false
+        Ok(())
     }
 }

@@ -24,8 +24,7 @@ returns-then-handles-gt-MOST_HANDLES c =
 
 pub grouped-requires : goal.grouped-requires
 grouped-requires c =
-    let h = c.args.handles.now in
-    (omega (arith, c.min.ensures, length-take c.min.result h.items), ids-told (take c.min.result h.items) ∙ ap not (sym c.are_ids.ensures ∙ c.if-not-are_ids.false))
+    ids-told (take c.min.result c.args.handles.now.items) ∙ ap not (sym c.are_ids.ensures ∙ c.if-not-are_ids.false)
 
 pub returns : goal.returns
 returns c =

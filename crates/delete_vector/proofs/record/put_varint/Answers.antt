@@ -6,20 +6,8 @@ use Rattle.delete_vector.proofs.record.put_varint.Goals as goal
 pub loop-left-init : goal.loop-left-init
 loop-left-init c = (refl, refl, refl)
 
-pub overflow_add-out : goal.overflow_add-out
-overflow_add-out c = omega arith
-
-pub overflow_cast-out : goal.overflow_cast-out
-overflow_cast-out c = omega arith
-
 pub bounds-out-i : goal.bounds-out-i
 bounds-out-i c = omega (arith, big-length c.loop-left.left c.loop-left-test.true)
-
-pub overflow_add-i : goal.overflow_add-i
-overflow_add-i c = omega (arith, big-length c.loop-left.left c.loop-left-test.true)
-
-pub loop-left-smaller : goal.loop-left-smaller
-loop-left-smaller c = omega arith
 
 pub loop-left-preserved : goal.loop-left-preserved
 loop-left-preserved c =
@@ -27,14 +15,8 @@ loop-left-preserved c =
     let v = c.loop-left.invariant in
     (varint-put _ _ _ c.loop-left-test.true (omega arith) ∙ v.0, omega arith, simp length-set v.2)
 
-pub overflow_cast-out-2 : goal.overflow_cast-out-2
-overflow_cast-out-2 c = omega arith
-
 pub bounds-out-i-2 : goal.bounds-out-i-2
 bounds-out-i-2 c = omega (arith, small-length c.loop-left.left c.loop-left-test.false)
-
-pub overflow_add-result : goal.overflow_add-result
-overflow_add-result c = omega (arith, small-length c.loop-left.left c.loop-left-test.false)
 
 pub shape_of-out : goal.shape_of-out
 shape_of-out c = simp length-set c.loop-left.invariant.2
