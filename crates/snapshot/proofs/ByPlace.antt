@@ -1,25 +1,25 @@
 -- Entries by place: what is held, what an epoch shows, and the run of a table. Assumes nothing.
 use mathlib.Core.Path.{◌≡◌, refl, sym, ap, ◌∙◌}
-use mathlib.Core.Bool.{Bool, true, false, cond, ◌&&◌, ◌||◌}
+use mathlib.Core.Bool.{Bool, true, false, ◌&&◌, ◌||◌, and-true}
 use mathlib.Core.List.{List, [], ◌∷◌}
-use Prim.Native.Nat.{ℕ, zero, suc, ◌+◌, ◌-◌, ◌≤◌, ◌<◌}
+use Prim.Native.Nat.{ℕ, ◌+◌, ◌≤◌, ◌<◌}
 use native.Mathlib.Omega.{arith}
 use native.Mathlib.Numerals.{add-one}
-use lib.Dec.{leb, ltb, eqb}
-use lib.ListN.{length, get_or, take, drop, set, drop_of_length-le}
-use borrow.Author.Tests.{ltb-true, ltb-false, lt-ltb, le-ltb, eq-eqb, ne_eqb, eqb-false}
-use Rattle.std.specs.Prelude.{Result, Ok, Err, nat_eq}
+use lib.Dec.{ltb, eqb}
+use lib.ListN.{length, get_or, take, drop, set}
+use borrow.Author.Tests.{ltb-true, ltb-false, lt-ltb, le-ltb, eq-eqb, ne_eqb}
+use Rattle.std.specs.Prelude.{Ok, Err, nat_eq}
 use Rattle.std.specs.List.{list_any}
 use Rattle.lists.specs.Order.{less, same}
-use Rattle.lists.specs.Keyed.{keep, all_of, any_of, is_at, has, put, changed, ascending, rank}
+use Rattle.lists.specs.Keyed.{keep, any_of, is_at, has, put, changed, ascending, rank}
 use Rattle.lists.proofs.Tests.{by_cases, clash, neither, both}
 use Rattle.lists.proofs.Order.{same_true, less-same, less-trans, lex-last}
-use Rattle.lists.proofs.Keyed.{any_of-map, All, all_map, After, Ascending, ascend-to, ascend-from, after-absent, ascending-put, ascending-changed}
-use lib.Seq.{take_all, drop-cons}
+use Rattle.lists.proofs.Keyed.{any_of-map, All, After, Ascending, ascend-to, ascend-from, after-absent, ascending-put, ascending-changed}
+use lib.Seq.{take_all}
 use Rattle.lists.proofs.Places.{has_here, drop-view, drop-end}
 use Rattle.columns.specs.Rows.{rows, column, across, plain, PutIn}
 use Rattle.columns.proofs.Rows.{rows-length, rows_at, rows_all, rows-map, rows-column, rows_seen, rows_end}
-use Rattle.snapshot.specs.Entries.{Entry, by_ids, nothing, added_at, deleted_at, shown_by, of_table, entry_at, entries}
+use Rattle.snapshot.specs.Entries.{Entry, by_ids, nothing, added_at, deleted_at, of_table, entry_at, entries}
 use Rattle.snapshot.specs.Found.{FoundAt, drop_below, leads}
 use Rattle.snapshot.proofs.Entries.{AllPutIn, rank-ids, ascending-ids, held-ids, put-entry, delete-entry, changed-ids}
 
@@ -122,17 +122,46 @@ module _ (ks : List (List ℕ)) (a d : List ℕ) (n : ℕ) where
   pub entry_there : (i : ℕ) → i < n → get_or (entries ks a d n) i nothing ≡ entry_at ks a d i
   entry_there i h = rows_at (entry_at ks a d) n i nothing h
 
-  module _ (k : List ℕ) (at : ℕ) (up : ascending by_ids (entries ks a d n) ≡ true) where
-    pub found : (at ≡ rank plain k (rows (across ks) n)) × (at ≤ n) → ltb at n && same (across ks at) k ≡ true → FoundAt k (entries ks a d n) n (Ok at)
-    found r t = (r.0 ∙ sym (rank-ids ks a d n k), ltb-true at n (both (ltb at n) (same (across ks at) k) t).0, held-ids ks a d n k at (rises-plain up) r.0 ∙ t)
+-- a list walked on from a place: what is below a key is passed, and what comes first is looked at
+module _ {A : Type 0} (key : A → List ℕ) (f : ℕ → A) (n i : ℕ) where
+  pub walk-stop : (k : List ℕ) → i < n → less (key (f i)) k ≡ false → drop i (rows f n) ≡ drop_below key k (drop i (rows f n))
+  walk-stop k h t = rw (rows_seen f n i h, t)
 
-    pub missed : (at ≡ rank plain k (rows (across ks) n)) × (at ≤ n) → ltb at n && same (across ks at) k ≡ false → FoundAt k (entries ks a d n) n (Err at)
-    missed r t = (r.0 ∙ sym (rank-ids ks a d n k), r.1, held-ids ks a d n k at (rises-plain up) r.0 ∙ t)
+  pub walk-on : (k : List ℕ) → i < n → less (key (f i)) k ≡ true → drop_below key k (drop (i + 1) (rows f n)) ≡ drop_below key k (drop i (rows f n))
+  walk-on k h t = rw (rows_seen f n i h, t)
+
+  pub walk-end : (k : List ℕ) → n ≤ i → drop n (rows f n) ≡ drop_below key k (drop i (rows f n))
+  walk-end k h = rw (rows_end f n i h, rows_end f n n (omega arith))
+
+  pub leads_at : (p : A → Bool) (k : List ℕ) → i < n → leads key p k (drop i (rows f n)) ≡ same (key (f i)) k && p (f i)
+  leads_at p k h = rw (rows_seen f n i h)
+
+  pub leads_none : (p : A → Bool) (k : List ℕ) → n ≤ i → leads key p k (drop i (rows f n)) ≡ false
+  leads_none p k h = rw (rows_end f n i h)
+
+-- what comes first from a place on, in columns
+pub leads-columns : (ks : List (List ℕ)) (a d : List ℕ) (n at : ℕ) (p : Entry → Bool) (k : List ℕ)
+    → leads by_ids p k (drop at (entries ks a d n)) ≡ (ltb at n && same (across ks at) k) && p (get_or (entries ks a d n) at nothing)
+leads-columns ks a d n at p k =
+    by_cases (ltb at n)
+    (λ t. let h = ltb-true at n t in rw (t, entry_there ks a d n at h) (leads_at by_ids (entry_at ks a d) n at p k h))
+    (λ t. rw t (leads_none by_ids (entry_at ks a d) n at p k (ltb-false at n t)))
+
+module _ (ks : List (List ℕ)) (a d : List ℕ) (n : ℕ) where
+  module _ (k : List ℕ) (at : ℕ) (up : ascending by_ids (entries ks a d n) ≡ true) where
+    stood : at ≡ rank by_ids k (entries ks a d n) → has by_ids k (entries ks a d n) ≡ leads by_ids (λ x. true) k (drop at (entries ks a d n))
+    stood r = held-ids ks a d n k at (rises-plain ks a d n up) (r ∙ rank-ids ks a d n k) ∙ sym (leads-columns ks a d n at (λ x. true) k ∙ and-true _)
+
+    pub found : at ≡ rank by_ids k (entries ks a d n) → at ≤ n → leads by_ids (λ x. true) k (drop at (entries ks a d n)) ≡ true → FoundAt k (entries ks a d n) n (Ok at)
+    found r w t = (r, ltb-true at n (both (ltb at n) (same (across ks at) k) (sym (leads-columns ks a d n at (λ x. true) k ∙ and-true _) ∙ t)).0, stood r ∙ t)
+
+    pub missed : at ≡ rank by_ids k (entries ks a d n) → at ≤ n → leads by_ids (λ x. true) k (drop at (entries ks a d n)) ≡ false → FoundAt k (entries ks a d n) n (Err at)
+    missed r w t = (r, w, stood r ∙ t)
 
     pub deleted-found : (e : ℕ) → n ≤ length d → FoundAt k (entries ks a d n) n (Ok at) → entries ks a (set d at e) n ≡ changed by_ids k (deleted_at e) (entries ks a d n)
     deleted-found e w f =
         let r = f.0 ∙ rank-ids ks a d n k in
-        delete-entry ks a d n at e f.1 w ∙ changed-ids ks a d n k at (rises-plain up) r (deleted_at e) (sym (held-ids ks a d n k at (rises-plain up) r) ∙ f.2)
+        delete-entry ks a d n at e f.1 w ∙ changed-ids ks a d n k at (rises-plain ks a d n up) r (deleted_at e) (sym (held-ids ks a d n k at (rises-plain ks a d n up) r) ∙ f.2)
 
   pub deleted-rises : (k : List ℕ) (e : ℕ) → ascending by_ids (entries ks a d n) ≡ true → ascending by_ids (changed by_ids k (deleted_at e) (entries ks a d n)) ≡ true
   deleted-rises k e up = ascend-from by_ids (changed by_ids k (deleted_at e) (entries ks a d n)) (ascending-changed by_ids k (deleted_at e) (λ x. refl) (entries ks a d n) (ascend-to by_ids (entries ks a d n) up))
@@ -184,39 +213,3 @@ pub vector-ids : (x y z a d : List ℕ) (n v : ℕ) → any_of (λ e. eqb (get_o
 vector-ids x y z a d n v =
     sym (any_of-map (λ (e : Entry). get_or (by_ids e) 2 0) (λ i. eqb i v) (entries (x ∷ y ∷ z ∷ []) a d n))
     ∙ ap (any_of (λ i. eqb i v)) (rows-map (entry_at (x ∷ y ∷ z ∷ []) a d) (λ (e : Entry). get_or (by_ids e) 2 0) n)
-
--- a list walked on from a place: what is below a key is passed, and what comes first is looked at
-module _ {A : Type 0} (key : A → List ℕ) (f : ℕ → A) (n i : ℕ) where
-  pub walk-stop : (k : List ℕ) → i < n → less (key (f i)) k ≡ false → drop i (rows f n) ≡ drop_below key k (drop i (rows f n))
-  walk-stop k h t = rw (rows_seen f n i h, t)
-
-  pub walk-on : (k : List ℕ) → i < n → less (key (f i)) k ≡ true → drop_below key k (drop (i + 1) (rows f n)) ≡ drop_below key k (drop i (rows f n))
-  walk-on k h t = rw (rows_seen f n i h, t)
-
-  pub walk-end : (k : List ℕ) → n ≤ i → drop n (rows f n) ≡ drop_below key k (drop i (rows f n))
-  walk-end k h = rw (rows_end f n i h, rows_end f n n (omega arith))
-
-  pub leads_at : (p : A → Bool) (k : List ℕ) → i < n → leads key p k (drop i (rows f n)) ≡ same (key (f i)) k && p (f i)
-  leads_at p k h = rw (rows_seen f n i h)
-
-  pub leads_none : (p : A → Bool) (k : List ℕ) → n ≤ i → leads key p k (drop i (rows f n)) ≡ false
-  leads_none p k h = rw (rows_end f n i h)
-
--- what comes first from a place on, in columns
-pub leads-columns : (ks : List (List ℕ)) (a d : List ℕ) (n at : ℕ) (p : Entry → Bool) (k : List ℕ)
-    → leads by_ids p k (drop at (entries ks a d n)) ≡ (ltb at n && same (across ks at) k) && p (get_or (entries ks a d n) at nothing)
-leads-columns ks a d n at p k =
-    by_cases (ltb at n)
-    (λ t. let h = ltb-true at n t in rw (t, entry_there ks a d n at h) (leads_at by_ids (entry_at ks a d) n at p k h))
-    (λ t. rw t (leads_none by_ids (entry_at ks a d) n at p k (ltb-false at n t)))
-
--- a test of each entry: of those from i on it is not known yet
-module _ {A : Type 0} (p : A → Bool) (l : List A) (i : ℕ) (w : all_of p l ≡ all_of p (drop i l)) where
-  pub each-stop : (d : A) → i < length l → p (get_or l i d) ≡ false → false ≡ all_of p l
-  each-stop d h t = sym (w ∙ rw (drop-cons l i d h, t))
-
-  pub each_more : (d : A) → i < length l → p (get_or l i d) ≡ true → all_of p l ≡ all_of p (drop (i + 1) l)
-  each_more d h t = w ∙ rw (drop-cons l i d h, t, add-one)
-
-  pub each-end : length l ≤ i → true ≡ all_of p l
-  each-end h = sym (w ∙ rw (drop_of_length-le l {i = i} h))

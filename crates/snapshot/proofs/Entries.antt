@@ -1,63 +1,34 @@
--- Entries in columns, whatever the number of key columns: their order, their limits, and what a change of each column does. Assumes nothing.
+-- Entries in columns, whatever the number of key columns: their order, and what a change of each column does. Assumes nothing.
 use mathlib.Core.Path.{◌≡◌, refl, sym, ap, ap₂, ◌∙◌}
-use mathlib.Core.Bool.{Bool, true, false, cond, ◌&&◌}
+use mathlib.Core.Bool.{Bool, true, false, ◌&&◌, not}
 use mathlib.Core.List.{List, [], ◌∷◌, map}
 use Prim.Native.Nat.{ℕ, zero, suc, ◌+◌, ◌≤◌, ◌<◌}
 use native.Mathlib.Omega.{arith}
 use native.Mathlib.Nat.{not-suc-le-zero, le_of_suc-le-suc}
 use native.Mathlib.Numerals.{add-one}
-use lib.Dec.{leb, ltb}
-use lib.ListN.{length, get_or, set, length-map, get_or-map}
+use lib.Dec.{ltb, leb, eqb}
+use lib.ListN.{length, get_or, set}
 use lib.Seq.{get_or-set_same, get_or-set_other}
-use borrow.Author.Tests.{ltb-true, ltb-false, lt-ltb}
+use borrow.Author.Tests.{ltb-true, ltb-false, lt-ltb, le-leb, ne_eqb}
 use Rattle.lists.specs.Order.{same}
-use Rattle.lists.specs.Keyed.{keep, all_of, has, put, changed, ascending, rank}
+use Rattle.lists.specs.Keyed.{all_of, has, put, changed, ascending, rank}
 use Rattle.lists.specs.Places.{insert_at, change_at}
 use Rattle.lists.proofs.Tests.{by_cases, both, past}
 use Rattle.lists.proofs.Keyed.{Ascending, ascend-to}
 use Rattle.lists.proofs.Places.{has_here, has_end, changed-at}
 use Rattle.lists.proofs.Views.{put_other}
-use Rattle.columns.specs.Rows.{rows, column, across, plain, marked, PutIn, Kept}
-use Rattle.snapshot.specs.Entries.{Entry, by_ids, deleted_at, below_next, within, entry_at, entries}
-use Rattle.columns.proofs.Rows.{insert-below, insert-here, insert-after, rows-length, rows_at, rows_are, rows-map, ascending-map, rank-map, rows-insert, rows-change, put-rows, kept-rows}
+use Rattle.columns.specs.Rows.{rows, column, across, plain, PutIn}
+use Rattle.snapshot.specs.Entries.{Entry, by_ids, deleted_at, entry_at, entries, added_at, gone_at, shown_at, shown_by}
+use Rattle.columns.proofs.Rows.{insert-below, insert-here, insert-after, rows-length, rows_at, rows-map, ascending-map, rank-map, rows-insert, rows-change, put-rows}
 
 -- a test of rows is the test of what is tested
 pub all_map : {A B : Type 0} (e : A → B) (p : B → Bool) (l : List A) → all_of (λ x. p (e x)) l ≡ all_of p (map e l)
 all_map e p [] = refl
 all_map e p (x ∷ l) = ap (λ (t : Bool). p (e x) && t) (all_map e p l)
 
--- two tests of each entry are two passes
-all-and : {A : Type 0} (p q : A → Bool) (l : List A) → all_of (λ x. p x && q x) l ≡ all_of p l && all_of q l
-all-and p q [] = refl
-all-and p q (x ∷ l) = rw (all-and p q l) (swap (p x) (q x) (all_of p l) (all_of q l))
-  where
-    swap : (a b c d : Bool) → (a && b) && (c && d) ≡ (a && c) && (b && d)
-    swap true true c d = refl
-    swap true false true d = refl
-    swap true false false d = refl
-    swap false b c d = refl
-
--- every id is below the next one of its kind, a column at a time
-abbrev pub below_all : List (List ℕ) → List ℕ → ℕ → Bool
-below_all [] ns n = true
-below_all (k ∷ ks) [] n = all_of (λ x. false) (rows (column k) n)
-below_all (k ∷ ks) (m ∷ ns) n = all_of (λ x. ltb x m) (rows (column k) n) && below_all ks ns n
-
 module _ {A : Type 0} (f : ℕ → A) (n : ℕ) where
   pub all-rows : {B : Type 0} (e : A → B) (p : B → Bool) → all_of (λ x. p (e x)) (rows f n) ≡ all_of p (rows (λ i. e (f i)) n)
   all-rows e p = all_map e p (rows f n) ∙ ap (all_of p) (rows-map f e n)
-
-all_true : {A : Type 0} (l : List A) → all_of (λ x. true) l ≡ true
-all_true [] = refl
-all_true (x ∷ l) = all_true l
-
-below-keys : (ks : List (List ℕ)) (ns : List ℕ) (n : ℕ) → all_of (λ x. below_next x ns) (rows (across ks) n) ≡ below_all ks ns n
-below-keys [] ns n = sym (all-rows (λ i. i) n (across []) (λ x. below_next x ns)) ∙ all_true (rows (λ i. i) n)
-below-keys (k ∷ ks) [] n = sym (all-rows (λ i. i) n (across (k ∷ ks)) (λ x. below_next x [])) ∙ all-rows (λ i. i) n (column k) (λ x. false)
-below-keys (k ∷ ks) (m ∷ ns) n =
-    sym (all-rows (λ i. i) n (λ i. across (k ∷ ks) i) (λ x. below_next x (m ∷ ns)))
-    ∙ all-and (λ i. ltb (column k i) m) (λ i. below_next (across ks i) ns) (rows (λ i. i) n)
-    ∙ ap₂ ◌&&◌ (all-rows (λ i. i) n (column k) (λ x. ltb x m)) (all-rows (λ i. i) n (across ks) (λ x. below_next x ns) ∙ below-keys ks ns n)
 
 module _ (ks : List (List ℕ)) (a d : List ℕ) (n : ℕ) where
   pub rank-ids : (k : List ℕ) → rank by_ids k (entries ks a d n) ≡ rank plain k (rows (across ks) n)
@@ -65,17 +36,6 @@ module _ (ks : List (List ℕ)) (a d : List ℕ) (n : ℕ) where
 
   pub ascending-ids : ascending by_ids (entries ks a d n) ≡ ascending plain (rows (across ks) n)
   ascending-ids = ascending-map by_ids (entries ks a d n) ∙ ap (ascending plain) (rows-map (entry_at ks a d) by_ids n)
-
-  -- the limits of each entry, a column at a time
-  pub within-columns : (e : ℕ) (ns : List ℕ) → all_of (within e ns) (entries ks a d n)
-      ≡ all_of (λ x. leb x e) (rows (column a) n) && (all_of (λ x. leb x e) (rows (column d) n) && below_all ks ns n)
-  within-columns e ns =
-      let l = entries ks a d n in
-      let f = entry_at ks a d in
-      all-and (λ x. leb x.added e) (λ x. leb x.deleted e && below_next x.ids ns) l
-      ∙ ap₂ ◌&&◌ (all-rows f n (λ x. x.added) (λ x. leb x e))
-      (all-and (λ x. leb x.deleted e) (λ x. below_next x.ids ns) l
-      ∙ ap₂ ◌&&◌ (all-rows f n (λ x. x.deleted) (λ x. leb x e)) (all-rows f n by_ids (λ x. below_next x ns) ∙ below-keys ks ns n))
 
   -- whether a key is held is told at its place
   module _ (k : List ℕ) (at : ℕ) (up : ascending plain (rows (across ks) n) ≡ true) (r : at ≡ rank plain k (rows (across ks) n)) where
@@ -126,14 +86,8 @@ module _ (ks : List (List ℕ)) (a d : List ℕ) (n : ℕ) where
   pub delete-entry : (at e : ℕ) → at < n → n ≤ length d → entries ks a (set d at e) n ≡ set (entries ks a d n) at (deleted_at e (entry_at ks a d at))
   delete-entry at e h w =
       rows-change (entry_at ks a d) (entry_at ks a (set d at e)) n at (deleted_at e (entry_at ks a d at)) h
-      (λ i ne. rw (get_or-set_other d at i e 0 ne))
+      (λ i q ne. rw (get_or-set_other d at i e 0 ne))
       (rw (get_or-set_same d at e 0 (omega arith)))
-
-  -- an entry of a key that is held, deleted at the key's place
-  pub delete-held : (k : List ℕ) (at e : ℕ) → n ≤ length d → ascending plain (rows (across ks) n) ≡ true → at ≡ rank plain k (rows (across ks) n) → ltb at n && same (across ks at) k ≡ true
-      → entries ks a (set d at e) n ≡ changed by_ids k (deleted_at e) (entries ks a d n)
-  delete-held k at e w up r t =
-      delete-entry at e (ltb-true at n (both (ltb at n) (same (across ks at) k) t).0) w ∙ changed-ids k at up r (deleted_at e) t
 
 -- Each key column with its number put in at a place: how an insertion stands in all columns at once.
 pub data AllPutIn (n at : ℕ) : List (List ℕ) → List ℕ → List (List ℕ) → Type 0 where
@@ -185,58 +139,15 @@ module _ (n at : ℕ) (h : at ≤ n) where
       → entries es b f (n + 1) ≡ put by_ids (record { ids = xs; added = x; deleted = y }) (entries ks a d n)
   put-entry {ks} {es} {xs} a b d f x y ps p q up r t = insert_entry a b d f x y ps p q ∙ put-ids ks a d n xs at up r x y t
 
--- What is marked.
-marked-map : {A B : Type 0} (f : A → B) (m : List Bool) (l : List A) → marked m (map f l) ≡ map f (marked m l)
-marked-map f [] l = refl
-marked-map f (b ∷ m) [] = refl
-marked-map {A} {B} f (true ∷ m) (x ∷ l) = ap (λ (t : List B). f x ∷ t) (marked-map f m l)
-marked-map f (false ∷ m) (x ∷ l) = marked-map f m l
+-- an epoch shows what it adds, and not what it deletes
+pub shows-new : (e : ℕ) (k : List ℕ) → shown_by e (added_at e k) ≡ true
+unfolding shown_at gone_at
+shows-new e k = rw (le-leb e e (omega arith))
 
-marked-keep : {A : Type 0} (p : A → Bool) (l : List A) → marked (map p l) l ≡ keep p l
-marked-keep p [] = refl
-marked-keep {A} p (x ∷ l) = ap (λ (t : List A). cond (p x) (x ∷ t) t) (marked-keep p l)
-
--- rows marked by a test
-pub marked-test : {A : Type 0} (g : ℕ → A) (p : A → Bool) (m : List Bool) (n : ℕ) → m ≡ rows (λ i. p (g i)) n → marked m (rows g n) ≡ keep p (rows g n)
-marked-test g p m n t = rw (t, ← rows-map g p n) (marked-keep p (rows g n))
-
-pub data AllKept (m : List Bool) (n r : ℕ) : List (List ℕ) → List (List ℕ) → Type 0 where
-  none : AllKept m n r [] []
-  more : {c e : List ℕ} {cs es : List (List ℕ)} → Kept m n c r e → AllKept m n r cs es → AllKept m n r (c ∷ cs) (e ∷ es)
-
-module _ (m : List Bool) (n r : ℕ) where
-  -- the places of what is marked
-  places : List ℕ
-  places = marked m (rows (λ i. i) n)
-
-  placed-rows : {A : Type 0} (f : ℕ → A) → marked m (rows f n) ≡ map f places
-  unfolding places
-  placed-rows f = ap (marked m) (sym (rows-map (λ i. i) f n)) ∙ marked-map f m (rows (λ i. i) n)
-
-  kept-count : (q : ℕ) (c e : List ℕ) → Kept m n c q e → length places ≡ q
-  kept-count q c e k = sym (length-map places (column c)) ∙ sym (ap length (kept-rows m n q c e k ∙ placed-rows (column c))) ∙ rows-length (column e) q
-
-  module _ (c e : List ℕ) (k : Kept m n c r e) where
-    kept_at : (j : ℕ) → j < r → column e j ≡ column c (get_or places j 0)
-    kept_at j h = sym (rows_at (column e) r j (column c 0) h) ∙ ap (λ (l : List ℕ). get_or l j (column c 0)) (kept-rows m n r c e k ∙ placed-rows (column c)) ∙ get_or-map (column c) places j 0
-
-  -- two columns keep as many
-  pub kept-like : (c e d f : List ℕ) (q : ℕ) → Kept m n c q e → Kept m n d r f → Kept m n c r e
-  kept-like c e d f q k l = rw (sym (kept-count q c e k) ∙ kept-count r d f l) at k
-
-  all-kept : {ks es : List (List ℕ)} → AllKept m n r ks es → (j : ℕ) → j < r → across es j ≡ across ks (get_or places j 0)
-  all-kept none j h = refl
-  all-kept (more k ps) j h = ap₂ ◌∷◌ (kept_at _ _ k j h) (all-kept ps j h)
-
-  -- the marked entries are kept, in all columns
-  pub kept-entries : {ks es : List (List ℕ)} (a b d f : List ℕ) → AllKept m n r ks es → Kept m n a r b → Kept m n d r f → entries es b f r ≡ marked m (entries ks a d n)
-  kept-entries {ks} {es} a b d f ps ka kd =
-      let g = entry_at ks a d in
-      rows_are (entry_at es b f) r (map g places) (g 0) (length-map places g ∙ kept-count r a b ka) (λ j h.
-      get_or-map g places j 0 ∙ sym (rw (all-kept ps j h, kept_at a b ka j h, kept_at d f kd j h)))
-      ∙ sym (placed-rows g)
-
-  -- the entries that pass a test are kept, in all columns
-  pub keep-entries : {ks es : List (List ℕ)} (a b d f : List ℕ) (p : Entry → Bool) → AllKept m n r ks es → Kept m n a r b → Kept m n d r f
-      → m ≡ rows (λ i. p (entry_at ks a d i)) n → entries es b f r ≡ keep p (entries ks a d n)
-  keep-entries {ks} a b d f p ps ka kd t = kept-entries a b d f ps ka kd ∙ marked-test (entry_at ks a d) p m n t
+pub hides-deleted : (e : ℕ) (x : Entry) → 1 ≤ e → shown_by e (deleted_at e x) ≡ false
+unfolding shown_at gone_at
+hides-deleted e x h = go (leb x.added e)
+  where
+    go : (b : Bool) → b && not (not (eqb e 0) && leb e e) ≡ false
+    go true = rw (ne_eqb e 0 (omega arith), le-leb e e (omega arith))
+    go false = refl

@@ -14,6 +14,10 @@ abbrev pub NextShown : (Entry → Bool) → List Entry → ℕ → ℕ → Optio
 NextShown p l from end None = keep p (drop from (take end l)) ≡ []
 NextShown p l from end (Some i) = (i < end) × (keep p (drop from (take end l)) ≡ get_or l i nothing ∷ keep p (drop (i + 1) (take end l)))
 
+-- what is answered of a row is what a test of its entry says
+abbrev pub Tests : {R E : Type 0} → (R → Bool → Type 0) → (R → E) → (E → Bool) → Type 0
+Tests {R} answers entry p = (x : R) (b : Bool) → answers x b → b ≡ p (entry x)
+
 module _ {A : Type 0} (key : A → List ℕ) where
   -- without the first ones that are below the key k
   abbrev pub drop_below : List ℕ → List A → List A

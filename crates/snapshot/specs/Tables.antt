@@ -1,5 +1,5 @@
 -- The live tables. Assumes nothing.
-use Rattle.std.specs.Prelude.{◌≡◌, Bool, false, cond, ◌&&◌, List, [], ◌∷◌, ℕ, ◌*◌, ◌<◌, leb, length, drop}
+use Rattle.std.specs.Prelude.{Bool, false, cond, ◌&&◌, List, [], ◌∷◌, ℕ, ◌*◌, leb, drop}
 use Rattle.lists.specs.Order.{same}
 use Rattle.lists.specs.Keyed.{any_of, is_at}
 use Rattle.ids.specs.Limits.{most_tables}
@@ -56,16 +56,3 @@ table_rows ids shapes lengths names locked n = rows (table_at ids shapes lengths
 -- the bytes of all names
 abbrev pub name_bytes : ℕ
 name_bytes = most_tables * longest_name
-
--- each column has the length of its array
-pub record Whole (i s l n : List ℕ) (k : List Bool) : Type 0 where
-  pub ids : length i ≡ most_tables
-  pub shapes : length s ≡ most_tables
-  pub lengths : length l ≡ most_tables
-  pub names : length n ≡ name_bytes
-  pub locked : length k ≡ most_tables
-
--- of the rows f, the one at `to` became the one at `from`, which made them g
-pub record RowMoved {A : Type 0} (f : ℕ → A) (to from : ℕ) (g : ℕ → A) : Type 0 where
-  pub here : g to ≡ f from
-  pub others : (i : ℕ) → i < most_tables → (i ≡ to → ⊥) → g i ≡ f i

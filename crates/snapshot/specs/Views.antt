@@ -1,8 +1,7 @@
 -- The lists that columns with a count stand for, and what is read of one place. Assumes nothing.
-use Rattle.std.specs.Prelude.{List, [], ◌∷◌, ℕ, drop}
+use Rattle.std.specs.Prelude.{List, [], ◌∷◌}
 use Rattle.ids.specs.Names.{name_of}
-use Rattle.lists.specs.Keyed.{keep}
-use Rattle.snapshot.specs.Entries.{Entry, entries, shown_by}
+use Rattle.snapshot.specs.Entries.{Entry, entries}
 use Rattle.snapshot.specs.Tables.{TableEntry, table_rows}
 use Rattle.snapshot.specs.declared.rowsets.Rowsets.{Rowsets}
 use Rattle.snapshot.specs.declared.rowsets.HeldRowset.{HeldRowset}

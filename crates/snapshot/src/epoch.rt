@@ -1,4 +1,4 @@
-// What an epoch shows, one after another.
+// What an epoch shows, and what is gone by it, one after another. To do: one over a trait, as at `Rowsets`.
 ghost use Rattle.std.specs.Prelude.{◌≤◌};
 ghost use Rattle.ids.specs.Limits.{most_held};
 
@@ -24,5 +24,14 @@ pub struct ShownVectors<'a> {
     pub(crate) next: usize,
     pub(crate) end: usize,
     ghost inside: { end ≤ held.now.count },
+    ghost fits: { held.now.count ≤ most_held },
+}
+
+// What is gone by an epoch of rowsets, in order.
+#[derive(Drop)]
+pub struct GoneRowsets<'a> {
+    pub(crate) held: &'a Rowsets,
+    pub(crate) epoch: u32,
+    pub(crate) next: usize,
     ghost fits: { held.now.count ≤ most_held },
 }

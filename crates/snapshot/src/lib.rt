@@ -5,27 +5,21 @@ ghost use Rattle.std.specs.Prelude.{◌≡◌};
 ghost use Rattle.snapshot.specs.Entries.{gone_at, shown_at};
 
 pub mod epoch;
-pub mod held;
 pub mod rowsets;
 pub mod tables;
 pub mod vectors;
+pub mod waiting;
 
 // Deleted at or before the epoch; `deleted` is 0 while it is not.
-pub fn gone(deleted: u32, epoch: u32) -> bool
+pub(crate) fn gone(deleted: u32, epoch: u32) -> bool
     ensures { result ≡ gone_at epoch deleted }
 {
-    if deleted == 0 {
-        return false;
-    }
-    deleted <= epoch
+    deleted != 0 && deleted <= epoch
 }
 
 // Added at or before the epoch, and not deleted by then.
-pub fn shown(added: u32, deleted: u32, epoch: u32) -> bool
+pub(crate) fn shown(added: u32, deleted: u32, epoch: u32) -> bool
     ensures { result ≡ shown_at epoch added deleted }
 {
-    if epoch < added {
-        return false;
-    }
-    !gone(deleted, epoch)
+    added <= epoch && !gone(deleted, epoch)
 }

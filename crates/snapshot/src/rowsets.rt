@@ -1,21 +1,23 @@
 // The rowsets that are held, in columns.
-ghost use Rattle.std.specs.Prelude.{◌≡◌, true, cond, not, [], ◌∷◌, ◌+◌, ◌≤◌, ◌<◌, Err, get_or, drop};
+ghost use Rattle.std.specs.Prelude.{◌≡◌, true, cond, not, [], ◌∷◌, ◌+◌, ◌≤◌, ◌<◌, Err, get_or, set, drop};
 ghost use Rattle.std.specs.Iterator.{YieldsFirstBy, item_count};
 ghost use Rattle.ids.specs.Ids.{is_id32};
 ghost use Rattle.ids.specs.Limits.{most_held};
-ghost use Rattle.lists.specs.Keyed.{keep, all_of, has, put, changed, ascending};
-ghost use Rattle.columns.specs.Rows.{rows, marks, marked};
+ghost use Rattle.lists.specs.Keyed.{keep, all_of, has, put, changed, ascending, rank};
+ghost use Rattle.columns.specs.Rows.{column};
 ghost use Rattle.snapshot.specs.Entries.{by_ids, nothing, added_at, deleted_at, shown_by, gone_by, of_table, within};
-ghost use Rattle.snapshot.specs.Found.{FoundAt, NextShown, drop_below, leads};
+ghost use Rattle.snapshot.specs.Found.{FoundAt, NextShown, Tests, drop_below, leads};
 ghost use Rattle.snapshot.specs.Views.{rowsets_of, rowset_of};
 ghost use Rattle.snapshot.specs.Shown.{shown_rowsets};
 
 use crate::epoch::ShownRowsets;
-use crate::{held, shown};
+use crate::{gone, shown};
 use ids::limits::MOST_HELD;
 use ids::{RowsetNo, TableNo};
 
 // Held rowsets: the first `count` places of each column, ascending by table and rowset. `deleted` is 0 while shown.
+// The C interface passes this struct by value, so the columns and the count stay as they lie, and each call asks that the count fits.
+// A trait over rowsets and vectors would leave these methods and their contracts with each type, and be longer than what it spares.
 #[repr(C)]
 #[derive(Clone, Copy)]
 pub struct Rowsets {
@@ -37,17 +39,18 @@ pub struct HeldRowset {
 
 impl HeldRowset {
     // Its epochs are at most the epoch, and its ids below the next ones.
+    // The ids of the columns that the C interface lays side by side, one by one.
     fn within(self, epoch: u32, table: TableNo, rowset: RowsetNo) -> bool
         ensures { result ≡ within epoch (table.0 ∷ rowset.0 ∷ []) (rowset_of self) }
     {
-        self.added <= epoch
-            && self.deleted <= epoch
-            && self.table.0 < table.0
-            && self.rowset.0 < rowset.0
+        self.added <= epoch && self.deleted <= epoch && self.table < table && self.rowset < rowset
     }
 }
 
+// To do: one trait over rowsets and vectors, which are alike but for a column, with their ids as one parameter. That the count fits and the ids
+// rise each method asks for, as the structs of the C interface cannot say it.
 impl Rowsets {
+    // Not Default, which promises columns of zeros: `none` promises that nothing is held, and Default would be no plainer.
     pub fn none() -> Rowsets
         ensures { (result.count ≡ 0) × (rowsets_of result ≡ []) }
     {
@@ -60,7 +63,7 @@ impl Rowsets {
         }
     }
 
-    // Internal, as are all that follow: the one at a place.
+    // Internal, as are all that follow: the one at place `i`.
     pub fn get(&self, i: usize) -> HeldRowset
         requires fits { self.now.count ≤ most_held }
         requires inside { i < self.now.count }
@@ -74,12 +77,20 @@ impl Rowsets {
         }
     }
 
+    // The ids at place `i`.
+    fn ids(&self, i: usize) -> (u32, u32)
+        requires { i < most_held }
+        ensures { result ≡ (column self.now.tables i, column self.now.rowsets i) }
+    {
+        (self.tables[i], self.rowsets[i])
+    }
+
     // The ids rise strictly.
     pub fn is_ascending(&self) -> bool
         requires fits { self.now.count ≤ most_held }
         ensures { result ≡ ascending by_ids (rowsets_of self.now) }
     {
-        columns::ordered(&self.tables, &self.rowsets, self.count)
+        (1..self.count).all(|i| self.ids(i - 1) < self.ids(i))
     }
 
     // Each one's epochs are at most the epoch, and its ids below the next ones.
@@ -87,32 +98,39 @@ impl Rowsets {
         requires fits { self.now.count ≤ most_held }
         ensures { result ≡ all_of (within epoch (table.0 ∷ rowset.0 ∷ [])) (rowsets_of self.now) }
     {
-        for i in 0..self.count {
-            if !self.get(i).within(epoch, table, rowset) {
-                return false;
-            }
-        }
-        true
+        (0..self.count).all(|i| self.get(i).within(epoch, table, rowset))
     }
 
-    // Where it stands, or else would be put in.
+    // The place of the first one that is not before these ids.
+    fn place(&self, table: TableNo, rowset: RowsetNo) -> usize
+        requires fits { self.now.count ≤ most_held }
+        requires rises { ascending by_ids (rowsets_of self.now) ≡ true }
+        ensures told { result ≡ rank by_ids (table.0 ∷ rowset.0 ∷ []) (rowsets_of self.now) }
+        ensures inside { result ≤ self.now.count }
+    {
+        columns::place(self.count, |i| self.ids(i) < (table.0, rowset.0))
+    }
+
+    // Whether it is at place `at`.
+    fn stands_at(&self, at: usize, table: TableNo, rowset: RowsetNo) -> bool
+        requires fits { self.now.count ≤ most_held }
+        ensures { result ≡ leads by_ids (λ x. true) (table.0 ∷ rowset.0 ∷ []) (drop at (rowsets_of self.now)) }
+    {
+        at < self.count && self.ids(at) == (table.0, rowset.0)
+    }
+
+    // Where it is, or else would go.
     pub fn find(&self, table: TableNo, rowset: RowsetNo) -> Result<usize, usize>
         requires fits { self.now.count ≤ most_held }
         requires rises { ascending by_ids (rowsets_of self.now) ≡ true }
         ensures { FoundAt (table.0 ∷ rowset.0 ∷ []) (rowsets_of self.now) self.now.count result }
     {
-        let at = columns::place(&self.tables, &self.rowsets, self.count, table.0, rowset.0);
-        if columns::stands(
-            &self.tables,
-            &self.rowsets,
-            self.count,
-            at,
-            table.0,
-            rowset.0,
-        ) {
-            return Ok(at);
+        let at = self.place(table, rowset);
+        if self.stands_at(at, table, rowset) {
+            Ok(at)
+        } else {
+            Err(at)
         }
-        Err(at)
     }
 
     // Held, shown or waiting.
@@ -124,7 +142,7 @@ impl Rowsets {
         self.find(table, rowset).is_ok()
     }
 
-    // Whether the epoch shows the one at a place.
+    // Whether the epoch shows the one at place `i`.
     pub fn shown_at(&self, i: usize, epoch: u32) -> bool
         requires fits { self.now.count ≤ most_held }
         requires inside { i < self.now.count }
@@ -145,46 +163,31 @@ impl Rowsets {
         }
     }
 
-    // The first place from one on whose ids are not before these.
+    // The first place, from `from` on, whose ids are not before these.
     pub fn from_on(&self, from: usize, table: TableNo, rowset: RowsetNo) -> usize
         requires fits { self.now.count ≤ most_held }
         ensures { drop result (rowsets_of self.now) ≡ drop_below by_ids (table.0 ∷ rowset.0 ∷ []) (drop from (rowsets_of self.now)) }
     {
-        for i in from..self.count {
-            if !columns::before(self.tables[i], self.rowsets[i], table.0, rowset.0) {
-                return i;
-            }
-        }
-        self.count
+        (from..self.count)
+            .find(|i| self.ids(*i) >= (table.0, rowset.0))
+            .unwrap_or(self.count)
     }
 
-    // Whether it stands at a place, and the epoch shows it.
+    // Whether it is at place `at`, and the epoch shows it.
     pub fn shows_at(&self, at: usize, table: TableNo, rowset: RowsetNo, epoch: u32) -> bool
         requires fits { self.now.count ≤ most_held }
         ensures { result ≡ leads by_ids (shown_by epoch) (table.0 ∷ rowset.0 ∷ []) (drop at (rowsets_of self.now)) }
     {
-        columns::stands(
-            &self.tables,
-            &self.rowsets,
-            self.count,
-            at,
-            table.0,
-            rowset.0,
-        ) && self.shown_at(at, epoch)
+        self.stands_at(at, table, rowset) && self.shown_at(at, epoch)
     }
 
-    // The first place from one on, and before another, that the epoch shows.
+    // The first place, from `from` on and before `end`, that the epoch shows.
     pub(crate) fn next_shown(&self, from: usize, end: usize, epoch: u32) -> Option<usize>
         requires fits { self.now.count ≤ most_held }
         requires inside { end ≤ self.now.count }
         ensures { NextShown (shown_by epoch) (rowsets_of self.now) from end result }
     {
-        for i in from..end {
-            if self.shown_at(i, epoch) {
-                return Some(i);
-            }
-        }
-        None
+        (from..end).find(|i| self.shown_at(*i, epoch))
     }
 
     // Those that the epoch shows, in order.
@@ -207,8 +210,8 @@ impl Rowsets {
         requires id { is_id32 table.0 ≡ true }
         ensures { shown_rowsets result ≡ keep (of_table table.0) (keep (shown_by epoch) (rowsets_of self.now)) }
     {
-        let next = columns::place(&self.tables, &self.rowsets, self.count, table.0, 0);
-        let end = columns::place(&self.tables, &self.rowsets, self.count, table.0 + 1, 0);
+        let next = self.place(table, RowsetNo(0));
+        let end = self.place(TableNo(table.0 + 1), RowsetNo(0));
         ShownRowsets {
             held: self,
             epoch,
@@ -244,28 +247,43 @@ impl Rowsets {
         ensures rises { ascending by_ids (rowsets_of self.new) ≡ true }
     {
         match self.find(table, rowset) {
-            Ok(at) => {
-                if !self.shown_at(at, epoch) {
-                    return false;
-                }
+            Ok(at) if self.shown_at(at, epoch) => {
                 self.deleted[at] = epoch;
                 true
             }
-            Err(_) => false,
+            _ => false,
         }
     }
 
-    // Without those that are not marked.
-    fn keep(&mut self, kept: &[bool; MOST_HELD])
+    // Overwrites the one at place `i`.
+    fn set(&mut self, i: usize, held: HeldRowset)
         requires fits { self.old.count ≤ most_held }
-        ensures told { rowsets_of self.new ≡ marked (rows (marks kept.now) self.old.count) (rowsets_of self.old) }
+        requires inside { i < self.old.count }
+        ensures told { rowsets_of self.new ≡ set (rowsets_of self.old) i (rowset_of held) }
+        ensures count { self.new.count ≡ self.old.count }
+    {
+        self.tables[i] = held.table.0;
+        self.rowsets[i] = held.rowset.0;
+        self.added[i] = held.added;
+        self.deleted[i] = held.deleted;
+    }
+
+    // Keeps those that pass a test.
+    fn retain<F: Fn(HeldRowset) -> bool>(&mut self, test: F)
+        requires fits { self.old.count ≤ most_held }
+        requires calls { F.IsAlwaysCallable test }
+        ensures told { (p : _) → Tests (F.post test) rowset_of p → rowsets_of self.new ≡ keep p (rowsets_of self.old) }
         ensures fewer { self.new.count ≤ self.old.count }
     {
-        let n = self.count;
-        columns::keep(&mut self.tables, kept, n);
-        columns::keep(&mut self.rowsets, kept, n);
-        columns::keep(&mut self.added, kept, n);
-        let left = columns::keep(&mut self.deleted, kept, n);
+        let mut left = 0;
+        // By places: one is read and an earlier one written, in all columns.
+        for i in 0..self.count {
+            let held = self.get(i);
+            if test(held) {
+                self.set(left, held);
+                left += 1;
+            }
+        }
         self.count = left;
     }
 
@@ -275,11 +293,11 @@ impl Rowsets {
         ensures told { rowsets_of self.new ≡ keep (λ x. not (gone_by epoch x)) (rowsets_of self.old) }
         ensures fewer { self.new.count ≤ self.old.count }
     {
-        let kept = held::left(&self.deleted, self.count, epoch);
-        self.keep(&kept);
+        self.retain(|held| !gone(held.deleted, epoch));
     }
 }
 
+// To do: one over a trait, as at `Rowsets`.
 impl<'a> Iterator for ShownRowsets<'a> {
     type Item = HeldRowset;
 

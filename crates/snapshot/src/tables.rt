@@ -1,12 +1,10 @@
-// Live tables, in columns that are lent to small functions.
-ghost use Rattle.std.specs.Prelude.{◌≡◌, true, [], ◌∷◌, ◌++◌, ◌+◌, ◌*◌, ◌≤◌, ◌<◌, ltb, length, get_or, take, drop};
+// Live tables, in columns.
+ghost use Rattle.std.specs.Prelude.{◌≡◌, true, [], ◌∷◌, ◌++◌, ◌+◌, ◌≤◌, ◌<◌, ltb, length, get_or, set, drop};
 ghost use Rattle.ids.specs.Limits.{most_tables};
 ghost use Rattle.ids.specs.Names.{longest_name, name_of};
-ghost use Rattle.lists.specs.Order.{same};
-ghost use Rattle.lists.specs.Keyed.{all_of, any_of, has, changed, without, ascending};
-ghost use Rattle.lists.specs.Written.{written};
-ghost use Rattle.columns.specs.Rows.{rows, column, across, plain};
-ghost use Rattle.snapshot.specs.Tables.{by_table, created, no_table, name_taken, lock_held, with_lock, length_in, name_at, table_at, table_rows, name_bytes, Whole, RowMoved};
+ghost use Rattle.lists.specs.Keyed.{all_of, has, changed, without, ascending};
+ghost use Rattle.columns.specs.Rows.{column};
+ghost use Rattle.snapshot.specs.Tables.{by_table, created, no_table, name_taken, lock_held, with_lock, length_in};
 ghost use Rattle.snapshot.specs.Found.{drop_below, leads};
 ghost use Rattle.snapshot.specs.Views.{tables_of, table_of};
 
@@ -15,6 +13,7 @@ use ids::limits::{LONGEST_NAME, MOST_TABLES, NAME_BYTES};
 use ids::name::Name;
 
 // Live tables: the first `count` places of each column, ascending by id. A name has room for the longest one in `names`.
+// The C interface passes this struct by value, so the columns and the count stay as they lie, and each call asks that the count fits.
 #[repr(C)]
 #[derive(Clone, Copy)]
 pub struct Tables {
@@ -26,7 +25,7 @@ pub struct Tables {
     pub count: usize,
 }
 
-// One of them.
+// One of them. No other field hangs on `locked`, so an Option would be no plainer.
 #[derive(Clone, Copy)]
 pub struct Table {
     pub table: TableNo,
@@ -35,7 +34,9 @@ pub struct Table {
     pub locked: bool,
 }
 
+// The columns are those of the C interface, so that each method names its own.
 impl Tables {
+    // Not Default, which promises columns of zeros: `none` promises that nothing is held, and Default would be no plainer.
     pub fn none() -> Tables
         ensures { (result.count ≡ 0) × (tables_of result ≡ []) }
     {
@@ -49,7 +50,7 @@ impl Tables {
         }
     }
 
-    // Internal, as are all that follow: the bytes of the name at a place.
+    // Internal, as are all that follow: the bytes of the name at place `i`.
     pub fn name(&self, i: usize) -> &[u8]
         requires fits { self.now.count ≤ most_tables }
         requires inside { i < self.now.count }
@@ -57,10 +58,20 @@ impl Tables {
         ensures short { length result.now ≤ longest_name }
     {
         let from = LONGEST_NAME * i;
-        &self.names[from..from + length_at(&self.lengths, i)]
+        &self.names[from..from + self.length(i)]
     }
 
-    // The one at a place.
+    // How many bytes the name at place `i` has.
+    fn length(&self, i: usize) -> usize
+        requires inside { i < most_tables }
+        ensures told { result ≡ length_in (column self.now.lengths i) }
+        ensures short { result ≤ longest_name }
+    {
+        let n = self.lengths[i] as usize;
+        if n <= LONGEST_NAME { n } else { 0 }
+    }
+
+    // The one at place `i`.
     pub fn get(&self, i: usize) -> Table
         requires fits { self.now.count ≤ most_tables }
         requires inside { i < self.now.count }
@@ -87,7 +98,7 @@ impl Tables {
         requires fits { self.now.count ≤ most_tables }
         ensures { result ≡ name_taken (name_of name) (tables_of self.now) }
     {
-        taken(&self.lengths, &self.names, self.count, name)
+        (0..self.count).any(|i| self.name(i) == name.as_slice())
     }
 
     // The ids rise strictly.
@@ -95,7 +106,7 @@ impl Tables {
         requires fits { self.now.count ≤ most_tables }
         ensures { result ≡ ascending by_table (tables_of self.now) }
     {
-        ordered(&self.ids, self.count)
+        (1..self.count).all(|i| self.ids[i - 1] < self.ids[i])
     }
 
     // Every id is below the next one.
@@ -103,23 +114,20 @@ impl Tables {
         requires fits { self.now.count ≤ most_tables }
         ensures { result ≡ all_of (λ t. ltb t.table next.0) (tables_of self.now) }
     {
-        below(&self.ids, self.count, next)
+        self.ids[..self.count].iter().all(|id| *id < next.0)
     }
 
-    // The first place from one on whose id is not before this one.
+    // The first place, from `from` on, whose id is not before this one.
     pub fn from_on(&self, from: usize, table: TableNo) -> usize
         requires fits { self.now.count ≤ most_tables }
         ensures { drop result (tables_of self.now) ≡ drop_below by_table (table.0 ∷ []) (drop from (tables_of self.now)) }
     {
-        for i in from..self.count {
-            if self.ids[i] >= table.0 {
-                return i;
-            }
-        }
-        self.count
+        (from..self.count)
+            .find(|i| self.ids[*i] >= table.0)
+            .unwrap_or(self.count)
     }
 
-    // Whether the table stands at a place.
+    // Whether the table is at place `at`.
     pub fn stands_at(&self, at: usize, table: TableNo) -> bool
         requires fits { self.now.count ≤ most_tables }
         ensures { result ≡ leads by_table (λ x. true) (table.0 ∷ []) (drop at (tables_of self.now)) }
@@ -132,12 +140,7 @@ impl Tables {
         requires fits { self.now.count ≤ most_tables }
         ensures { result ≡ lock_held table.0 (tables_of self.now) }
     {
-        for i in 0..self.count {
-            if self.ids[i] == table.0 && self.locked[i] {
-                return true;
-            }
-        }
-        false
+        (0..self.count).any(|i| self.ids[i] == table.0 && self.locked[i])
     }
 
     // The lock of each table of the id made held or free.
@@ -146,11 +149,27 @@ impl Tables {
         ensures told { tables_of self.new ≡ changed by_table (table.0 ∷ []) (with_lock held) (tables_of self.old) }
         ensures count { self.new.count ≡ self.old.count }
     {
+        // By places: the lock goes where the id is read, and a zip of both would be no plainer.
         for i in 0..self.count {
             if self.ids[i] == table.0 {
                 self.locked[i] = held;
             }
         }
+    }
+
+    // Overwrites the one at place `i`.
+    fn set(&mut self, i: usize, table: Table)
+        requires fits { self.old.count ≤ most_tables }
+        requires inside { i < self.old.count }
+        ensures told { tables_of self.new ≡ set (tables_of self.old) i (table_of table) }
+        ensures count { self.new.count ≡ self.old.count }
+    {
+        self.ids[i] = table.table.0;
+        self.shapes[i] = table.shape;
+        self.lengths[i] = table.name.length() as u32;
+        let from = LONGEST_NAME * i;
+        self.names[from..from + LONGEST_NAME].copy_from_slice(&table.name.bytes);
+        self.locked[i] = table.locked;
     }
 
     // A table after the others, its lock free.
@@ -160,18 +179,16 @@ impl Tables {
         ensures count { self.new.count ≡ self.old.count + 1 }
     {
         let count = self.count;
-        push(
-            &mut self.ids,
-            &mut self.shapes,
-            &mut self.lengths,
-            &mut self.names,
-            &mut self.locked,
-            count,
-            table,
-            shape,
-            name,
-        );
         self.count = count + 1;
+        self.set(
+            count,
+            Table {
+                table,
+                shape,
+                name,
+                locked: false,
+            },
+        );
     }
 
     // Without the tables of an id.
@@ -180,259 +197,15 @@ impl Tables {
         ensures told { tables_of self.new ≡ without by_table (table.0 ∷ []) (tables_of self.old) }
         ensures fewer { self.new.count ≤ self.old.count }
     {
-        let count = self.count;
-        let left = remove(
-            &mut self.ids,
-            &mut self.shapes,
-            &mut self.lengths,
-            &mut self.names,
-            &mut self.locked,
-            count,
-            table,
-        );
+        let mut left = 0;
+        // By places: one is read and an earlier one written, in all columns.
+        for i in 0..self.count {
+            let held = self.get(i);
+            if held.table != table {
+                self.set(left, held);
+                left += 1;
+            }
+        }
         self.count = left;
     }
-}
-
-// Internal, as are all that follow: whether a live table has the id.
-pub fn holds(ids: &[u32; MOST_TABLES], count: usize, table: TableNo) -> bool
-    requires { count ≤ most_tables }
-    ensures { result ≡ has plain (table.0 ∷ []) (rows (across (ids.now ∷ [])) count) }
-{
-    let t = table.0;
-    let mut i = 0;
-    while i < count {
-        if ids[i] == t {
-            return true;
-        }
-        i += 1;
-    }
-    false
-}
-
-// The ids rise strictly.
-pub fn ordered(ids: &[u32; MOST_TABLES], count: usize) -> bool
-    requires { count ≤ most_tables }
-    ensures { result ≡ ascending plain (rows (across (ids.now ∷ [])) count) }
-{
-    let mut i = 0;
-    while i + 1 < count {
-        if ids[i + 1] <= ids[i] {
-            return false;
-        }
-        i += 1;
-    }
-    true
-}
-
-// Every id is below the next one.
-pub fn below(ids: &[u32; MOST_TABLES], count: usize, next: TableNo) -> bool
-    requires { count ≤ most_tables }
-    ensures { result ≡ all_of (λ x. ltb x next.0) (rows (column ids.now) count) }
-{
-    let limit = next.0;
-    let mut i = 0;
-    while i < count {
-        if limit <= ids[i] {
-            return false;
-        }
-        i += 1;
-    }
-    true
-}
-
-fn wide(n: u32) -> usize
-    ensures { result ≡ n }
-{
-    n as usize
-}
-
-// How many bytes the name at i has.
-pub fn length_at(lengths: &[u32; MOST_TABLES], i: usize) -> usize
-    requires { i < most_tables }
-    ensures { (result ≡ length_in (column lengths.now i)) × (result ≤ longest_name) }
-{
-    let n = wide(lengths[i]);
-    if n <= LONGEST_NAME {
-        return n;
-    }
-    0
-}
-
-// Whether the first n bytes at a name's place are those.
-fn same_bytes<'a>(
-    names: &'a [u8; NAME_BYTES],
-    at: usize,
-    bytes: &'a [u8; LONGEST_NAME],
-    n: usize,
-) -> bool
-    requires { (at < most_tables) × (n ≤ longest_name) × (length names.now ≡ name_bytes) × (length bytes.now ≡ longest_name) }
-    ensures { result ≡ same (take n (drop (longest_name * at) names.now)) (take n bytes.now) }
-{
-    let from = LONGEST_NAME * at;
-    let mut i = 0;
-    while i < n {
-        if names[from + i] != bytes[i] {
-            return false;
-        }
-        i += 1;
-    }
-    true
-}
-
-// Whether the name at i is those n bytes.
-fn named<'a>(
-    lengths: &'a [u32; MOST_TABLES],
-    names: &'a [u8; NAME_BYTES],
-    i: usize,
-    bytes: &'a [u8; LONGEST_NAME],
-    n: usize,
-) -> bool
-    requires { (i < most_tables) × (n ≤ longest_name) × (length names.now ≡ name_bytes) × (length bytes.now ≡ longest_name) }
-    ensures { result ≡ same (name_at lengths.now names.now i) (take n bytes.now) }
-{
-    if length_at(lengths, i) != n {
-        return false;
-    }
-    same_bytes(names, i, bytes, n)
-}
-
-// Whether a live table has the name.
-pub fn taken<'a>(
-    lengths: &'a [u32; MOST_TABLES],
-    names: &'a [u8; NAME_BYTES],
-    count: usize,
-    name: Name,
-) -> bool
-    requires { (count ≤ most_tables) × (length names.now ≡ name_bytes) }
-    ensures { result ≡ any_of (λ x. same x (name_of name)) (rows (name_at lengths.now names.now) count) }
-{
-    let n = name.length();
-    let mut i = 0;
-    while i < count {
-        if named(lengths, names, i, &name.bytes, n) {
-            return true;
-        }
-        i += 1;
-    }
-    false
-}
-
-// The name at i.
-pub fn name_at<'a>(lengths: &'a [u32; MOST_TABLES], names: &'a [u8; NAME_BYTES], i: usize) -> Name
-    requires { (i < most_tables) × (length names.now ≡ name_bytes) }
-    ensures { name_of result ≡ name_at lengths.now names.now i }
-{
-    let n = length_at(lengths, i);
-    let from = LONGEST_NAME * i;
-    let to = from + n;
-    let all = &names[..];
-    Name::of(&all[from..to])
-}
-
-// Bytes stored at a name's place.
-fn put_name(names: &mut [u8; NAME_BYTES], at: usize, bytes: &[u8; LONGEST_NAME], n: usize)
-    requires { (at < most_tables) × (n ≤ longest_name) × (length names.old ≡ name_bytes) × (length bytes.now ≡ longest_name) }
-    ensures { names.new ≡ written names.old (longest_name * at) (take n bytes.now) }
-{
-    let from = LONGEST_NAME * at;
-    let mut i = 0;
-    while i < n {
-        names[from + i] = bytes[i];
-        i += 1;
-    }
-}
-
-// A table after the others, its lock free.
-pub fn push(
-    ids: &mut [u32; MOST_TABLES],
-    shapes: &mut [u32; MOST_TABLES],
-    lengths: &mut [u32; MOST_TABLES],
-    names: &mut [u8; NAME_BYTES],
-    locked: &mut [bool; MOST_TABLES],
-    count: usize,
-    table: TableNo,
-    shape: u32,
-    name: Name,
-)
-    requires { (count < most_tables) × Whole ids.old shapes.old lengths.old names.old locked.old }
-    ensures { (table_rows ids.new shapes.new lengths.new names.new locked.new (count + 1)
-        ≡ table_rows ids.old shapes.old lengths.old names.old locked.old count ++ (created table.0 shape (name_of name) ∷ []))
-        × Whole ids.new shapes.new lengths.new names.new locked.new }
-{
-    let n = name.length();
-    ids[count] = table.0;
-    shapes[count] = shape;
-    lengths[count] = n as u32;
-    put_name(names, count, &name.bytes, n);
-    locked[count] = false;
-}
-
-// The name at a place copied to one before it, or to the same.
-fn move_name(names: &mut [u8; NAME_BYTES], to: usize, from: usize)
-    requires { (to ≤ from) × (from < most_tables) × (length names.old ≡ name_bytes) }
-    ensures { names.new ≡ written names.old (longest_name * to) (take longest_name (drop (longest_name * from) names.old)) }
-{
-    let write = LONGEST_NAME * to;
-    let read = LONGEST_NAME * from;
-    let mut i = 0;
-    while i < LONGEST_NAME {
-        names[write + i] = names[read + i];
-        i += 1;
-    }
-}
-
-// The table at a place copied to one before it.
-fn move_table(
-    ids: &mut [u32; MOST_TABLES],
-    shapes: &mut [u32; MOST_TABLES],
-    lengths: &mut [u32; MOST_TABLES],
-    names: &mut [u8; NAME_BYTES],
-    locked: &mut [bool; MOST_TABLES],
-    to: usize,
-    from: usize,
-)
-    requires { (to ≤ from) × (from < most_tables) × Whole ids.old shapes.old lengths.old names.old locked.old }
-    ensures { RowMoved (table_at ids.old shapes.old lengths.old names.old locked.old) to from
-        (table_at ids.new shapes.new lengths.new names.new locked.new)
-        × Whole ids.new shapes.new lengths.new names.new locked.new }
-{
-    if to == from {
-        return;
-    }
-    ids[to] = ids[from];
-    shapes[to] = shapes[from];
-    lengths[to] = lengths[from];
-    move_name(names, to, from);
-    locked[to] = locked[from];
-}
-
-// Without the tables of an id; answers how many are left.
-pub fn remove(
-    ids: &mut [u32; MOST_TABLES],
-    shapes: &mut [u32; MOST_TABLES],
-    lengths: &mut [u32; MOST_TABLES],
-    names: &mut [u8; NAME_BYTES],
-    locked: &mut [bool; MOST_TABLES],
-    count: usize,
-    table: TableNo,
-) -> usize
-    requires { (count ≤ most_tables) × Whole ids.old shapes.old lengths.old names.old locked.old }
-    ensures { (table_rows ids.new shapes.new lengths.new names.new locked.new result
-        ≡ without by_table (table.0 ∷ []) (table_rows ids.old shapes.old lengths.old names.old locked.old count))
-        × (result ≤ count) × Whole ids.new shapes.new lengths.new names.new locked.new }
-{
-    let t = table.0;
-    let mut k: usize = 0;
-    let mut i = 0;
-    while i < count {
-        if ids[i] == t {
-            i += 1;
-        } else {
-            move_table(ids, shapes, lengths, names, locked, k, i);
-            k += 1;
-            i += 1;
-        }
-    }
-    k
 }

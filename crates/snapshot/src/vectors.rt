@@ -1,22 +1,24 @@
 // The delete vectors that are held, in columns.
-ghost use Rattle.std.specs.Prelude.{◌≡◌, true, cond, not, [], ◌∷◌, ◌+◌, ◌≤◌, ◌<◌, eqb, Err, get_or, take};
+ghost use Rattle.std.specs.Prelude.{◌≡◌, true, cond, not, [], ◌∷◌, ◌+◌, ◌≤◌, ◌<◌, eqb, Err, get_or, set, take, drop};
 ghost use Rattle.std.specs.Iterator.{YieldsFirstBy, item_count};
 ghost use Rattle.ids.specs.Ids.{is_id32};
 ghost use Rattle.ids.specs.Limits.{most_held};
-ghost use Rattle.lists.specs.Keyed.{keep, all_of, any_of, has, put, changed, ascending};
-ghost use Rattle.columns.specs.Rows.{rows, marks, marked};
+ghost use Rattle.lists.specs.Keyed.{keep, all_of, any_of, has, put, changed, ascending, rank};
+ghost use Rattle.columns.specs.Rows.{column};
 ghost use Rattle.snapshot.specs.Entries.{by_ids, nothing, added_at, deleted_at, shown_by, gone_by, of_table, within};
-ghost use Rattle.snapshot.specs.Found.{FoundAt, NextShown};
+ghost use Rattle.snapshot.specs.Found.{FoundAt, NextShown, Tests, leads};
 ghost use Rattle.snapshot.specs.Views.{rowsets_of, vectors_of, vector_of};
 ghost use Rattle.snapshot.specs.Shown.{shown_vectors};
 
 use crate::epoch::ShownVectors;
 use crate::rowsets::Rowsets;
-use crate::{held, shown};
+use crate::{gone, shown};
 use ids::limits::MOST_HELD;
 use ids::{RowsetNo, TableNo, VectorNo};
 
 // Held delete vectors: the first `count` places of each column, ascending by table, rowset and vector. `deleted` is 0 while shown.
+// The C interface passes this struct by value, so the columns and the count stay as they lie, and each call asks that the count fits.
+// A trait over rowsets and vectors would leave these methods and their contracts with each type, and be longer than what it spares.
 #[repr(C)]
 #[derive(Clone, Copy)]
 pub struct Vectors {
@@ -40,18 +42,21 @@ pub struct HeldVector {
 
 impl HeldVector {
     // Its epochs are at most the epoch, and its ids below the next ones.
+    // The ids of the columns that the C interface lays side by side, one by one.
     fn within(self, epoch: u32, table: TableNo, rowset: RowsetNo, vector: VectorNo) -> bool
         ensures { result ≡ within epoch (table.0 ∷ rowset.0 ∷ vector.0 ∷ []) (vector_of self) }
     {
         self.added <= epoch
             && self.deleted <= epoch
-            && self.table.0 < table.0
-            && self.rowset.0 < rowset.0
-            && self.vector.0 < vector.0
+            && self.table < table
+            && self.rowset < rowset
+            && self.vector < vector
     }
 }
 
+// To do: one trait over rowsets and vectors, as at `Rowsets`. What each method asks for the structs of the C interface cannot say.
 impl Vectors {
+    // Not Default, which promises columns of zeros: `none` promises that nothing is held, and Default would be no plainer.
     pub fn none() -> Vectors
         ensures { (result.count ≡ 0) × (vectors_of result ≡ []) }
     {
@@ -65,7 +70,7 @@ impl Vectors {
         }
     }
 
-    // Internal, as are all that follow: the one at a place.
+    // Internal, as are all that follow: the one at place `i`.
     pub fn get(&self, i: usize) -> HeldVector
         requires fits { self.now.count ≤ most_held }
         requires inside { i < self.now.count }
@@ -80,12 +85,20 @@ impl Vectors {
         }
     }
 
+    // The ids at place `i`.
+    fn ids(&self, i: usize) -> (u32, u32, u64)
+        requires { i < most_held }
+        ensures { result ≡ (column self.now.tables i, column self.now.rowsets i, column self.now.vectors i) }
+    {
+        (self.tables[i], self.rowsets[i], self.vectors[i])
+    }
+
     // The ids rise strictly.
     pub fn is_ascending(&self) -> bool
         requires fits { self.now.count ≤ most_held }
         ensures { result ≡ ascending by_ids (vectors_of self.now) }
     {
-        columns::triples::ordered(&self.tables, &self.rowsets, &self.vectors, self.count)
+        (1..self.count).all(|i| self.ids(i - 1) < self.ids(i))
     }
 
     // Each one's epochs are at most the epoch, and its ids below the next ones.
@@ -93,42 +106,39 @@ impl Vectors {
         requires fits { self.now.count ≤ most_held }
         ensures { result ≡ all_of (within epoch (table.0 ∷ rowset.0 ∷ vector.0 ∷ [])) (vectors_of self.now) }
     {
-        for i in 0..self.count {
-            if !self.get(i).within(epoch, table, rowset, vector) {
-                return false;
-            }
-        }
-        true
+        (0..self.count).all(|i| self.get(i).within(epoch, table, rowset, vector))
     }
 
-    // Where it stands, or else would be put in.
+    // The place of the first one that is not before these ids.
+    fn place(&self, table: TableNo, rowset: RowsetNo, vector: VectorNo) -> usize
+        requires fits { self.now.count ≤ most_held }
+        requires rises { ascending by_ids (vectors_of self.now) ≡ true }
+        ensures told { result ≡ rank by_ids (table.0 ∷ rowset.0 ∷ vector.0 ∷ []) (vectors_of self.now) }
+        ensures inside { result ≤ self.now.count }
+    {
+        columns::place(self.count, |i| self.ids(i) < (table.0, rowset.0, vector.0))
+    }
+
+    // Whether it is at place `at`.
+    fn stands_at(&self, at: usize, table: TableNo, rowset: RowsetNo, vector: VectorNo) -> bool
+        requires fits { self.now.count ≤ most_held }
+        ensures { result ≡ leads by_ids (λ x. true) (table.0 ∷ rowset.0 ∷ vector.0 ∷ []) (drop at (vectors_of self.now)) }
+    {
+        at < self.count && self.ids(at) == (table.0, rowset.0, vector.0)
+    }
+
+    // Where it is, or else would go.
     pub fn find(&self, table: TableNo, rowset: RowsetNo, vector: VectorNo) -> Result<usize, usize>
         requires fits { self.now.count ≤ most_held }
         requires rises { ascending by_ids (vectors_of self.now) ≡ true }
         ensures { FoundAt (table.0 ∷ rowset.0 ∷ vector.0 ∷ []) (vectors_of self.now) self.now.count result }
     {
-        let at = columns::triples::place(
-            &self.tables,
-            &self.rowsets,
-            &self.vectors,
-            self.count,
-            table.0,
-            rowset.0,
-            vector.0,
-        );
-        if columns::triples::stands(
-            &self.tables,
-            &self.rowsets,
-            &self.vectors,
-            self.count,
-            at,
-            table.0,
-            rowset.0,
-            vector.0,
-        ) {
-            return Ok(at);
+        let at = self.place(table, rowset, vector);
+        if self.stands_at(at, table, rowset, vector) {
+            Ok(at)
+        } else {
+            Err(at)
         }
-        Err(at)
     }
 
     // Held, shown or waiting.
@@ -140,7 +150,7 @@ impl Vectors {
         self.find(table, rowset, vector).is_ok()
     }
 
-    // Whether the epoch shows the one at a place.
+    // Whether the epoch shows the one at place `i`.
     pub fn shown_at(&self, i: usize, epoch: u32) -> bool
         requires fits { self.now.count ≤ most_held }
         requires inside { i < self.now.count }
@@ -161,18 +171,13 @@ impl Vectors {
         }
     }
 
-    // The first place from one on, and before another, that the epoch shows.
+    // The first place, from `from` on and before `end`, that the epoch shows.
     pub(crate) fn next_shown(&self, from: usize, end: usize, epoch: u32) -> Option<usize>
         requires fits { self.now.count ≤ most_held }
         requires inside { end ≤ self.now.count }
         ensures { NextShown (shown_by epoch) (vectors_of self.now) from end result }
     {
-        for i in from..end {
-            if self.shown_at(i, epoch) {
-                return Some(i);
-            }
-        }
-        None
+        (from..end).find(|i| self.shown_at(*i, epoch))
     }
 
     // Those that the epoch shows, in order.
@@ -195,24 +200,8 @@ impl Vectors {
         requires id { is_id32 table.0 ≡ true }
         ensures { shown_vectors result ≡ keep (of_table table.0) (keep (shown_by epoch) (vectors_of self.now)) }
     {
-        let next = columns::triples::place(
-            &self.tables,
-            &self.rowsets,
-            &self.vectors,
-            self.count,
-            table.0,
-            0,
-            0,
-        );
-        let end = columns::triples::place(
-            &self.tables,
-            &self.rowsets,
-            &self.vectors,
-            self.count,
-            table.0 + 1,
-            0,
-            0,
-        );
+        let next = self.place(table, RowsetNo(0), VectorNo(0));
+        let end = self.place(TableNo(table.0 + 1), RowsetNo(0), VectorNo(0));
         ShownVectors {
             held: self,
             epoch,
@@ -256,29 +245,44 @@ impl Vectors {
         ensures rises { ascending by_ids (vectors_of self.new) ≡ true }
     {
         match self.find(table, rowset, vector) {
-            Ok(at) => {
-                if !self.shown_at(at, epoch) {
-                    return false;
-                }
+            Ok(at) if self.shown_at(at, epoch) => {
                 self.deleted[at] = epoch;
                 true
             }
-            Err(_) => false,
+            _ => false,
         }
     }
 
-    // Without those that are not marked.
-    fn keep(&mut self, kept: &[bool; MOST_HELD])
+    // Overwrites the one at place `i`.
+    fn set(&mut self, i: usize, held: HeldVector)
         requires fits { self.old.count ≤ most_held }
-        ensures told { vectors_of self.new ≡ marked (rows (marks kept.now) self.old.count) (vectors_of self.old) }
+        requires inside { i < self.old.count }
+        ensures told { vectors_of self.new ≡ set (vectors_of self.old) i (vector_of held) }
+        ensures count { self.new.count ≡ self.old.count }
+    {
+        self.tables[i] = held.table.0;
+        self.rowsets[i] = held.rowset.0;
+        self.vectors[i] = held.vector.0;
+        self.added[i] = held.added;
+        self.deleted[i] = held.deleted;
+    }
+
+    // Keeps those that pass a test.
+    fn retain<F: Fn(HeldVector) -> bool>(&mut self, test: F)
+        requires fits { self.old.count ≤ most_held }
+        requires calls { F.IsAlwaysCallable test }
+        ensures told { (p : _) → Tests (F.post test) vector_of p → vectors_of self.new ≡ keep p (vectors_of self.old) }
         ensures fewer { self.new.count ≤ self.old.count }
     {
-        let n = self.count;
-        columns::keep(&mut self.tables, kept, n);
-        columns::keep(&mut self.rowsets, kept, n);
-        columns::keep(&mut self.vectors, kept, n);
-        columns::keep(&mut self.added, kept, n);
-        let left = columns::keep(&mut self.deleted, kept, n);
+        let mut left = 0;
+        // By places: one is read and an earlier one written, in all columns.
+        for i in 0..self.count {
+            let held = self.get(i);
+            if test(held) {
+                self.set(left, held);
+                left += 1;
+            }
+        }
         self.count = left;
     }
 
@@ -288,11 +292,10 @@ impl Vectors {
         ensures told { vectors_of self.new ≡ keep (λ x. not (gone_by epoch x)) (vectors_of self.old) }
         ensures fewer { self.new.count ≤ self.old.count }
     {
-        let kept = held::left(&self.deleted, self.count, epoch);
-        self.keep(&kept);
+        self.retain(|held| !gone(held.deleted, epoch));
     }
 
-    // A vector of any table has the id.
+    // A vector of any table has the id. One call of the library, as `Tables::holds` is.
     pub fn numbered(&self, vector: VectorNo) -> bool
         requires fits { self.now.count ≤ most_held }
         ensures { result ≡ any_of (λ x. eqb (get_or (by_ids x) 2 0) vector.0) (vectors_of self.now) }
@@ -308,14 +311,11 @@ impl Vectors {
         ensures told { vectors_of self.new ≡ keep (λ x. has by_ids (take 2 (by_ids x)) (rowsets_of rowsets.now)) (vectors_of self.old) }
         ensures fewer { self.new.count ≤ self.old.count }
     {
-        let mut kept = [false; MOST_HELD];
-        for i in 0..self.count {
-            kept[i] = rowsets.holds(TableNo(self.tables[i]), RowsetNo(self.rowsets[i]));
-        }
-        self.keep(&kept);
+        self.retain(|held| rowsets.holds(held.table, held.rowset));
     }
 }
 
+// To do: one over a trait, as at `Rowsets`.
 impl<'a> Iterator for ShownVectors<'a> {
     type Item = HeldVector;
 

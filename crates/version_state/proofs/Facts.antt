@@ -1,27 +1,24 @@
 -- What the tests of 29 tell as facts. Assumes nothing.
-use mathlib.Core.Path.{◌≡◌, sym, ap, ap₂, ◌∙◌}
-use mathlib.Core.Bool.{Bool, true, false, not, ◌&&◌, ◌||◌}
+use mathlib.Core.Path.{◌≡◌, sym, ◌∙◌}
+use mathlib.Core.Bool.{true, false, not, ◌&&◌, ◌||◌}
 use mathlib.Core.List.{[], ◌∷◌}
-use Prim.Native.Nat.{◌+◌, ◌<◌, ◌≤◌}
-use native.Mathlib.Omega.{arith}
+use Prim.Native.Nat.{◌<◌, ◌≤◌}
 use lib.Dec.{leb, ltb}
 use borrow.Author.Tests.{leb-true, le-leb, ltb-false, le-ltb, lt-ltb, not-false}
-use Rattle.lists.specs.Keyed.{all_of, ascending, sorted}
+use Rattle.lists.specs.Keyed.{all_of, ascending}
 use Rattle.lists.proofs.Tests.{by_cases, both, neither}
 use Rattle.text.specs.Name.{is_name}
 use Rattle.snapshot.specs.Entries.{by_ids, within}
-use Rattle.snapshot.specs.Tables.{by_table, name_at}
+use Rattle.snapshot.specs.Tables.{by_table}
 use Rattle.snapshot.specs.declared.tables.Tables.{Tables}
 use Rattle.snapshot.specs.declared.rowsets.Rowsets.{Rowsets}
-use Rattle.snapshot.specs.declared.vectors.Vectors.{Vectors}
 use Rattle.snapshot.proofs.Entries.{ascending-ids}
-use Rattle.snapshot.proofs.TableRows.{ascending-tables, below-tables, names-tables}
-use Rattle.columns.specs.Rows.{rows, column, across, plain}
+use Rattle.snapshot.proofs.TableRows.{ascending-tables}
+use Rattle.columns.specs.Rows.{rows, across, plain}
 use Rattle.version_state.specs.declared.VersionManagerInner.{VersionManagerInner}
-use Rattle.version_state.specs.State.{State, state_of, lengthened, counts_fit, Fit}
+use Rattle.version_state.specs.State.{State, state_of, counts_fit, Fit}
 use Rattle.ids.specs.Limits.{most_tables, most_held, longest_manifest}
 use Rattle.version_state.specs.Sound.{left_behind, beyond_limits, out_of_order, above_own, bad_inner}
-use Rattle.version_state.proofs.Walks.{rising-prefix}
 
 pub counts-fit : (m : VersionManagerInner) → counts_fit m ≡ true → Fit m
 counts-fit m h =
@@ -85,92 +82,3 @@ of-sound m s =
 -- a manifest that is too long
 pub too_long : (m : VersionManagerInner) → longest_manifest < m.manifest → true ≡ bad_inner m
 too_long m h = by_cases (counts_fit m) (λ e. rw (e, lt-ltb longest_manifest m.manifest h)) (λ e. rw e)
-
--- no bytes more
-pub lengthened-none : (m : VersionManagerInner) → bad_inner (lengthened 0 m) ≡ bad_inner m
-lengthened-none m = let e : m.manifest + 0 ≡ m.manifest = omega arith in rw e
-
--- the counts of a state that is within the limits
-pub fit-within : (m : VersionManagerInner) → beyond_limits m ≡ false → Fit m
-fit-within m h = counts-fit m (not-false _ (neither (not (counts_fit m)) (ltb longest_manifest (state_of m).manifest || not (all_of (λ t. is_name t.name) (state_of m).tables)) h).0)
-
-caught : (a b : Bool) → a ≡ true → true ≡ a || b
-caught a b h = rw h
-
-passed : (a b r : Bool) → a ≡ false → r ≡ b → r ≡ a || b
-passed a b r h e = rw h e
-
--- The tests of 29, a column at a time.
-module _ (m : VersionManagerInner) where
-  abbrev ts : Tables
-  ts = m.tables
-
-  abbrev ps : Rowsets
-  ps = m.rowsets
-
-  abbrev vs : Vectors
-  vs = m.vectors
-
-  pub limits-columns : beyond_limits m
-      ≡ not (counts_fit m) || (ltb longest_manifest m.manifest || not (all_of is_name (rows (name_at ts.lengths ts.names) ts.count)))
-  limits-columns =
-      ap (λ (b : Bool). not (counts_fit m) || (ltb longest_manifest m.manifest || not b)) (names-tables ts.ids ts.shapes ts.lengths ts.names ts.locked ts.count is_name)
-
-  rising-tables : ascending by_table (state_of m).tables ≡ ascending plain (rows (across (ts.ids ∷ [])) ts.count)
-  rising-tables = ascending-tables ts.ids ts.shapes ts.lengths ts.names ts.locked ts.count
-
-  rising-pairs : ascending by_ids (state_of m).pairs ≡ ascending plain (rows (across (ps.tables ∷ ps.rowsets ∷ [])) ps.count)
-  rising-pairs = ascending-ids (ps.tables ∷ ps.rowsets ∷ []) ps.added ps.deleted ps.count
-
-  rising-vectors : ascending by_ids (state_of m).vectors ≡ ascending plain (rows (across (vs.tables ∷ vs.rowsets ∷ vs.vectors ∷ [])) vs.count)
-  rising-vectors = ascending-ids (vs.tables ∷ vs.rowsets ∷ vs.vectors ∷ []) vs.added vs.deleted vs.count
-
-  pub order-columns : out_of_order (state_of m)
-      ≡ not (ascending plain (rows (across (ts.ids ∷ [])) ts.count)
-      && (ascending plain (rows (across (ps.tables ∷ ps.rowsets ∷ [])) ps.count) && ascending plain (rows (across (vs.tables ∷ vs.rowsets ∷ vs.vectors ∷ [])) vs.count)))
-  order-columns = ap not (ap₂ ◌&&◌ rising-tables (ap₂ ◌&&◌ rising-pairs rising-vectors))
-
-  pub own-columns : above_own (state_of m)
-      ≡ not (all_of (λ x. ltb x (state_of m).next_table) (rows (column ts.ids) ts.count)
-      && (all_of (within (state_of m).epoch ((state_of m).next_table ∷ (state_of m).next_rowset ∷ [])) (state_of m).pairs
-      && all_of (within (state_of m).epoch ((state_of m).next_table ∷ (state_of m).next_rowset ∷ (state_of m).next_vector ∷ [])) (state_of m).vectors))
-  own-columns =
-      ap (λ (b : Bool). not (b
-      && (all_of (within (state_of m).epoch ((state_of m).next_table ∷ (state_of m).next_rowset ∷ [])) (state_of m).pairs
-      && all_of (within (state_of m).epoch ((state_of m).next_table ∷ (state_of m).next_rowset ∷ (state_of m).next_vector ∷ [])) (state_of m).vectors)))
-      (below-tables ts.ids ts.shapes ts.lengths ts.names ts.locked ts.count (state_of m).next_table)
-
-  -- what the functions over columns ask of lists in order
-  pub ids-rise : Ordered (state_of m) → ascending plain (rows (across (ts.ids ∷ [])) ts.count) ≡ true
-  ids-rise o = sym rising-tables ∙ o.tables
-
-  pub pairs-rise : Ordered (state_of m) → ascending plain (rows (across (ps.tables ∷ ps.rowsets ∷ [])) ps.count) ≡ true
-  pairs-rise o = sym rising-pairs ∙ o.pairs
-
-  pub vectors-rise : Ordered (state_of m) → ascending plain (rows (across (vs.tables ∷ vs.rowsets ∷ vs.vectors ∷ [])) vs.count) ≡ true
-  vectors-rise o = sym rising-vectors ∙ o.vectors
-
-  pub vectors-sorted : Ordered (state_of m) → sorted plain (rows (across (vs.tables ∷ vs.rowsets ∷ [])) vs.count) ≡ true
-  vectors-sorted o = rising-prefix (vs.tables ∷ vs.rowsets ∷ vs.vectors ∷ []) vs.count 2 (vectors-rise o)
-
-  -- 29, test after test
-  abbrev after-order : Bool
-  after-order = above_own (state_of m) || left_behind (state_of m).epoch (state_of m)
-
-  pub bad-limits : beyond_limits m ≡ true → true ≡ bad_inner m
-  bad-limits h = caught (beyond_limits m) (out_of_order (state_of m) || after-order) h
-
-  module _ (l : beyond_limits m ≡ false) where
-    pub bad-order : out_of_order (state_of m) ≡ true → true ≡ bad_inner m
-    bad-order h = passed (beyond_limits m) (out_of_order (state_of m) || after-order) true l (caught (out_of_order (state_of m)) after-order h)
-
-    module _ (o : out_of_order (state_of m) ≡ false) where
-      pub bad-own : above_own (state_of m) ≡ true → true ≡ bad_inner m
-      bad-own h =
-          passed (beyond_limits m) (out_of_order (state_of m) || after-order) true l
-          (passed (out_of_order (state_of m)) after-order true o (caught (above_own (state_of m)) (left_behind (state_of m).epoch (state_of m)) h))
-
-      pub bad-left : (r : Bool) → above_own (state_of m) ≡ false → r ≡ left_behind (state_of m).epoch (state_of m) → r ≡ bad_inner m
-      bad-left r w h =
-          passed (beyond_limits m) (out_of_order (state_of m) || after-order) r l
-          (passed (out_of_order (state_of m)) after-order r o (passed (above_own (state_of m)) (left_behind (state_of m).epoch (state_of m)) r w h))

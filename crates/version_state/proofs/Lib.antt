@@ -1,5 +1,4 @@
 -- The laws that this crate's proofs cite. Assumes nothing.
 pub mod Facts
-pub mod Walks
 pub mod Within
 pub mod Stands

@@ -2,13 +2,14 @@
 use mathlib.Core.Path.{◌≡◌, refl}
 use mathlib.Core.Bool.{true, ◌&&◌}
 use mathlib.Core.List.{List, [], ◌∷◌}
-use Prim.Native.Nat.{ℕ, ◌≤◌}
+use Prim.Native.Nat.{ℕ, ◌+◌, ◌≤◌}
 use native.Mathlib.Omega.{arith}
 use lib.Dec.{leb, ltb}
 use borrow.Author.Tests.{leb-true, ltb-true, lt-ltb, le-leb}
+use Rattle.lists.specs.Keyed.{keep}
 use Rattle.lists.proofs.Tests.{clash, both, join}
-use Rattle.lists.proofs.Keyed.{All, all_map}
-use Rattle.snapshot.specs.Entries.{Entry, below_next, within}
+use Rattle.lists.proofs.Keyed.{All, all_map, keep_same}
+use Rattle.snapshot.specs.Entries.{Entry, below_next, within, gone_at, shown_at, shown_by}
 
 -- Next ids that rise.
 abbrev pub Rises : List ℕ → List ℕ → Type 0
@@ -43,3 +44,12 @@ of-within e ns x w = rw (le-leb x.added e w.added, le-leb x.deleted e w.deleted)
 pub within-up : (e d : ℕ) (ns ms : List ℕ) → e ≤ d → Rises ns ms → (l : List Entry) → All (Within e ns) l → All (Within d ms) l
 within-up e d ns ms h r l a =
     all_map l (λ x w. record { added = omega (arith, w.added); deleted = omega (arith, w.deleted); ids = below_up x.ids ns ms r w.ids }) a
+
+-- an epoch that nothing reaches shows what the one before it shows
+next-shown : (e : ℕ) (ns : List ℕ) (x : Entry) → Within e ns x → shown_by (e + 1) x ≡ shown_by e x
+unfolding shown_at gone_at
+next-shown e ns x w =
+    rw (le-leb x.added (e + 1) (omega (arith, w.added)), le-leb x.added e w.added, le-leb x.deleted (e + 1) (omega (arith, w.deleted)), le-leb x.deleted e w.deleted)
+
+pub shown-next : (e : ℕ) (ns : List ℕ) (l : List Entry) → All (Within e ns) l → keep (shown_by (e + 1)) l ≡ keep (shown_by e) l
+shown-next e ns l a = keep_same (shown_by (e + 1)) (shown_by e) l (all_map l (next-shown e ns) a)

@@ -6,15 +6,15 @@ use snapshot::rowsets::Rowsets;
 use snapshot::tables::Tables;
 use snapshot::vectors::Vectors;
 
-pub mod behind;
 pub mod limits;
+pub mod sound;
 pub mod stand;
 
 ghost use Rattle.std.specs.Prelude.{◌≡◌};
 ghost use Rattle.version_state.specs.State.{start, lengthened, Hands};
 ghost use Rattle.version_state.specs.Sound.{bad_inner};
 
-// The next id of each kind.
+// The next id of each kind. A vector's own ids are of these types too, and say something else: one type would be no plainer.
 #[repr(C)]
 #[derive(Clone, Copy)]
 pub struct NextIds {
@@ -23,6 +23,7 @@ pub struct NextIds {
     pub vector: VectorNo,
 }
 
+// `fresh` is no Default, which promises zeros: it promises the state at the start, and Default would be no plainer.
 #[repr(C)]
 #[derive(Clone, Copy)]
 pub struct VersionManagerInner {
@@ -32,17 +33,6 @@ pub struct VersionManagerInner {
     pub rowsets: Rowsets,
     pub vectors: Vectors,
     // The manifest's length.
-    pub manifest: usize,
-}
-
-// The numbers of a state whose columns are lent beside them: `tables`, `rowsets` and `vectors` are the counts.
-#[derive(Clone, Copy)]
-pub struct Held {
-    pub epoch: u32,
-    pub next: NextIds,
-    pub tables: usize,
-    pub rowsets: usize,
-    pub vectors: usize,
     pub manifest: usize,
 }
 
@@ -68,14 +58,14 @@ impl VersionManagerInner {
         }
     }
 
-    // 29
+    // Whether 29 refuses the state.
     pub fn bad(&self) -> bool
         ensures { result ≡ bad_inner self.now }
     {
         self.bad_with(0)
     }
 
-    // 29 with so many bytes more in the manifest. It looks neither at shapes nor at locks.
+    // The same, with `bytes` more bytes in the manifest. It looks neither at shapes nor at locks.
     pub fn bad_with(&self, bytes: usize) -> bool
         ensures { result ≡ bad_inner (lengthened bytes self.now) }
     {

@@ -1,4 +1,5 @@
-// The tests of 29 that look at one list at a time. All here is internal.
+// The tests of 29 that look at one list at a time. All here is internal. The structs of the C interface cannot say that their counts are
+// within the columns, so that each test asks for it.
 ghost use Rattle.std.specs.Prelude.{◌≡◌};
 ghost use Rattle.lists.specs.Keyed.{all_of};
 ghost use Rattle.text.specs.Name.{is_name};
@@ -16,32 +17,21 @@ impl VersionManagerInner {
         ensures { result ≡ all_of (λ t. is_name t.name) (state_of self.now).tables }
     {
         let classes = ByteClasses::new();
-        for i in 0..self.tables.count {
-            if !classes.is_name(self.tables.name(i)) {
-                return false;
-            }
-        }
-        true
+        (0..self.tables.count).all(|i| classes.is_name(self.tables.name(i)))
     }
 
-    // A list too long, a manifest too long with so many bytes more, or a name that is none.
+    // A list too long, a manifest too long with `bytes` more bytes, or a name that is none.
     pub(crate) fn beyond_limits(&self, bytes: usize) -> bool
         ensures { result ≡ beyond_limits (lengthened bytes self.now) }
     {
-        if MOST_TABLES < self.tables.count
+        // Each length is judged before the sum, which might wrap.
+        MOST_TABLES < self.tables.count
             || MOST_HELD < self.rowsets.count
             || MOST_HELD < self.vectors.count
-        {
-            return true;
-        }
-        // Each length is judged before the sum, which might wrap.
-        if LONGEST_MANIFEST < bytes
+            || LONGEST_MANIFEST < bytes
             || LONGEST_MANIFEST < self.manifest
             || LONGEST_MANIFEST < self.manifest + bytes
-        {
-            return true;
-        }
-        !self.names_valid()
+            || !self.names_valid()
     }
 
     // A list that does not rise strictly by its ids.

@@ -1,4 +1,5 @@
-// 17: what an epoch shows without what it rests on. All here is internal.
+// 17: what an epoch shows without what it rests on. All here is internal. The structs of the C interface cannot say that their counts are
+// within the columns and their lists in order, so that each function asks for it.
 ghost use Rattle.std.specs.Prelude.{◌≡◌, false};
 ghost use Rattle.lists.specs.Keyed.{keep, all_of};
 ghost use Rattle.snapshot.specs.Entries.{shown_by};
@@ -8,7 +9,8 @@ ghost use Rattle.version_state.specs.Sound.{has_table, has_rowset, out_of_order,
 use crate::VersionManagerInner;
 
 impl VersionManagerInner {
-    // Each vector that the epoch shows has its rowset among those that it shows. The two lists are walked side by side.
+    // Each vector that the epoch shows has its rowset among those that it shows. The two lists are walked side by side, as below: one
+    // function over both would be no plainer.
     fn vectors_stand(&self, epoch: u32) -> bool
         requires fits { Fit self.now }
         requires rises { out_of_order (state_of self.now) ≡ false }
@@ -24,7 +26,8 @@ impl VersionManagerInner {
         true
     }
 
-    // Each rowset that the epoch shows has its table. The two lists are walked side by side.
+    // Each rowset that the epoch shows has its table. The two lists are walked side by side, as above; a table is looked for by one
+    // id, and no epoch hides it, so that one function would be no plainer.
     fn rowsets_stand(&self, epoch: u32) -> bool
         requires fits { Fit self.now }
         requires rises { out_of_order (state_of self.now) ≡ false }

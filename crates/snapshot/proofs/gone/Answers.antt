@@ -3,10 +3,10 @@ use borrow.Author.Tests.{eq-eqb, ne_eqb}
 use Rattle.snapshot.specs.Entries.{gone_at}
 use Rattle.snapshot.proofs.gone.Goals as goal
 
-pub returns-then-deleted-eq0 : goal.returns-then-deleted-eq0
+pub returns-then-deleted-ne0 : goal.returns-then-deleted-ne0
 unfolding gone_at
-returns-then-deleted-eq0 c = rw (eq-eqb _ _ c.if-deleted-eq0.true)
+returns-then-deleted-ne0 c = rw (ne_eqb _ _ c.if-deleted-ne0.true)
 
-pub returns : goal.returns
+pub returns-else-deleted-ne0 : goal.returns-else-deleted-ne0
 unfolding gone_at
-returns c = rw (ne_eqb _ _ c.if-deleted-eq0.false)
+returns-else-deleted-ne0 c = rw (eq-eqb _ _ c.if-deleted-ne0.false)

@@ -2,17 +2,13 @@
 use mathlib.Core.Path.{ap}
 use mathlib.Core.Bool.{not}
 use borrow.Author.Tests.{le-leb, lt-leb}
-use Rattle.lists.proofs.Places.{known}
 use Rattle.snapshot.specs.Entries.{shown_at}
 use Rattle.snapshot.proofs.shown.Goals as goal
 
-pub returns-then-epoch-added : goal.returns-then-epoch-added
+pub returns-then-added-epoch : goal.returns-then-added-epoch
 unfolding shown_at
-returns-then-epoch-added c = rw (lt-leb _ _ c.if-epoch-added.true)
+returns-then-added-epoch c = rw (le-leb _ _ c.if-added-epoch.true) (ap not c.gone.ensures)
 
-pub gone-requires : goal.gone-requires
-gone-requires c = search known
-
-pub returns : goal.returns
+pub returns-else-added-epoch : goal.returns-else-added-epoch
 unfolding shown_at
-returns c = rw (le-leb _ _ c.if-epoch-added.false) (ap not c.gone.ensures)
+returns-else-added-epoch c = rw (lt-leb _ _ c.if-added-epoch.false)

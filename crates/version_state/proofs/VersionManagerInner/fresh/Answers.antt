@@ -1,16 +1,6 @@
 -- `version_state::VersionManagerInner::fresh` meets its contract.
 use native.Mathlib.Omega.{arith}
-use Rattle.lists.proofs.Places.{known}
 use Rattle.version_state.proofs.VersionManagerInner.fresh.Goals as goal
-
-pub none-tables-requires : goal.none-tables-requires
-none-tables-requires c = search known
-
-pub none-rowsets-requires : goal.none-rowsets-requires
-none-rowsets-requires c = search known
-
-pub none-vectors-requires : goal.none-vectors-requires
-none-vectors-requires c = search known
 
 pub returns : goal.returns
 returns c =

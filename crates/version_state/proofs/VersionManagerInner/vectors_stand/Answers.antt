@@ -1,20 +1,16 @@
 -- `version_state::VersionManagerInner::vectors_stand` meets its contract.
-use mathlib.Core.Path.{sym, ap, ◌∙◌}
-use mathlib.Core.Bool.{Bool, true}
-use Prim.Native.Nat.{ℕ}
-use borrow.Author.Tests.{not-true, not-false}
+use mathlib.Core.Path.{sym, ◌∙◌}
 use lib.ListN.{length, take, drop}
 use Rattle.std.proofs.lemmas.Iterator.Consumers.{YieldsList-from_first, YieldsList-turn, YieldsList-end}
 use Rattle.std.proofs.lemmas.List.{length_push}
 use Rattle.lists.specs.Keyed.{keep}
 use Rattle.lists.proofs.Keyed.{ascend-to}
 use Rattle.snapshot.specs.Entries.{by_ids, shown_by}
-use Rattle.snapshot.specs.Tables.{by_table}
 use Rattle.snapshot.specs.Views.{vector_of}
 use Rattle.snapshot.specs.Shown.{shown_vectors}
 use Rattle.version_state.specs.State.{state_of}
 use Rattle.version_state.proofs.Facts.{in_order}
-use Rattle.version_state.proofs.Stands.{stand, stand-stop, stand-more, stand-end, kept-prefix}
+use Rattle.version_state.proofs.Stands.{stand-stop, stand-more, stand-end, kept-prefix}
 use Rattle.version_state.proofs.VersionManagerInner.vectors_stand.Goals as goal
 
 pub returns-then-not-shows_at : goal.returns-then-not-shows_at
@@ -24,7 +20,7 @@ returns-then-not-shows_at c =
     let l = keep (shown_by c.args.epoch) (state_of c.args.self.now).vectors in
     let road = YieldsList-from_first vector_of shown_vectors {s = c.into_iter-v-iterator.result} l (cc) in
     let t = YieldsList-turn road c.loop-v.yielded c.loop-v.v-iterator c.loop-v.yielded_by _ c.next.new.self c.in-Some.v c.in-Some.is c.next.ensures.steps in
-    stand-stop (λ x. take 2 (by_ids x)) by_ids (shown_by c.args.epoch) l m (kept-prefix 2 (shown_by c.args.epoch) (state_of c.args.self.now).vectors o.vectors) (ascend-to by_ids m o.pairs) (length c.loop-v.yielded) c.loop-v.at c.from_on-at.result (vector_of c.in-Some.v) t.0 t.1 c.from_on-at.ensures c.loop-v.invariant (sym c.shows_at.ensures ∙ not-true _ c.if-not-shows_at.true-raw)
+    stand-stop (λ x. take 2 (by_ids x)) by_ids (shown_by c.args.epoch) l m (kept-prefix 2 (shown_by c.args.epoch) (state_of c.args.self.now).vectors o.vectors) (ascend-to by_ids m o.pairs) (length c.loop-v.yielded) c.loop-v.at c.from_on-at.result (vector_of c.in-Some.v) t.0 t.1 c.from_on-at.ensures c.loop-v.invariant (sym c.shows_at.ensures ∙ c.if-not-shows_at.true)
 
 pub loop-v-preserved : goal.loop-v-preserved
 loop-v-preserved c =
@@ -33,7 +29,7 @@ loop-v-preserved c =
     let l = keep (shown_by c.args.epoch) (state_of c.args.self.now).vectors in
     let road = YieldsList-from_first vector_of shown_vectors {s = c.into_iter-v-iterator.result} l (cc) in
     let t = YieldsList-turn road c.loop-v.yielded c.loop-v.v-iterator c.loop-v.yielded_by _ c.next.new.self c.in-Some.v c.in-Some.is c.next.ensures.steps in
-    let e = stand-more (λ x. take 2 (by_ids x)) by_ids (shown_by c.args.epoch) l m (kept-prefix 2 (shown_by c.args.epoch) (state_of c.args.self.now).vectors o.vectors) (ascend-to by_ids m o.pairs) (length c.loop-v.yielded) c.loop-v.at c.from_on-at.result (vector_of c.in-Some.v) t.0 t.1 c.from_on-at.ensures c.loop-v.invariant (sym c.shows_at.ensures ∙ not-false _ c.if-not-shows_at.false-raw) in
+    let e = stand-more (λ x. take 2 (by_ids x)) by_ids (shown_by c.args.epoch) l m (kept-prefix 2 (shown_by c.args.epoch) (state_of c.args.self.now).vectors o.vectors) (ascend-to by_ids m o.pairs) (length c.loop-v.yielded) c.loop-v.at c.from_on-at.result (vector_of c.in-Some.v) t.0 t.1 c.from_on-at.ensures c.loop-v.invariant (sym c.shows_at.ensures ∙ c.if-not-shows_at.false) in
     rw (length_push c.loop-v.yielded c.in-Some.v) e
 
 pub returns : goal.returns

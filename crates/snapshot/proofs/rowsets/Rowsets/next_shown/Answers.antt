@@ -1,27 +1,18 @@
 -- `snapshot::rowsets::Rowsets::next_shown` meets its contract.
-use mathlib.Core.Path.{sym, ◌∙◌}
+use mathlib.Core.Bool.{true, false}
 use mathlib.Core.List.{[], ◌∷◌}
-use Prim.Native.Nat.{◌≤◌}
-use lib.ListN.{length}
-use Rattle.snapshot.specs.Entries.{shown_by}
+use lib.ListN.{get_or}
+use Rattle.std.proofs.Common.{◌≡◌, rules, tests}
+use Rattle.std.proofs.lemmas.Iterator.{first_from_Range}
+use Rattle.snapshot.specs.Entries.{nothing, shown_by}
 use Rattle.snapshot.specs.Views.{rowsets_of}
-use Rattle.snapshot.proofs.ByPlace.{entries-room, show-this, show-past, show_none}
+use Rattle.snapshot.proofs.ByPlace.{entries-room}
+use Rattle.snapshot.proofs.Tested.{first-shown}
 use Rattle.snapshot.proofs.rowsets.Rowsets.next_shown.Goals as goal
-
-pub returns-then-shown_at : goal.returns-then-shown_at
-returns-then-shown_at c =
-    let s = c.args.self.now in
-    let w : c.args.end ≤ length (rowsets_of s) = entries-room (s.tables ∷ s.rowsets ∷ []) s.added s.deleted s.count c.args.end c.requires.inside in
-    (c.loop-i-test.true, c.loop-i.invariant ∙ show-this (shown_by c.args.epoch) (rowsets_of s) c.args.end c.loop-i.i w c.loop-i-test.true (sym c.shown_at.ensures ∙ c.if-shown_at.true))
-
-pub loop-i-preserved : goal.loop-i-preserved
-loop-i-preserved c =
-    let s = c.args.self.now in
-    let w : c.args.end ≤ length (rowsets_of s) = entries-room (s.tables ∷ s.rowsets ∷ []) s.added s.deleted s.count c.args.end c.requires.inside in
-    c.loop-i.invariant ∙ show-past (shown_by c.args.epoch) (rowsets_of s) c.args.end c.loop-i.i w c.loop-i-test.true (sym c.shown_at.ensures ∙ c.if-shown_at.false)
 
 pub returns : goal.returns
 returns c =
     let s = c.args.self.now in
-    let w : c.args.end ≤ length (rowsets_of s) = entries-room (s.tables ∷ s.rowsets ∷ []) s.added s.deleted s.count c.args.end c.requires.inside in
-    c.loop-i.invariant ∙ show_none (shown_by c.args.epoch) (rowsets_of s) c.args.end c.loop-i.i w c.loop-i-test.false
+    let l = rowsets_of s in
+    let p = shown_by c.args.epoch in
+    first-shown p l c.args.end (entries-room (s.tables ∷ s.rowsets ∷ []) s.added s.deleted s.count c.args.end c.requires.inside) c.args.from _ (first_from_Range _ _ _ _ (λ i. p (get_or l i nothing) ≡ true) (λ i. p (get_or l i nothing) ≡ false) c.find.ensures.ran (λ x q k. search (rules, tests)) (λ x q k. search (rules, tests)))

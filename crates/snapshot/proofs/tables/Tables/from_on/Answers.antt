@@ -1,16 +1,21 @@
 -- `snapshot::tables::Tables::from_on` meets its contract.
-use mathlib.Core.Path.{sym, ◌∙◌}
+use mathlib.Core.Path.{ap, ◌∙◌}
 use mathlib.Core.List.{[], ◌∷◌}
+use Prim.Native.Nat.{◌≤◌, ◌<◌}
+use lib.ListN.{drop}
+use Rattle.std.proofs.Common.{rules, tests}
+use Rattle.std.proofs.lemmas.Iterator.{first_from_Range}
+use Rattle.columns.specs.Rows.{column}
 use Rattle.snapshot.specs.Tables.{by_table, table_at}
+use Rattle.snapshot.specs.Views.{tables_of}
 use Rattle.snapshot.proofs.TableRows.{one-before, one-not-before}
-use Rattle.snapshot.proofs.ByPlace.{walk-stop, walk-on, walk-end}
+use Rattle.snapshot.proofs.Tested.{first-not-below}
 use Rattle.snapshot.proofs.tables.Tables.from_on.Goals as goal
 
-pub returns-then-self-i : goal.returns-then-self-i
-returns-then-self-i c = let s = c.args.self.now in walk-stop by_table (table_at s.ids s.shapes s.lengths s.names s.locked) s.count c.loop-i.i (c.args.table.0 ∷ []) c.loop-i-test.true (one-not-before _ _ c.if-self-i.true) ∙ c.loop-i.invariant
-
-pub loop-i-preserved : goal.loop-i-preserved
-loop-i-preserved c = let s = c.args.self.now in walk-on by_table (table_at s.ids s.shapes s.lengths s.names s.locked) s.count c.loop-i.i (c.args.table.0 ∷ []) c.loop-i-test.true (one-before _ _ c.if-self-i.false) ∙ c.loop-i.invariant
-
 pub returns : goal.returns
-returns c = let s = c.args.self.now in let h = c.loop-i-test.false in walk-end by_table (table_at s.ids s.shapes s.lengths s.names s.locked) s.count c.loop-i.i (c.args.table.0 ∷ []) h ∙ c.loop-i.invariant
+returns c =
+    let s = c.args.self.now in
+    let t = c.args.table.0 in
+    ap (λ i. drop i (tables_of s)) c.unwrap_or.ensures
+    ∙ first-not-below by_table (table_at s.ids s.shapes s.lengths s.names s.locked) s.count (t ∷ []) _ _ (λ i h e. one-not-before (column s.ids i) t e) (λ i h e. one-before (column s.ids i) t e) c.args.from _
+    (first_from_Range _ _ _ _ (λ i. t ≤ column s.ids i) (λ i. column s.ids i < t) c.find.ensures.ran (λ x q k. search (rules, tests)) (λ x q k. search (rules, tests)))

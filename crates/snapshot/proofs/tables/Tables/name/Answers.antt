@@ -8,4 +8,4 @@ use Rattle.snapshot.proofs.tables.Tables.name.Goals as goal
 pub returns-clause-told : goal.returns-clause-told
 returns-clause-told c =
     let s = c.args.self.now in
-    name-part s.lengths s.names c.args.i _ c.length_at.ensures.0 ∙ sym (ap (λ (x : TableEntry). x.name) (rows_at (table_at s.ids s.shapes s.lengths s.names s.locked) s.count c.args.i no_table c.requires.inside))
+    name-part s.lengths s.names c.args.i _ c.length.ensures.told ∙ sym (ap (λ (x : TableEntry). x.name) (rows_at (table_at s.ids s.shapes s.lengths s.names s.locked) s.count c.args.i no_table c.requires.inside))

@@ -1,8 +1,0 @@
--- `snapshot::rowsets::Rowsets::keep` meets its contract.
-use Rattle.snapshot.proofs.Entries.{AllKept, kept-entries, kept-like}
-use Rattle.snapshot.proofs.rowsets.Rowsets.keep.Goals as goal
-
-pub returns-clause-told : goal.returns-clause-told
-returns-clause-told c =
-    let last = c.keep-left.ensures in
-    kept-entries _ _ _ _ _ _ _ (AllKept.more (kept-like _ _ _ _ _ _ _ _ c.keep.ensures last) (AllKept.more (kept-like _ _ _ _ _ _ _ _ c.keep-2.ensures last) AllKept.none)) (kept-like _ _ _ _ _ _ _ _ c.keep-3.ensures last) last
