@@ -15,11 +15,11 @@ use Rattle.ids.specs.Verdicts.{judged, Verdict}
 use Rattle.ids.specs.Results.{and_then}
 use Rattle.manifest.specs.Operations.{Operation}
 use Rattle.version_state.specs.declared.VersionManagerInner.{VersionManagerInner}
-use Rattle.version_state.specs.State.{State, state_of, with_epoch, Hands}
+use Rattle.version_state.specs.State.{State, state_of, with_epoch, Fit, Hands}
 use Rattle.version_state.specs.Sound.{bad_inner}
 use Rattle.version_state.proofs.Facts.{sound-of}
 use Rattle.operations.specs.Steps.{step_of, steps_of}
-use Rattle.operations.specs.Ready.{Ready, StepIs}
+use Rattle.operations.specs.Ready.{Ready, Leaves}
 use Rattle.commit.specs.Commit.{append_of, last_rules, finish_of, commit_of, CommitIs}
 use Rattle.commit.specs.Lent.{operations_in}
 use Rattle.commit.proofs.Stepwise.{went, halted, halts, goes}
@@ -31,23 +31,24 @@ ready_of m b =
     let s = sound-of m b in
     (record { fits = s.fits; tables = s.ordered.tables; pairs = s.ordered.pairs; vectors = s.ordered.vectors; below = s.below }, s.manifest)
 
--- Operations under way from the state s at epoch e: before those from i on, which are `rest`, m holds what is left.
-pub record Going (s : State) (e : ℕ) (os : List Operation) (i : ℕ) (rest : List Operation) (m : VersionManagerInner) : Type 0 where
-  pub ready : Ready m
-  pub same : steps_of 0 e os s ≡ steps_of i e rest (state_of m)
+-- what is left, n, is handed back
+pub handed : (m n : VersionManagerInner) → m ≡ n → Fit n → Hands m (state_of n)
+handed m n e f = rw e (record { fits = f; state = refl })
+
+-- Operations under way from the state s at epoch e: before those from i on, which are `rest`, t is left.
+abbrev pub Going : State → ℕ → List Operation → ℕ → List Operation → State → Type 0
+Going s e os i rest t = steps_of 0 e os s ≡ steps_of i e rest t
 
 module _ (s : State) (e : ℕ) (os : List Operation) where
-  module _ (i : ℕ) (o : Operation) (rest : List Operation) (m n : VersionManagerInner) (g : Going s e os i (o ∷ rest) m) where
-    pub go_on : StepIs (step_of i e o (state_of m)) (Ok tt) n → Going s e os (i + 1) rest n
-    go_on t =
-        let w = went _ n t in
-        record { ready = w.1; same = g.same ∙ ap (λ (x : Result State Refusal). and_then x (λ u. steps_of (i + 1) e rest u)) w.0 }
+  module _ (i : ℕ) (o : Operation) (rest : List Operation) (t u : State) (g : Going s e os i (o ∷ rest) t) where
+    pub go_on : Leaves (step_of i e o t) (Ok tt) u → Going s e os (i + 1) rest u
+    go_on h = g ∙ ap (λ (x : Result State Refusal). and_then x (λ u. steps_of (i + 1) e rest u)) (went _ u h)
 
-    pub go-off : (k : Refusal) → StepIs (step_of i e o (state_of m)) (Err k) n → StepIs (steps_of 0 e os s) (Err k) n
-    go-off k t = halts _ k n (g.same ∙ ap (λ (x : Result State Refusal). and_then x (λ u. steps_of (i + 1) e rest u)) (halted _ k n t))
+    pub go-off : (k : Refusal) → Leaves (step_of i e o t) (Err k) u → Leaves (steps_of 0 e os s) (Err k) u
+    go-off k h = halts _ k u (g ∙ ap (λ (x : Result State Refusal). and_then x (λ u. steps_of (i + 1) e rest u)) (halted _ k u h))
 
-  pub gone : (i : ℕ) (m : VersionManagerInner) → Going s e os i [] m → StepIs (steps_of 0 e os s) (Ok tt) m
-  gone i m g = goes _ m g.same g.ready
+  pub gone : (i : ℕ) (t : State) → Going s e os i [] t → Leaves (steps_of 0 e os s) (Ok tt) t
+  gone i t g = goes _ t g
 
 -- The first tests of a commit of operations lent as lines.
 module _ (s : List ℕ) (room : ℕ) (m : VersionManagerInner) where
@@ -72,12 +73,12 @@ module _ (s : List ℕ) (room : ℕ) (m : VersionManagerInner) where
       begun : (x : Result State Refusal) → steps_of 0 e os (state_of m) ≡ x → outcome ≡ and_then x (finish_of e os room)
       begun x h = rw (le-ltb most_operations (length os) few, lt-leb last_epoch m.epoch early, h)
 
-      pub steps-off : (k : Refusal) → StepIs (steps_of 0 e os (state_of m)) (Err k) n → outcome ≡ Err k
-      steps-off k t = begun (Err k) (halted _ k n t)
+      pub steps-off : (k : Refusal) → Leaves (steps_of 0 e os (state_of m)) (Err k) (state_of n) → outcome ≡ Err k
+      steps-off k t = begun (Err k) (halted _ k _ t)
 
-      module _ (t : StepIs (steps_of 0 e os (state_of m)) (Ok tt) n) where
+      module _ (t : Leaves (steps_of 0 e os (state_of m)) (Ok tt) (state_of n)) where
         done : steps_of 0 e os (state_of m) ≡ Ok (state_of n)
-        done = (went _ n t).0
+        done = went _ _ t
 
         stepped-append : append_of os ≡ lent_append s
         stepped-append = append-lent s e (state_of m) (state_of n) done

@@ -48,7 +48,7 @@ record Kept (e : ℕ) (s : State) : Type 0 where
   vectors : All (Within e (s.next_table ∷ s.next_rowset ∷ s.next_vector ∷ [])) s.vectors
 
 -- what holds of every key of a list holds of a key that it has
-has_all : {A : Type 0} (key : A → List ℕ) (P : List ℕ → Type 0) (k : List ℕ) (l : List A) → All (λ x. P (key x)) l → has key k l ≡ true → P k
+pub has_all : {A : Type 0} (key : A → List ℕ) (P : List ℕ → Type 0) (k : List ℕ) (l : List A) → All (λ x. P (key x)) l → has key k l ≡ true → P k
 has_all key P k [] a h = clash h refl
 has_all key P k (x ∷ l) a h =
     by_cases (same (key x) k)

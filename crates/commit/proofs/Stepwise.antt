@@ -9,12 +9,11 @@ use Rattle.ids.specs.declared.refusal.Refusal.{Refusal}
 use Rattle.ids.specs.Verdicts.{judged, Verdict}
 use Rattle.ids.specs.Results.{and_then}
 use Rattle.manifest.specs.Operations.{Operation}
-use Rattle.version_state.specs.declared.VersionManagerInner.{VersionManagerInner}
-use Rattle.version_state.specs.State.{State, state_of}
+use Rattle.version_state.specs.State.{State}
 use Rattle.operations.specs.Effect.{applied}
 use Rattle.operations.specs.Judge.{op_rules}
 use Rattle.operations.specs.Steps.{step_of, steps_of}
-use Rattle.operations.specs.Ready.{Ready, StepIs}
+use Rattle.operations.specs.Ready.{Leaves}
 
 pub halt : {k : Refusal} {s : State} → Err k ≡ Ok s → ⊥
 halt h = let z : ◌≡◌ {A = ℕ} 0 1 = cc in omega arith
@@ -45,23 +44,23 @@ steps-keep P e k i (o ∷ os) s t p h =
     go (Err r) a h ih = absurd (halt h)
 
 -- what a step tells where it is accepted, and where it is not
-pub went : (x : Result State Refusal) (m : VersionManagerInner) → StepIs x (Ok tt) m → (x ≡ Ok (state_of m)) × Ready m
-unfolding StepIs
-went (Ok s) m h = (ap Ok (sym h.1), h.2)
-went (Err k) m h = cc
+pub went : (x : Result State Refusal) (t : State) → Leaves x (Ok tt) t → x ≡ Ok t
+unfolding Leaves
+went (Ok s) t h = ap Ok (sym h.1)
+went (Err k) t h = cc
 
-pub halted : (x : Result State Refusal) (k : Refusal) (m : VersionManagerInner) → StepIs x (Err k) m → x ≡ Err k
-unfolding StepIs
-halted (Ok s) k m h = cc
-halted (Err j) k m h = cc
+pub halted : (x : Result State Refusal) (k : Refusal) (t : State) → Leaves x (Err k) t → x ≡ Err k
+unfolding Leaves
+halted (Ok s) k t h = cc
+halted (Err j) k t h = cc
 
-pub halts : (x : Result State Refusal) (k : Refusal) (m : VersionManagerInner) → x ≡ Err k → StepIs x (Err k) m
-unfolding StepIs
-halts x k m h = rw h
+pub halts : (x : Result State Refusal) (k : Refusal) (t : State) → x ≡ Err k → Leaves x (Err k) t
+unfolding Leaves
+halts x k t h = rw h refl
 
-pub goes : (x : Result State Refusal) (m : VersionManagerInner) → x ≡ Ok (state_of m) → Ready m → StepIs x (Ok tt) m
-unfolding StepIs
-goes x m h y = rw h (refl, refl, y)
+pub goes : (x : Result State Refusal) (t : State) → x ≡ Ok t → Leaves x (Ok tt) t
+unfolding Leaves
+goes x t h = rw h (refl, refl)
 
 pub steps-manifest : (e : ℕ) (os : List Operation) (s t : State) → steps_of 0 e os s ≡ Ok t → t.manifest ≡ s.manifest
 steps-manifest e os s t h = steps-keep (λ u. u.manifest ≡ s.manifest) e (λ i o u p a. p) 0 os s t refl h

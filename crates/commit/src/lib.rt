@@ -12,6 +12,7 @@ ghost use Rattle.commit.specs.Laws.{CommitLaws};
 
 use ids::limits::{LAST_EPOCH, LONGEST_MANIFEST, MOST_OPERATIONS};
 use ids::refusal::Refusal;
+use operations::working::Working;
 use text::ByteClasses;
 use version_state::VersionManagerInner;
 
@@ -24,15 +25,14 @@ pub fn holds()
 {}
 
 // Internal, as is what follows. What is judged after the operations, for an append of `size` bytes and a lent buffer of `room`.
-fn ending(inner: &VersionManagerInner, epoch: u32, size: usize, room: usize) -> Result<(), Refusal>
-    requires ready { Ready inner.now }
-    requires manifest { inner.now.manifest ≤ longest_manifest }
-    ensures { result ≡ judged (last_rules epoch (state_of inner.now) size room) }
+fn ending(working: &Working<'_>, size: usize, room: usize) -> Result<(), Refusal>
+    requires { working.now.inner.now.manifest ≤ longest_manifest }
+    ensures { result ≡ judged (last_rules working.now.epoch (state_of working.now.inner.now) size room) }
 {
-    if inner.left_behind(epoch) {
+    if working.inner.left_behind(working.epoch) {
         return Err(Refusal::LeftBehind);
     }
-    if LONGEST_MANIFEST - inner.manifest < size {
+    if LONGEST_MANIFEST - working.inner.manifest < size {
         return Err(Refusal::ManifestFull);
     }
     if room < size {
@@ -41,8 +41,7 @@ fn ending(inner: &VersionManagerInner, epoch: u32, size: usize, room: usize) -> 
     Ok(())
 }
 
-// Operations lent as lines; answers how many bytes there are to append: `B`, the lent bytes, `E`. What a refusal leaves of the state is
-// of no use.
+// Operations lent as lines; answers how many bytes there are to append: `!`, `B`, the lent bytes, `E`. After a refusal the state is not to be used.
 pub fn commit_lines(
     inner: &mut VersionManagerInner,
     ops: &[u8],
@@ -59,11 +58,12 @@ pub fn commit_lines(
         return Err(Refusal::EpochsFull);
     }
     let epoch = inner.epoch + 1;
-    lines::steps(inner, epoch, &ByteClasses::new(), ops)?;
+    let mut working = Working { inner, epoch };
+    lines::steps(&mut working, &ByteClasses::new(), ops)?;
     let size = ops.len() + 6;
-    ending(inner, epoch, size, out.len())?;
+    ending(&working, size, out.len())?;
     frames::put_append(out, ops);
-    inner.epoch = epoch;
-    inner.manifest += size;
+    working.inner.epoch = epoch;
+    working.inner.manifest += size;
     Ok(size)
 }

@@ -3,16 +3,17 @@ ghost use Rattle.std.specs.Prelude.{◌≡◌, length};
 ghost use Rattle.manifest.specs.Operations.{next_ids, operation_of};
 ghost use Rattle.operations.specs.Steps.{steps_of};
 ghost use Rattle.version_state.specs.State.{state_of};
-ghost use Rattle.operations.specs.Ready.{Ready, StepIs};
+ghost use Rattle.operations.specs.Ready.{Leaves};
+ghost use Rattle.operations.specs.Working.{Same};
 ghost use Rattle.commit.specs.Lent.{piece_said, operations_in};
 
 use ids::refusal::Refusal;
 use ids::{RowsetNo, TableNo, VectorNo};
 use manifest::operation::{EpochOp, ManifestOperation};
+use operations::working::Working;
 use text::ByteClasses;
-use version_state::VersionManagerInner;
 
-// What is no line of an operation stands as `N`, which is no operation of a commit.
+// A piece that is no operation becomes an `N`, which every commit refuses.
 pub fn none() -> EpochOp
     ensures { operation_of result ≡ next_ids 0 0 0 }
 {
@@ -38,17 +39,12 @@ pub fn count(ops: &[u8]) -> usize
 }
 
 // Each operation in order.
-pub fn steps(
-    inner: &mut VersionManagerInner,
-    epoch: u32,
-    classes: &ByteClasses,
-    ops: &[u8],
-) -> Result<(), Refusal>
-    requires ready { Ready inner.old }
-    ensures { StepIs (steps_of 0 epoch (operations_in ops.now) (state_of inner.old)) result inner.new }
+pub fn steps(working: &mut Working<'_>, classes: &ByteClasses, ops: &[u8]) -> Result<(), Refusal>
+    ensures told { Leaves (steps_of 0 working.old.epoch (operations_in ops.now) (state_of working.old.inner.now)) result (state_of working.new.inner.now) }
+    ensures same { Same working.old working.new }
 {
     for (i, piece) in ops.split_inclusive(|b| *b == b'\n').enumerate() {
-        operations::step(inner, i, epoch, said(classes, piece))?;
+        working.step(i, said(classes, piece))?;
     }
     Ok(())
 }

@@ -10,7 +10,7 @@ use ids::limits::LINE_BYTES;
 use manifest::operation::{Batch, EpochOp};
 use text::ByteClasses;
 
-// An operation that is not well formed becomes `N`, which is refused at its place as that one is.
+// An operation that is not well formed becomes an `N`, which is refused at the same place, by the same number.
 fn as_line(classes: &ByteClasses, change: EpochOp) -> EpochOp
     ensures { operation_of result ≡ as_line (operation_of change) }
 {
@@ -34,7 +34,8 @@ pub fn put_lines(out: &mut [u8], batch: Batch) -> usize
 {
     let classes = ByteClasses::new();
     let mut at = 0;
-    for change in &batch.changes[..batch.count] {
+    let changes = &batch.changes[..batch.count];
+    for change in changes {
         at = frames::put_line(out, at, as_line(&classes, *change));
     }
     at

@@ -1,5 +1,5 @@
--- What an accepted operation keeps: order, lengths within the limits, tables below the next id; and so a step leaves a state ready for the next. Assumes nothing.
-use mathlib.Core.Path.{◌≡◌, refl, sym, subst}
+-- What an accepted operation keeps: order, tables below the next id, lengths within the limits. Assumes nothing.
+use mathlib.Core.Path.{◌≡◌}
 use mathlib.Core.Bool.{true}
 use mathlib.Core.List.{List}
 use Prim.Native.Nat.{ℕ, ◌≤◌}
@@ -7,25 +7,22 @@ use native.Mathlib.Omega.{arith}
 use lib.Dec.{ltb}
 use lib.ListN.{length}
 use borrow.Author.Tests.{ltb-true, lt-ltb}
-use Rattle.std.specs.Prelude.{Ok, Err}
-use Rattle.std.specs.Result.{result_and}
+use Rattle.std.specs.Prelude.{Ok}
 use Rattle.lists.specs.Keyed.{ascending}
-use Rattle.lists.proofs.Keyed.{All, all_map, all_of-all, all-all_of, ascend-to, ascend-from}
+use Rattle.lists.proofs.Keyed.{All, all_map, ascend-to, ascend-from}
 use Rattle.ids.specs.Limits.{most_tables, most_held}
 use Rattle.ids.specs.Verdicts.{judged, Verdict}
 use Rattle.manifest.specs.Operations.{Operation, well_formed}
 use Rattle.manifest.specs.Edits.{Edit, edits_of}
 use Rattle.snapshot.specs.Entries.{Entry, by_ids}
 use Rattle.snapshot.specs.Tables.{TableEntry, by_table}
-use Rattle.version_state.specs.declared.VersionManagerInner.{VersionManagerInner}
-use Rattle.version_state.specs.State.{State, state_of}
+use Rattle.version_state.specs.State.{State}
 use Rattle.version_state.proofs.Facts.{Ordered}
 use Rattle.version_state.specs.Sets.{next_of}
 use Rattle.operations.specs.Effect.{edited, marked, as_entry, raised, applied}
-use Rattle.operations.specs.Judge.{state_rules, op_rules}
+use Rattle.operations.specs.Judge.{op_rules}
 use Rattle.operations.specs.Steps.{step_of}
-use Rattle.operations.specs.Ready.{Leaves, Turned, Ready, StepIs}
-use Rattle.operations.proofs.Turns.{tables-count, rowsets_count, vectors-count}
+use Rattle.operations.specs.Ready.{Leaves, Turned}
 use Rattle.operations.proofs.Edits.{adds_map, all-edited, ascending-edited, ascending-marked, rises, passed, fits, short-edited, short-marked}
 
 ordered-marked : (e : ℕ) (d : Edit (List ℕ)) (l : List Entry) → ascending by_ids l ≡ true → ascending by_ids (marked e d l) ≡ true
@@ -69,44 +66,7 @@ short-applied i e o s a r =
       vectors = short-marked e d.vectors s.vectors f.vectors r.vectors;
     }
 
--- A state that stands for what is left is ready.
-module _ (m : VersionManagerInner) where
-  short : Ready m → Short (state_of m)
-  short y =
-      record {
-        tables = omega (arith, y.fits.tables, tables-count m.tables);
-        pairs = omega (arith, y.fits.rowsets, rowsets_count m.rowsets);
-        vectors = omega (arith, y.fits.vectors, vectors-count m.vectors);
-      }
-
-  ready_of : (s : State) → state_of m ≡ s → Short s → Ordered s → Below s.next_table s.tables → Ready m
-  ready_of s q f o b =
-      let g = subst Short (sym q) f in
-      let p = subst Ordered (sym q) o in
-      let y = subst (λ (t : State). Below t.next_table t.tables) (sym q) b in
-      record {
-        fits =
-            record {
-              tables = omega (arith, g.tables, tables-count m.tables);
-              rowsets = omega (arith, g.pairs, rowsets_count m.rowsets);
-              vectors = omega (arith, g.vectors, vectors-count m.vectors);
-            };
-        tables = p.tables;
-        pairs = p.pairs;
-        vectors = p.vectors;
-        below = all-all_of _ (state_of m).tables y;
-      }
-
--- what a kind of operation did is a step
-pub turned_step : (i e : ℕ) (o : Operation) (m : VersionManagerInner) (v : Verdict) (n : VersionManagerInner) → Ready m → well_formed o ≡ true
-    → Turned i e o (state_of m) v (state_of n) → StepIs (step_of i e o (state_of m)) v n
-unfolding step_of StepIs Turned Leaves
-turned_step i e o m v n y f t = rw f (go (judged (state_rules i e o (state_of m))) refl t)
-  where
-    go : (w : Verdict) → judged (state_rules i e o (state_of m)) ≡ w → Leaves (result_and w (Ok (applied e o (state_of m)))) v (state_of n)
-        → StepIs (result_and w (Ok (applied e o (state_of m)))) v n
-    go (Ok _) a k =
-        let s = state_of m in
-        let j : judged (op_rules i e o s) ≡ Ok tt = rw f a in
-        (k.0, k.1, ready_of n (applied e o s) k.1 (short-applied i e o s j (short m y)) (ordered-applied e o s (record { tables = y.tables; pairs = y.pairs; vectors = y.vectors })) (below-applied e o s (all_of-all _ s.tables y.below)))
-    go (Err x) a k = k
+-- a well-formed operation is judged by its rules on the state alone
+pub turned_step : (i e : ℕ) (o : Operation) (s : State) (v : Verdict) (t : State) → well_formed o ≡ true → Turned i e o s v t → Leaves (step_of i e o s) v t
+unfolding step_of Turned
+turned_step i e o s v t f h = rw f h

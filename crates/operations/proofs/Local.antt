@@ -1,6 +1,6 @@
 -- An operation's verdict rests on the entries of its table. Assumes nothing.
 use mathlib.Core.Path.{◌≡◌, refl, sym, ap, ◌∙◌}
-use mathlib.Core.Bool.{Bool, true, false, ◌&&◌}
+use mathlib.Core.Bool.{Bool, true, false, ◌&&◌, and_comm}
 use mathlib.Core.List.{List, [], ◌∷◌}
 use Prim.Native.Nat.{ℕ}
 use lib.Dec.{eqb}
@@ -26,14 +26,8 @@ has_of t k (x ∷ l) =
     (λ e. rw (e, ← has_of t k l))
     (λ e. rw (e, apart t k x.ids e) (has_of t k l))
 
-and-swap : (a b : Bool) → a && b ≡ b && a
-and-swap true true = refl
-and-swap true false = refl
-and-swap false true = refl
-and-swap false false = refl
-
 keep-swap : (p q : Entry → Bool) (l : List Entry) → keep p (keep q l) ≡ keep q (keep p l)
-keep-swap p q l = keep-keep p q l ∙ keep_same _ _ l (all_any l (λ x. and-swap (q x) (p x))) ∙ sym (keep-keep q p l)
+keep-swap p q l = keep-keep p q l ∙ keep_same _ _ l (all_any l (λ x. and_comm (q x) (p x))) ∙ sym (keep-keep q p l)
 
 shown_of : (e t : ℕ) (k : List ℕ) (l m : List Entry) → keep (of_table t) l ≡ keep (of_table t) m → is_shown e (t ∷ k) l ≡ is_shown e (t ∷ k) m
 shown_of e t k l m h = part l ∙ ap (λ (n : List Entry). has by_ids (t ∷ k) (keep (shown_by e) n)) h ∙ sym (part m)

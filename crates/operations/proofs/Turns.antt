@@ -6,13 +6,13 @@ use Prim.Native.Nat.{ℕ, ◌+◌, ◌<◌, max}
 use native.Mathlib.Omega.{arith}
 use lib.Dec.{leb, ltb}
 use lib.ListN.{length}
-use borrow.Author.Tests.{leb-false, lt-leb}
+use borrow.Author.Tests.{leb-false, lt-leb, ltb-true, lt-ltb}
 use Rattle.std.specs.Prelude.{Ok}
 use Rattle.std.specs.Ordering.{is_le, nat_cmp}
 use Rattle.std.proofs.lemmas.Bool.Decides.{nat_tests}
-use Rattle.lists.specs.Keyed.{all_of, has, put}
+use Rattle.lists.specs.Keyed.{all_of, has, put, without, ascending}
 use Rattle.lists.proofs.Order.{lex-last}
-use Rattle.lists.proofs.Keyed.{all_map, all_of-all, put_last}
+use Rattle.lists.proofs.Keyed.{All, all_map, all_of-all, all-all_of, all_keep, all-put, put_last, ascend-to, ascend-from, ascending-keep, ascending-put}
 use Rattle.ids.specs.Limits.{most_held}
 use Rattle.manifest.specs.Operations.{add_rowset, add_vector}
 use Rattle.columns.proofs.Rows.{rows-length}
@@ -65,6 +65,18 @@ pub create-last : (l : List TableEntry) (n t h : ℕ) (name : List ℕ) → all_
 create-last l n t h name b e =
     put_last by_table (created t h name) l
     (all_map l (λ x k. lex-last x.table t ∙ rw e k) (all_of-all (λ x. ltb x.table n) l b))
+
+-- what is left of the tables, or a table more with the next id, stays in order and below the next id
+pub tables-left : (n : ℕ) (k : List ℕ) (l : List TableEntry) → ascending by_table l ≡ true → all_of (λ x. ltb x.table n) l ≡ true
+    → (ascending by_table (without by_table k l) ≡ true) × (all_of (λ x. ltb x.table n) (without by_table k l) ≡ true)
+tables-left n k l a b = (ascend-from by_table _ (ascending-keep by_table _ l (ascend-to by_table l a)), all-all_of _ _ (all_keep _ _ l (all_of-all _ l b)))
+
+pub tables-more : (n t h : ℕ) (name : List ℕ) (l : List TableEntry) → ascending by_table l ≡ true → all_of (λ x. ltb x.table n) l ≡ true → t ≡ n
+    → (ascending by_table (l ++ (created t h name ∷ [])) ≡ true) × (all_of (λ x. ltb x.table (t + 1)) (l ++ (created t h name ∷ [])) ≡ true)
+tables-more n t h name l a b e =
+    let x = created t h name in
+    let up : All (λ y. ltb y.table (t + 1) ≡ true) l = all_map l (λ y k. lt-ltb y.table (t + 1) (omega (arith, ltb-true y.table n k, e))) (all_of-all (λ y. ltb y.table n) l b) in
+    rw (← create-last l n t h name b e) (ascend-from by_table _ (ascending-put by_table x l (ascend-to by_table l a)), all-all_of _ _ (all-put by_table _ x l (lt-ltb t (t + 1) (omega arith)) up))
 
 pub ruleset table_turns = (tables-count, create-last)
 

@@ -3,4 +3,5 @@ pub mod Effect
 pub mod Judge
 pub mod Steps
 pub mod Ready
+pub mod Working
 pub mod Laws

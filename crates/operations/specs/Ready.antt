@@ -9,7 +9,7 @@ use Rattle.snapshot.specs.Entries.{by_ids}
 use Rattle.snapshot.specs.Tables.{by_table}
 use Rattle.snapshot.specs.Views.{tables_of, rowsets_of, vectors_of}
 use Rattle.version_state.specs.declared.VersionManagerInner.{VersionManagerInner}
-use Rattle.version_state.specs.State.{State, state_of, Fit}
+use Rattle.version_state.specs.State.{State, Fit}
 use Rattle.operations.specs.Effect.{applied}
 use Rattle.operations.specs.Judge.{state_rules}
 
@@ -29,8 +29,3 @@ pub record Ready (m : VersionManagerInner) : Type 0 where
   pub pairs : ascending by_ids (rowsets_of m.rowsets) ≡ true
   pub vectors : ascending by_ids (vectors_of m.vectors) ≡ true
   pub below : all_of (λ t. ltb t.table m.next.table.0) (tables_of m.tables) ≡ true
-
--- a step is accepted and leaves a state ready for the next, or it is refused
-unfoldable pub StepIs : Result State Refusal → Verdict → VersionManagerInner → Type 0
-StepIs (Ok s) v m = (v ≡ Ok tt) × (state_of m ≡ s) × Ready m
-StepIs (Err k) v m = v ≡ Err k
