@@ -1,6 +1,5 @@
 -- The proofs of this crate. Assumes nothing.
-pub mod Loops
-pub mod Marking
+pub mod Searched
 pub mod Lines
-pub mod Judging
+pub mod Filtered
 pub mod Whole

@@ -1,77 +1,44 @@
-// The vectors over taken rowsets. All here is internal.
-ghost use Rattle.std.specs.Prelude.{◌≡◌, true, ◌&&◌, [], ◌∷◌, ◌≤◌, ◌<◌, length};
-ghost use Rattle.lists.specs.Keyed.{ascending};
-ghost use Rattle.ids.specs.Limits.{most_held};
-ghost use Rattle.columns.specs.Rows.{rows, column, marks};
-ghost use Rattle.snapshot.specs.Entries.{shown_at};
-ghost use Rattle.snapshot.specs.Picked.{places_of};
-ghost use Rattle.table.specs.Made.{by_number, is_over};
+// The vectors over taken rowsets.
+ghost use Rattle.std.specs.Prelude.{◌≡◌, map, ◌+◌, ◌*◌, ◌≤◌, length};
+ghost use Rattle.lists.specs.Keyed.{keep};
+ghost use Rattle.lists.specs.Written.{Wrote};
+ghost use Rattle.ids.specs.Limits.{longest_line};
+ghost use Rattle.frames.specs.Frames.{texts_of};
+ghost use Rattle.version_state.specs.State.{state_of, vectors_at};
+ghost use Rattle.table.specs.Made.{is_over, delete_vector_of};
 
-use crate::taken::among;
-use ids::TableNo;
-use ids::limits::MOST_HELD;
+use crate::Compaction;
+use manifest::operation::EpochOp;
 
-// Whether the vector at a place is one, and the epoch shows it.
-fn stands<'a>(
-    tables: &'a [u32; MOST_HELD],
-    rowsets: &'a [u32; MOST_HELD],
-    added: &'a [u32; MOST_HELD],
-    deleted: &'a [u32; MOST_HELD],
-    at: usize,
-    epoch: u32,
-    table: TableNo,
-    taken: &'a [u32],
-) -> bool
-    requires { (at < most_held) × (ascending by_number taken.now ≡ true) }
-    ensures { result ≡ shown_at epoch (column added.now at) (column deleted.now at) && is_over table.0 taken.now (column tables.now at ∷ column rowsets.now at ∷ []) }
-{
-    if !snapshot::shown(added[at], deleted[at], epoch) {
-        return false;
+impl Compaction<'_> {
+    // How many the epoch shows.
+    pub(crate) fn count_over(&self) -> usize
+        ensures { result ≡ length (keep (is_over self.now.table.0 self.now.taken.now) (vectors_at self.now.state.inner.now.epoch (state_of self.now.state.inner.now))) }
+    {
+        self.state
+            .inner
+            .vectors
+            .shown_of(self.table, self.state.inner.epoch)
+            .filter(|v| self.takes(v.rowset))
+            .count()
     }
-    if tables[at] != table.0 {
-        return false;
-    }
-    among(taken, rowsets[at])
-}
 
-// Which of the first `count` vectors they are.
-pub fn marks<'a>(
-    tables: &'a [u32; MOST_HELD],
-    rowsets: &'a [u32; MOST_HELD],
-    added: &'a [u32; MOST_HELD],
-    deleted: &'a [u32; MOST_HELD],
-    count: usize,
-    epoch: u32,
-    table: TableNo,
-    taken: &'a [u32],
-) -> [bool; MOST_HELD]
-    requires { (count ≤ most_held) × (ascending by_number taken.now ≡ true) }
-    ensures { rows (marks result) count ≡ rows (λ i. shown_at epoch (column added.now i) (column deleted.now i) && is_over table.0 taken.now (column tables.now i ∷ column rowsets.now i ∷ [])) count }
-{
-    let mut over = [false; MOST_HELD];
-    let mut i = 0;
-    while i < count {
-        let is = stands(tables, rowsets, added, deleted, i, epoch, table, taken);
-        over[i] = is;
-        i += 1;
-    }
-    over
-}
-
-// How many of the first `count` are marked.
-pub fn number(over: &[bool; MOST_HELD], count: usize) -> usize
-    requires { count ≤ most_held }
-    ensures { result ≡ length (places_of (marks over.now) count) }
-{
-    let mut n: usize = 0;
-    let mut i = 0;
-    while i < count {
-        if over[i] {
-            n += 1;
-            i += 1;
-        } else {
-            i += 1;
+    // Their `W` lines, from a place on; answers the place after them.
+    pub(crate) fn put_over(&self, out: &mut [u8], at: usize) -> usize
+        requires room { at + longest_line * length (keep (is_over self.now.table.0 self.now.taken.now) (vectors_at self.now.state.inner.now.epoch (state_of self.now.state.inner.now))) ≤ length out.old }
+        ensures wrote { Wrote out.old at (texts_of (map delete_vector_of (keep (is_over self.now.table.0 self.now.taken.now) (vectors_at self.now.state.inner.now.epoch (state_of self.now.state.inner.now))))) out.new result }
+        ensures short { result ≤ at + longest_line * length (keep (is_over self.now.table.0 self.now.taken.now) (vectors_at self.now.state.inner.now.epoch (state_of self.now.state.inner.now))) }
+    {
+        let mut at = at;
+        let over = self
+            .state
+            .inner
+            .vectors
+            .shown_of(self.table, self.state.inner.epoch)
+            .filter(|v| self.takes(v.rowset));
+        for v in over {
+            at = frames::put_line(out, at, EpochOp::DeleteDV(v.table, v.rowset, v.vector));
         }
+        at
     }
-    n
 }

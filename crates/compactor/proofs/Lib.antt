@@ -1,5 +1,4 @@
 -- The laws that this crate's proofs cite. Assumes nothing.
-pub mod Runs
 pub mod Taking
 pub mod Selecting
 pub mod Laws

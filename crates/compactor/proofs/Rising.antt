@@ -1,28 +1,26 @@
 -- What is selected of a state that passes 29 rises strictly. Assumes nothing.
-use mathlib.Core.Path.{◌≡◌, sym, ap, subst, ◌∙◌}
+use mathlib.Core.Path.{◌≡◌, refl, sym, subst, ◌∙◌}
 use mathlib.Core.Bool.{true, false}
 use mathlib.Core.List.{List, [], ◌∷◌, map}
 use Prim.Native.Nat.{ℕ}
-use lib.Dec.{leb, eqb}
-use lib.ListN.{length}
+use lib.Dec.{leb}
+use lib.ListN.{length, get_or}
 use borrow.Author.Tests.{eqb-true}
 use Rattle.lists.specs.Order.{lex, less}
-use Rattle.lists.specs.Keyed.{ascending}
-use Rattle.lists.proofs.Tests.{by_cases, both}
+use Rattle.lists.specs.Keyed.{keep, ascending}
+use Rattle.lists.proofs.Tests.{by_cases}
 use Rattle.lists.proofs.Order.{lex-eq}
-use Rattle.lists.proofs.Keyed.{All, Ascending, all_map, all-mapped, kept-all, ascend-to, ascend-from, ascending-keep}
-use Rattle.columns.specs.Rows.{rows, column, across, plain}
-use Rattle.columns.proofs.Rows.{rows-map, ascending-map}
-use Rattle.snapshot.specs.Entries.{shown_at}
-use Rattle.snapshot.specs.Picked.{places_of}
+use Rattle.lists.proofs.Keyed.{All, Ascending, all_keep, all-mapped, kept-all, ascend-to, ascend-from, ascending-keep}
+use Rattle.columns.proofs.Rows.{rows_all}
+use Rattle.snapshot.specs.Entries.{Entry, by_ids, shown_by, of_table, entry_at}
 use Rattle.version_state.specs.declared.VersionManagerInner.{VersionManagerInner}
 use Rattle.version_state.specs.State.{state_of}
 use Rattle.version_state.specs.Sound.{bad_inner}
-use Rattle.version_state.proofs.Facts.{sound-of, pairs-rise}
+use Rattle.version_state.proofs.Facts.{sound-of}
 use Rattle.compactor.specs.Selection.{Sized, taken, compacted, sized, rowsets_now, selected}
 use Rattle.compactor.specs.Laws.{by_rowset, Part, none, more, past}
-use Rattle.compactor.proofs.Taking.{rowset_in}
-use Rattle.compactor.proofs.Selecting.{is_here, here-now}
+use Rattle.compactor.proofs.Taking.{rowset_in, rowset_at}
+use Rattle.compactor.proofs.Selecting.{rowsets-shown}
 use Rattle.compactor.proofs.Laws.{part-on}
 
 abbrev by_sized : Sized → List ℕ
@@ -56,35 +54,35 @@ mapped-rising : (l : List Sized) → Ascending by_sized l → Ascending by_rowse
 mapped-rising [] h = tt
 mapped-rising (x ∷ l) h = (all-mapped (λ y. less (by_sized x) (by_rowset y) ≡ true) rowset_in l h.0, mapped-rising l h.1)
 
+-- an entry of two ids, as a pair is
+abbrev Pair : Entry → Type 0
+Pair x = x.ids ≡ get_or x.ids 0 0 ∷ rowset_at x ∷ []
+
 -- the rowsets of one table among pairs that rise
-module _ (tables rowsets : List ℕ) (t : ℕ) where
-  abbrev pair_at : ℕ → List ℕ
-  pair_at = across (tables ∷ rowsets ∷ [])
+module _ (t : ℕ) where
+  after-it : (x : Entry) (l : List Entry) → Pair x → of_table t x ≡ true → All (λ y. less x.ids y.ids ≡ true) l → All (λ y. of_table t y ≡ true) l → All Pair l
+      → All (λ y. less (by_rowset (rowset_at x)) (by_rowset (rowset_at y)) ≡ true) l
+  after-it x [] p e a b c = tt
+  after-it x (y ∷ l) p e a b c =
+      let r = less (by_rowset (rowset_at x)) (by_rowset (rowset_at y)) in
+      let q : lex t t r ≡ true = rw (p, c.0, eqb-true (get_or x.ids 0 0) t e, eqb-true (get_or y.ids 0 0) t b.0) at a.0 in
+      (sym (lex-eq t r) ∙ q, after-it x l p e a.1 b.1 c.1)
 
-  after-it : (i : ℕ) (l : List ℕ) → eqb (column tables i) t ≡ true → All (λ j. less (pair_at i) (pair_at j) ≡ true) l → All (λ j. eqb (column tables j) t ≡ true) l
-      → All (λ j. less (by_rowset (column rowsets i)) (by_rowset (column rowsets j)) ≡ true) l
-  after-it i [] e a b = tt
-  after-it i (j ∷ l) e a b =
-      let r = less (by_rowset (column rowsets i)) (by_rowset (column rowsets j)) in
-      let p : column tables i ≡ column tables j = eqb-true (column tables i) t e ∙ sym (eqb-true (column tables j) t b.0) in
-      let q : lex (column tables j) (column tables j) r ≡ true = subst (λ (x : ℕ). lex x (column tables j) r ≡ true) p a.0 in
-      (sym (lex-eq (column tables j) r) ∙ q, after-it i l e a.1 b.1)
-
-  run-rising : (l : List ℕ) → Ascending pair_at l → All (λ i. eqb (column tables i) t ≡ true) l → Ascending by_rowset (map (column rowsets) l)
-  run-rising [] s h = tt
-  run-rising (i ∷ l) s h =
-      (all-mapped (λ y. less (by_rowset (column rowsets i)) (by_rowset y) ≡ true) (column rowsets) l (after-it i l h.0 s.0 h.1), run-rising l s.1 h.1)
+  run-rising : (l : List Entry) → Ascending by_ids l → All (λ x. of_table t x ≡ true) l → All Pair l → Ascending by_rowset (map rowset_at l)
+  run-rising [] s h p = tt
+  run-rising (x ∷ l) s h p =
+      (all-mapped (λ y. less (by_rowset (rowset_at x)) (by_rowset y) ≡ true) rowset_at l (after-it x l p.0 h.0 s.0 h.1 p.1), run-rising l s.1 h.1 p.1)
 
 pub selected-rises : (m : VersionManagerInner) → bad_inner m ≡ false → (t target : ℕ) (ns : List ℕ) → ascending by_rowset (selected t target ns (state_of m)) ≡ true
 selected-rises m h t target ns =
     let p = m.rowsets in
-    let n = p.count in
-    let f = across (p.tables ∷ p.rowsets ∷ []) in
-    let up = pairs-rise m (sound-of m h).ordered in
-    let places : Ascending f (rows (λ i. i) n) = ascend-to f (rows (λ i. i) n) (ascending-map f (rows (λ i. i) n) ∙ ap (ascending plain) (rows-map (λ i. i) f n) ∙ up) in
-    let here : Ascending f (places_of (is_here m t target ns) n) = ascending-keep f (is_here m t target ns) (rows (λ i. i) n) places in
-    let same : All (λ i. eqb (column p.tables i) t ≡ true) (places_of (is_here m t target ns) n) =
-    all_map (places_of (is_here m t target ns) n) (λ i w. (both (shown_at m.epoch (column p.added i) (column p.deleted i)) (eqb (column p.tables i) t) w).1) (kept-all (is_here m t target ns) (rows (λ i. i) n)) in
-    let now : Ascending by_rowset (rowsets_now t (state_of m)) = subst (Ascending by_rowset) (here-now m t target ns) (run-rising p.tables p.rowsets t (places_of (is_here m t target ns) n) here same) in
+    let held = (state_of m).pairs in
+    let shown = keep (shown_by m.epoch) held in
+    let pairs : All Pair held = rows_all (entry_at (p.tables ∷ p.rowsets ∷ []) p.added p.deleted) Pair (λ i. refl) p.count in
+    let run = run-rising t (keep (of_table t) shown)
+    (ascending-keep by_ids (of_table t) shown (ascending-keep by_ids (shown_by m.epoch) held (ascend-to by_ids held (sound-of m h).ordered.pairs)))
+    (kept-all (of_table t) shown)
+    (all_keep Pair (of_table t) shown (all_keep Pair (shown_by m.epoch) held pairs)) in
+    let now : Ascending by_rowset (rowsets_now t (state_of m)) = subst (Ascending by_rowset) (rowsets-shown t (state_of m)) run in
     let l = sized (rowsets_now t (state_of m)) ns in
     ascend-from by_rowset (selected t target ns (state_of m)) (mapped-rising (compacted (taken target l)) (compacted-rising (taken target l) (part-rising (part-on target 0 l) (sized-rising (rowsets_now t (state_of m)) ns now))))

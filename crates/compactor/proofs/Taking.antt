@@ -1,131 +1,67 @@
--- Places taken by their sizes, one after another. Assumes nothing.
+-- Rowsets taken by their sizes, one after another. Assumes nothing.
 use mathlib.Core.Path.{◌≡◌, refl, sym, ap, ◌∙◌}
-use mathlib.Core.List.{List, [], ◌∷◌, ◌++◌, map, append-nil}
-use Prim.Native.Nat.{ℕ, zero, suc, ◌+◌, ◌-◌, ◌≤◌, ◌<◌}
+use mathlib.Core.List.{List, [], ◌∷◌, ◌++◌, map}
+use Prim.Native.Nat.{ℕ, ◌+◌, ◌-◌, ◌≤◌, ◌<◌}
+use denote.Ref.{Bor}
 use native.Mathlib.Omega.{arith}
-use native.Mathlib.Nat.{not-suc-le-zero, le_of_suc-le-suc}
 use native.Mathlib.Numerals.{add-one}
-use lib.ListN.{length, get_or, take, drop, set, length-set}
-use lib.Seq.{take-suc-set, append_snoc, get_or-set_same, get_or-set_other}
-use borrow.Author.Tests.{le-leb, lt-leb}
-use Rattle.lists.proofs.Tests.{tri}
+use lib.ListN.{length, get_or, take, set, length-set}
+use lib.Seq.{take-suc-set}
+use Rattle.std.specs.List.{zip}
+use Rattle.std.proofs.lemmas.List.{length_push}
+use Rattle.lists.proofs.Views.{map-append}
 use Rattle.ids.specs.Limits.{most_held}
-use Rattle.columns.specs.Rows.{rows, column}
-use Rattle.columns.proofs.Rows.{rows-length, rows_at, rows_are, rows_seen, rows_end, rows-column}
-use Rattle.snapshot.specs.Picked.{Inside}
-use Rattle.compactor.specs.Selection.{Sized, sized_as, taken_on, taken, sized}
-use Rattle.compactor.specs.Places.{Took}
+use Rattle.snapshot.specs.Entries.{Entry}
+use Rattle.snapshot.specs.declared.rowsets.HeldRowset.{HeldRowset}
+use Rattle.compactor.specs.Selection.{Sized, sized_as, taken, sized}
+use Rattle.compactor.specs.Laws.{total}
+use Rattle.compactor.proofs.Laws.{taken-fitting, taken-unfitting}
 
 abbrev pub rowset_in : Sized → ℕ
 rowset_in x = x.rowset
 
--- entries by their places
-sized-length : (rs ns : List ℕ) → length rs ≡ length ns → length (sized rs ns) ≡ length ns
-sized-length [] [] h = refl
-sized-length [] (n ∷ ns) h = absurd (let z : suc (length ns) ≤ 0 = omega (arith, h) in not-suc-le-zero z)
-sized-length (r ∷ rs) [] h = refl
-sized-length (r ∷ rs) (n ∷ ns) h = ap suc (sized-length rs ns (omega (arith, h)))
+abbrev pub rowset_at : Entry → ℕ
+rowset_at x = get_or x.ids 1 0
 
-sized-at : (rs ns : List ℕ) (i : ℕ) (d : Sized) → i < length rs → i < length ns → get_or (sized rs ns) i d ≡ sized_as (get_or rs i 0) (get_or ns i 0)
-sized-at [] ns i d h k = absurd (not-suc-le-zero h)
-sized-at (r ∷ rs) [] i d h k = absurd (not-suc-le-zero k)
-sized-at (r ∷ rs) (n ∷ ns) zero d h k = refl
-sized-at (r ∷ rs) (n ∷ ns) (suc i) d h k = sized-at rs ns i d (le_of_suc-le-suc h) (le_of_suc-le-suc k)
+-- a rowset and its size, as a turn sees them
+abbrev pub seen : HeldRowset × Bor ℕ → Sized
+seen p = sized_as p.0.rowset.0 p.1.now
 
-module _ (c ns : List ℕ) where
-  -- the places of the column c with the sizes ns
-  abbrev pub entries_of : List Sized
-  entries_of = sized (rows (column c) (length ns)) ns
+total-snoc : (l : List Sized) (x : Sized) → total (l ++ (x ∷ [])) ≡ total l + x.size
+total-snoc [] x = omega arith
+total-snoc (y ∷ l) x = omega (arith, total-snoc l x)
 
-  as_rows : entries_of ≡ rows (λ i. sized_as (column c i) (column ns i)) (length ns)
-  as_rows =
-      let z = rows-length (column c) (length ns) in
-      sym (rows_are (λ i. sized_as (column c i) (column ns i)) (length ns) entries_of (sized_as 0 0) (sized-length (rows (column c) (length ns)) ns z)
-      (λ i h. sized-at (rows (column c) (length ns)) ns i (sized_as 0 0) (omega arith) h ∙ ap (λ (x : ℕ). sized_as x (column ns i)) (rows_at (column c) (length ns) i 0 h)))
-
-  entry_seen : (i : ℕ) → i < length ns → drop i entries_of ≡ sized_as (column c i) (column ns i) ∷ drop (i + 1) entries_of
-  entry_seen i h =
-      ap (drop i) as_rows ∙ rows_seen (λ i. sized_as (column c i) (column ns i)) (length ns) i h ∙ ap (λ (l : List Sized). sized_as (column c i) (column ns i) ∷ drop (i + 1) l) (sym as_rows)
-
-  entry-end : (i : ℕ) → length ns ≤ i → drop i entries_of ≡ []
-  entry-end i h = ap (drop i) as_rows ∙ rows_end (λ i. sized_as (column c i) (column ns i)) (length ns) i h
-
--- Taking the places of the column c₀, which became c: i seen, k taken, so much left of the target.
-pub record Taking (target : ℕ) (ns c₀ : List ℕ) (i k left : ℕ) (c : List ℕ) : Type 0 where
-  pub within : i ≤ length ns
-  pub behind : k ≤ i
+-- Taking: the ones seen so far, so much left of the target, and those that are taken in the first places of a column.
+pub record Taking (target left count : ℕ) (a : List Sized) (c : List ℕ) : Type 0 where
+  pub behind : count ≤ length a
   pub full : length c ≡ most_held
-  pub sum : ℕ
-  pub sums : sum + left ≡ target
-  pub ahead : (j : ℕ) → i ≤ j → column c j ≡ column c₀ j
-  pub inside : (m : ℕ) → Inside m (length ns) c₀ → Inside m k c
-  pub same : rows (column c) k ++ map rowset_in (taken_on target sum (drop i (entries_of c₀ ns))) ≡ map rowset_in (taken target (entries_of c₀ ns))
+  pub sum : left + total (taken target a) ≡ target
+  pub told : take count c ≡ map rowset_in (taken target a)
 
-module _ (target : ℕ) (ns c₀ : List ℕ) where
-  pub taking-start : length c₀ ≡ most_held → Taking target ns c₀ 0 0 target c₀
-  unfolding rows
-  taking-start f = record { within = omega arith; behind = omega arith; full = f; sum = 0; sums = omega arith; ahead = λ j h. refl; inside = λ m h j q. absurd (not-suc-le-zero q); same = refl }
-
-  module _ (i k left : ℕ) (c : List ℕ) (few : length ns ≤ most_held) (h : i < length ns) (s : Taking target ns c₀ i k left c) where
-    abbrev rest : ℕ → List ℕ
-    rest n = map rowset_in (taken_on target n (drop (i + 1) (entries_of c₀ ns)))
-
-    pub taking-one : column ns i ≤ left → Taking target ns c₀ (i + 1) (k + 1) (left - column ns i) (set c k (column c i))
-    taking-one w =
-        let f = s.full in
-        let b = s.behind in
-        let u = s.sums in
-        let n = s.sum in
-        let x = column c i in
-        let here : x ≡ column c₀ i = s.ahead i (omega arith) in
-        let z = length-set c k x in
-        let longer : take (k + 1) (set c k x) ≡ take k c ++ (x ∷ []) = rw add-one (take-suc-set c k x (omega arith)) in
-        let grown : rows (column (set c k x)) (k + 1) ≡ rows (column c) k ++ (x ∷ []) =
-        rows-column (set c k x) (k + 1) (omega arith) ∙ longer ∙ ap (λ (l : List ℕ). l ++ (x ∷ [])) (sym (rows-column c k (omega arith))) in
-        let yes : map rowset_in (taken_on target n (drop i (entries_of c₀ ns))) ≡ x ∷ rest (n + column ns i) =
-        rw (entry_seen c₀ ns i h, le-leb (n + column ns i) target (omega arith), here) in
-        record {
-          within = omega arith;
-          behind = omega arith;
-          full = z ∙ f;
-          sum = n + column ns i;
-          sums = omega arith;
-          ahead = λ j q. get_or-set_other c k j x 0 (λ o. omega arith) ∙ s.ahead j (omega arith);
-          inside = λ m p j q. tri j k
-              (λ e. let y = get_or-set_other c k j x 0 (λ o. omega arith) in let v = s.inside m p j e in omega arith)
-              (λ e. let y : column (set c k x) j ≡ x = rw e (get_or-set_same c k x 0 (omega arith)) in let v = p i h in omega arith)
-              (λ e. absurd (omega arith));
-          same =
-              ap (λ (l : List ℕ). l ++ rest (n + column ns i)) grown
-              ∙ append_snoc (rows (column c) k) x (rest (n + column ns i))
-              ∙ ap (λ (l : List ℕ). rows (column c) k ++ l) (sym yes)
-              ∙ s.same;
-        }
-
-    pub taking-none : left < column ns i → Taking target ns c₀ (i + 1) k left c
-    taking-none w =
-        let b = s.behind in
-        let u = s.sums in
-        let n = s.sum in
-        let no : map rowset_in (taken_on target n (drop i (entries_of c₀ ns))) ≡ rest n = rw (entry_seen c₀ ns i h, lt-leb (n + column ns i) target (omega arith)) in
-        record {
-          within = omega arith;
-          behind = omega arith;
-          full = s.full;
-          sum = n;
-          sums = u;
-          ahead = λ j q. s.ahead j (omega arith);
-          inside = s.inside;
-          same = ap (λ (l : List ℕ). rows (column c) k ++ l) (sym no) ∙ s.same;
-        }
-
-  pub taking-done : (i k left : ℕ) (c : List ℕ) → length ns ≤ i → Taking target ns c₀ i k left c → Took target ns c₀ k c
-  taking-done i k left c h s =
-      let w = s.within in
-      let b = s.behind in
-      let none : map rowset_in (taken_on target s.sum (drop i (entries_of c₀ ns))) ≡ [] = rw (entry-end c₀ ns i h) in
+module _ (target left count : ℕ) (a : List Sized) (c : List ℕ) (x : Sized) (s : Taking target left count a c) where
+  pub take-one : x.size ≤ left → count < most_held → Taking target (left - x.size) (count + 1) (a ++ (x ∷ [])) (set c count x.rowset)
+  take-one h r =
+      let e = taken-fitting target a x (omega (arith, s.sum)) in
+      let put : take (count + 1) (set c count x.rowset) ≡ take count c ++ (x.rowset ∷ []) = rw (add-one, take-suc-set c count x.rowset (omega (arith, s.full))) in
       record {
-        told = sym (append-nil (rows (column c) k)) ∙ ap (λ (l : List ℕ). rows (column c) k ++ l) (sym none) ∙ s.same;
-        inside = s.inside;
-        fewer = omega arith;
+        behind = omega (arith, s.behind, length_push a x);
+        full = length-set c count x.rowset ∙ s.full;
+        sum = omega (arith, ap total e, total-snoc (taken target a) x, s.sum);
+        told = put ∙ ap (λ (l : List ℕ). l ++ (x.rowset ∷ [])) s.told ∙ sym (map-append rowset_in (taken target a) (x ∷ [])) ∙ ap (map rowset_in) (sym e);
       }
+
+  pub take_none : left < x.size → Taking target left count (a ++ (x ∷ [])) c
+  take_none h =
+      let e = taken-unfitting target a x (omega (arith, s.sum)) in
+      record {
+        behind = omega (arith, s.behind, length_push a x);
+        full = s.full;
+        sum = omega (arith, ap total e, s.sum);
+        told = s.told ∙ ap (map rowset_in) (sym e);
+      }
+
+-- entries beside sizes are rowsets with their sizes
+pub zipped : (es : List Entry) (ns : List ℕ) → map (λ (q : Entry × ℕ). sized_as (rowset_at q.0) q.1) (zip es ns) ≡ sized (map rowset_at es) ns
+zipped [] ns = refl
+zipped (x ∷ es) [] = refl
+zipped (x ∷ es) (n ∷ ns) = ap (λ (l : List Sized). sized_as (rowset_at x) n ∷ l) (zipped es ns)

@@ -1,82 +1,42 @@
 // Selection: which of a table's rowsets a compaction takes, by their sizes.
 #![tactic(auto)]
 
-ghost use Rattle.std.specs.Prelude.{◌≡◌, true, false, cond, ◌&&◌, [], ◌∷◌, ◌≤◌, ◌<◌, eqb, leb, length};
-ghost use Rattle.lists.specs.Keyed.{ascending};
-ghost use Rattle.ids.specs.Ids.{largest32};
+ghost use Rattle.std.specs.Prelude.{◌≡◌, cond, ◌≤◌, map, leb, length, get_or, take};
 ghost use Rattle.ids.specs.Limits.{most_held};
-ghost use Rattle.columns.specs.Rows.{rows, column, across, plain};
-ghost use Rattle.snapshot.specs.Entries.{shown_at};
-ghost use Rattle.snapshot.specs.Picked.{places_of, Stand};
+ghost use Rattle.snapshot.specs.Shown.{shown_rowsets};
 ghost use Rattle.version_state.specs.State.{state_of};
-ghost use Rattle.version_state.specs.Sound.{bad_inner};
-ghost use Rattle.compactor.specs.Places.{Took};
+ghost use Rattle.compactor.specs.Selection.{taken, sized};
 ghost use Rattle.compactor.specs.Says.{SelectIs};
 ghost use Rattle.compactor.specs.Laws.{TakenLaws};
 
 use ids::TableNo;
 use ids::limits::MOST_HELD;
 use ids::refusal::Refusal;
-use snapshot::held;
-use version_state::VersionManagerInner;
+use snapshot::epoch::ShownRowsets;
+use version_state::sound::SoundState;
 
 // The laws of what is taken.
 pub fn holds()
     ensures { TakenLaws }
 {}
 
-// Internal, as is all that follows: the places of a table's pairs that the epoch shows, which stand in one run; answers how many they are.
-fn places_of<'a>(
-    tables: &'a [u32; MOST_HELD],
-    rowsets: &'a [u32; MOST_HELD],
-    added: &'a [u32; MOST_HELD],
-    deleted: &'a [u32; MOST_HELD],
-    count: usize,
-    table: u32,
-    epoch: u32,
-    places: &mut [u32; MOST_HELD],
-) -> usize
-    requires { (count ≤ most_held) × (ascending plain (rows (across (tables.now ∷ rowsets.now ∷ [])) count) ≡ true) × (table < largest32) × (length places.old ≡ most_held) }
-    ensures { Stand count (places_of (λ i. shown_at epoch (column added.now i) (column deleted.now i) && eqb (column tables.now i) table) count) result places.new × (length places.new ≡ most_held) }
+// Internal, as is all that follows. Of the rowsets with their sizes, those that are taken; answers how many they are. What is left of the target is
+// counted down, so that no sum of sizes can overflow.
+fn take(shown: ShownRowsets<'_>, sizes: &[u64], target: u64, chosen: &mut [u32; MOST_HELD]) -> usize
+    requires { length sizes.now ≤ most_held }
+    ensures inside { result ≤ most_held }
+    ensures told { take result chosen.new ≡ map (λ x. x.rowset) (taken target (sized (map (λ x. get_or x.ids 1 0) (shown_rowsets shown.entry)) sizes.now)) }
 {
-    let from = columns::place(tables, rowsets, count, table, 0);
-    let to = columns::place(tables, rowsets, count, table + 1, 0);
-    let mut k: usize = 0;
-    let mut i = from;
-    while i < to {
-        if snapshot::shown(added[i], deleted[i], epoch) {
-            places[k] = i as u32;
-            k += 1;
-            i += 1;
-        } else {
-            i += 1;
-        }
-    }
-    k
-}
-
-// Of the places that have a size each, those that are taken, moved to the front; answers how many they are. What is left of the target
-// is counted down, so that no sum of sizes is ever made.
-fn take(places: &mut [u32; MOST_HELD], sizes: &[u64], target: u64) -> usize
-    requires { (length sizes.now ≤ most_held) × (length places.old ≡ most_held) }
-    ensures { Took target sizes.now places.old result places.new }
-{
-    let n = sizes.len();
     let mut left = target;
-    let mut k: usize = 0;
-    let mut i = 0;
-    while i < n {
-        let size = sizes[i];
-        if size <= left {
-            places[k] = places[i];
-            left -= size;
-            k += 1;
-            i += 1;
-        } else {
-            i += 1;
+    let mut count = 0;
+    for (rowset, size) in shown.zip(sizes.iter()) {
+        if *size <= left {
+            chosen[count] = rowset.rowset.0;
+            count += 1;
+            left -= *size;
         }
     }
-    k
+    count
 }
 
 // One or none taken means no compaction.
@@ -89,42 +49,32 @@ fn compacted(taken: usize) -> usize
     taken
 }
 
-// Answers how many rowsets are to be compacted. The state has passed 29.
+// Answers how many rowsets are to be compacted. The slices come one by one, as C lends them.
 pub fn select(
-    inner: VersionManagerInner,
+    state: SoundState<'_>,
     table: TableNo,
     target: u64,
     sizes: &[u64],
     out: &mut [u32],
 ) -> Result<usize, Refusal>
-    requires { bad_inner inner ≡ false }
-    ensures { SelectIs (state_of inner) table.0 target sizes.now out.old result out.new }
+    ensures { SelectIs (state_of state.entry.inner.now) table.0 target sizes.now out.old result out.new }
 {
+    let inner = state.inner;
     if !table.is_id() {
         return Err(Refusal::Malformed(0));
     }
-    let mut places = [0; MOST_HELD];
-    let shown = places_of(
-        &inner.rowsets.tables,
-        &inner.rowsets.rowsets,
-        &inner.rowsets.added,
-        &inner.rowsets.deleted,
-        inner.rowsets.count,
-        table.0,
-        inner.epoch,
-        &mut places,
-    );
-    if sizes.len() != shown {
+    if sizes.len() != inner.rowsets.shown_of(table, inner.epoch).count() {
         return Err(Refusal::WrongCount);
     }
-    if !snapshot::tables::holds(&inner.tables.ids, inner.tables.count, table) {
+    if !inner.tables.holds(table) {
         return Err(Refusal::TableNotLive(0));
     }
-    let taken = take(&mut places, sizes, target);
-    let count = compacted(taken);
+    let shown = inner.rowsets.shown_of(table, inner.epoch);
+    let mut chosen = [0; MOST_HELD];
+    let count = compacted(take(shown, sizes, target, &mut chosen));
     if out.len() < count {
         return Err(Refusal::OutputTooShort);
     }
-    held::write(&inner.rowsets.rowsets, &places, count, out);
+    out[..count].copy_from_slice(&chosen[..count]);
     Ok(count)
 }

@@ -1,4 +1,5 @@
-// The counts of a book, and a change of one of them. The places are in order.
+// The counts of a book, and a change of one of them. The C interface lends any book, so that each function asks for one whose places
+// are in order.
 ghost use Rattle.std.specs.Prelude.{◌≡◌, true, false, ◌+◌, ◌≤◌, ◌<◌, leb, length};
 ghost use Rattle.lists.specs.Keyed.{ascending};
 ghost use Rattle.lists.specs.Places.{insert_at, remove_at};
@@ -50,7 +51,7 @@ impl PinBook {
         self.count -= 1;
     }
 
-    // So many pins at the place. There is room for it.
+    // The place has `count` pins from now on. There is room for it.
     pub fn recount(&mut self, place: Place, count: u16)
         requires { (self.old.count ≤ most_pinned) × (ascending by_place (pins_of self.old) ≡ true) × (places_full place (pins_of self.old) ≡ false) }
         ensures { Keeps self.new (recounted place count (pins_of self.old)) }

@@ -11,7 +11,7 @@ pub mod counts;
 // The specification's limits: epochs that are pinned at a time, and the pins that an epoch may have.
 pub const MOST_PINNED: usize = 64;
 
-pub const MOST_PINS: u16 = 65535;
+pub const MOST_PINS: u16 = u16::MAX;
 
 #[repr(C)]
 #[derive(Clone, Copy)]
@@ -26,7 +26,8 @@ pub struct Place {
     pub epoch: u32,
 }
 
-// Pinned epochs with their counts, ascending. An array and any number beside it: the C interface hands it over so, and there is no heap.
+// Pinned epochs with their counts, ascending. An array and a count, which may be any number: the C interface hands it over so.
+// `none` is no Default: callers go by the book being empty, so that it has a name and a promise of its own, and Default would be no plainer.
 #[repr(C)]
 #[derive(Clone, Copy)]
 pub struct PinBook {

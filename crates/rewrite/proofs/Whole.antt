@@ -1,41 +1,29 @@
 -- The rewritten manifest in its parts: `B`, `N`, the lines of tables, pairs and vectors, `E`. Assumes nothing.
-use mathlib.Core.Path.{◌≡◌, sym, ap, ◌∙◌}
-use mathlib.Core.Bool.{Bool}
+use mathlib.Core.Path.{◌≡◌, ap, ◌∙◌}
 use mathlib.Core.List.{List, [], ◌∷◌, ◌++◌, map, map-map, append_assoc}
 use Prim.Native.Nat.{ℕ, ◌≤◌}
 use native.Mathlib.Omega.{arith}
 use lib.ListN.{length}
 use Rattle.lists.specs.Written.{Wrote}
-use Rattle.lists.proofs.Places.{length-mapped}
 use Rattle.lists.proofs.Written.{wrote_on}
-use Rattle.columns.proofs.Rows.{rows-map}
 use Rattle.text.specs.Class.{newline}
 use Rattle.manifest.specs.Operations.{Operation, next_ids}
 use Rattle.manifest.specs.Lines.{begin_letter, end_letter}
 use Rattle.snapshot.specs.Entries.{shown}
-use Rattle.snapshot.specs.Tables.{name_bytes, table_at, table_rows}
 use Rattle.snapshot.specs.Views.{tables_of, rowsets_of, vectors_of}
 use Rattle.version_state.specs.declared.VersionManagerInner.{VersionManagerInner}
 use Rattle.version_state.specs.State.{state_of}
 use Rattle.version_state.specs.Sets.{unlocked, sets_of, next_of}
 use Rattle.frames.specs.Frames.{texts_of}
-use Rattle.frames.proofs.Texts.{frame_is}
+use Rattle.frames.proofs.Texts.{frame_is, texts-append}
 use Rattle.rewrite.specs.Rewritten.{create_of, add_of, add_vector_of, rewrite_of, rewritten_of, longest_rewritten}
-use Rattle.rewrite.proofs.Lines.{texts-both}
-
--- a lock stands in no line
-creates : (ids shapes lengths names : List ℕ) (k l : List Bool) (n : ℕ) → map create_of (map unlocked (table_rows ids shapes lengths names k n)) ≡ map create_of (table_rows ids shapes lengths names l n)
-creates ids shapes lengths names k l n =
-    map-map create_of unlocked (table_rows ids shapes lengths names k n)
-    ∙ rows-map (table_at ids shapes lengths names k) create_of n
-    ∙ sym (rows-map (table_at ids shapes lengths names l) create_of n)
 
 module _ (m : VersionManagerInner) where
   abbrev pub next_line : List Operation
   next_line = next_ids m.next.table.0 m.next.rowset.0 m.next.vector.0 ∷ []
 
   abbrev pub table_lines : List Operation
-  table_lines = map create_of (table_rows m.tables.ids m.tables.shapes m.tables.lengths m.tables.names [] m.tables.count)
+  table_lines = map create_of (tables_of m.tables)
 
   abbrev pub pair_lines : List Operation
   pair_lines = map add_of (shown m.epoch (rowsets_of m.rowsets))
@@ -48,11 +36,11 @@ module _ (m : VersionManagerInner) where
 
   whole-texts : texts_of operations ≡ texts_of next_line ++ ((texts_of table_lines ++ texts_of pair_lines) ++ texts_of vector_lines)
   whole-texts =
-      let t : map create_of (map unlocked (tables_of m.tables)) ≡ table_lines = creates m.tables.ids m.tables.shapes m.tables.lengths m.tables.names m.tables.locked [] m.tables.count in
+      let t : map create_of (map unlocked (tables_of m.tables)) ≡ table_lines = map-map create_of unlocked (tables_of m.tables) in
       let e : operations ≡ next_line ++ ((table_lines ++ pair_lines) ++ vector_lines) = ap (λ (l : List Operation). next_line ++ ((l ++ pair_lines) ++ vector_lines)) t in
       ap texts_of e
-      ∙ texts-both next_line ((table_lines ++ pair_lines) ++ vector_lines)
-      ∙ ap (λ (l : List ℕ). texts_of next_line ++ l) (texts-both (table_lines ++ pair_lines) vector_lines ∙ ap (λ (l : List ℕ). l ++ texts_of vector_lines) (texts-both table_lines pair_lines))
+      ∙ texts-append next_line ((table_lines ++ pair_lines) ++ vector_lines)
+      ∙ ap (λ (l : List ℕ). texts_of next_line ++ l) (texts-append (table_lines ++ pair_lines) vector_lines ∙ ap (λ (l : List ℕ). l ++ texts_of vector_lines) (texts-append table_lines pair_lines))
 
   pub whole-wrote : (out t₁ t₂ t₃ t₄ t₅ t₆ : List ℕ) (i₁ i₂ i₃ i₄ i₅ i₆ : ℕ) → longest_rewritten ≤ length out → i₆ ≤ longest_rewritten
       → Wrote out 0 (begin_letter ∷ newline ∷ []) t₁ i₁ → Wrote t₁ i₁ (texts_of next_line) t₂ i₂ → Wrote t₂ i₂ (texts_of table_lines) t₃ i₃ → Wrote t₃ i₃ (texts_of pair_lines) t₄ i₄
@@ -78,7 +66,3 @@ module _ (m : VersionManagerInner) where
       let f : rewritten_of (state_of m) ≡ ((((b ++ n) ++ t) ++ p) ++ v) ++ e =
       frame_is operations ∙ ap (λ (l : List ℕ). (begin_letter ∷ newline ∷ l) ++ e) whole-texts ∙ simp append_assoc in
       (rw f a₆, h)
-
--- the column of names of a manager that was handed in
-pub names-sized : (l : List ℕ) → length (map (λ v. v) l) ≡ name_bytes → length l ≡ name_bytes
-names-sized l p = length-mapped ℕ ℕ (λ v. v) l name_bytes p

@@ -1,11 +1,13 @@
 -- The rewritten manifest handed out: what it says of the lent buffer and of the state whose manifest it is from then on. Assumes nothing.
-use Rattle.std.specs.Prelude.{◌≡◌, List, [], ◌∷◌, ℕ, ◌≤◌, ltb, length, Ok}
+use Rattle.std.specs.Prelude.{◌≡◌, List, [], ◌∷◌, ℕ, ◌≤◌, ltb, length, Result, Ok}
+use Rattle.std.specs.Result.{result_and}
 use Rattle.lists.specs.Written.{over}
+use Rattle.ids.specs.declared.refusal.Refusal.{Refusal}
 use Rattle.ids.specs.declared.refusal.Refusal.TheVariants.{OutputTooShort}
 use Rattle.ids.specs.Verdicts.{Rule, ◌⇒◌, judged}
 use Rattle.ids.specs.Answers.{after}
+use Rattle.version_state.specs.declared.VersionManagerInner.{VersionManagerInner}
 use Rattle.version_state.specs.State.{State, with_epoch, Hands}
-use Rattle.rewrite.specs.declared.Rewrote.{Rewrote}
 use Rattle.rewrite.specs.Rewritten.{rewritten_of, longest_rewritten}
 
 -- 9 goes by the bytes of the rewritten manifest
@@ -16,9 +18,8 @@ rewrite_rules room s = (ltb room (length (rewritten_of s)) ⇒ OutputTooShort) �
 abbrev pub with_rewritten : State → State
 with_rewritten s = with_epoch s s.epoch (length (rewritten_of s))
 
-pub record RewriteIs (s : State) (out : List ℕ) (r : Rewrote) (out' : List ℕ) : Type 0 where
-  pub verdict : r.verdict ≡ judged (rewrite_rules (length out) s)
-  pub counted : r.length ≡ length (rewritten_of s)
+pub record RewriteIs (s : State) (out : List ℕ) (r : Result ℕ Refusal) (m : VersionManagerInner) (out' : List ℕ) : Type 0 where
+  pub answer : r ≡ result_and (judged (rewrite_rules (length out) s)) (Ok (length (rewritten_of s)))
   pub within : length (rewritten_of s) ≤ longest_rewritten
   pub bytes : out' ≡ after (judged (rewrite_rules (length out) s)) (over (rewritten_of s) out) out
-  pub inner : r.verdict ≡ Ok tt → Hands r.inner (with_rewritten s)
+  pub inner : Hands m (after (judged (rewrite_rules (length out) s)) (with_rewritten s) s)

@@ -1,6 +1,6 @@
 -- What each show is where it refuses and where it accepts. Assumes nothing.
 use mathlib.Core.Path.{◌≡◌, refl, sym, ap, ◌∙◌}
-use mathlib.Core.Bool.{Bool, true, false, ◌||◌}
+use mathlib.Core.Bool.{Bool, true, false, ◌||◌, or_assoc}
 use mathlib.Core.List.{List, [], ◌∷◌, map}
 use Prim.Native.Nat.{ℕ, ◌+◌, ◌*◌, ◌/◌, ◌≤◌, ◌<◌, min}
 use native.Mathlib.Omega.{arith}
@@ -28,15 +28,11 @@ use Rattle.columns.specs.Rows.{rows}
 use Rattle.columns.proofs.Rows.{rows_are, rows-length}
 use Rattle.snapshot.specs.Entries.{Entry, nothing, shown_by}
 use Rattle.snapshot.specs.Tables.{TableEntry, no_table}
-use Rattle.snapshot.proofs.Picked.{Filling, fill_more, fill_done}
+use Rattle.snapshot.proofs.Filled.{Filling, fill_more, fill_done}
 use Rattle.version_state.specs.State.{State, pairs_at, vectors_at}
 use Rattle.pins.specs.declared.PinBook.{PinBook}
 use Rattle.show.specs.Names.{names_run}
 use Rattle.show.specs.Says.{shown_field, show_rules, unseen, not_current, show_pairs_rules, show_vectors_rules, show_tables_rules, ShowAnswer, ShowPairsIs, ShowVectorsIs, ShowTablesIs}
-
-or_assoc : (a b c : Bool) → (a || b) || c ≡ a || (b || c)
-or_assoc true b c = refl
-or_assoc false b c = refl
 
 or_all : (a b c d : Bool) → ((a || b) || c) || d ≡ a || (b || (c || d))
 or_all true b c d = refl

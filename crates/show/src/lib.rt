@@ -1,22 +1,21 @@
 // Show: the tables of the current epoch, and the pairs and vectors of the current or a pinned one, into lent slices.
 #![tactic(auto)]
 
-ghost use Rattle.std.specs.Prelude.{◌≡◌, false, [], ◌∷◌, ◌≤◌, length};
+ghost use Rattle.std.specs.Prelude.{◌≡◌, [], ◌∷◌, ◌≤◌, length};
 ghost use Rattle.ids.specs.Names.{longest_name};
 ghost use Rattle.ids.specs.declared.refusal.Refusal.TheVariants.{BadPinBook, EpochNotPinned, OutputTooShort};
 ghost use Rattle.ids.specs.Verdicts.{◌⇒◌, judged};
 ghost use Rattle.pins.specs.Book.{bad_book};
 ghost use Rattle.version_state.specs.State.{state_of};
-ghost use Rattle.version_state.specs.Sound.{bad_inner};
 ghost use Rattle.show.specs.Names.{padded};
 ghost use Rattle.show.specs.Says.{ShowPairsIs, ShowVectorsIs, ShowTablesIs};
 
 use ids::limits::LONGEST_NAME;
 use ids::refusal::Refusal;
 use pins::PinBook;
-use version_state::VersionManagerInner;
+use version_state::sound::SoundState;
 
-// 28, 24 and 9.
+// Refusals 28, 24 and 9, in this order.
 fn judge(current: u32, book: &PinBook, unseen: bool, short: bool) -> Result<(), Refusal>
     ensures { result ≡ judged ((bad_book current book.now ⇒ BadPinBook) ∷ (unseen ⇒ EpochNotPinned) ∷ (short ⇒ OutputTooShort) ∷ []) }
 {
@@ -32,17 +31,17 @@ fn judge(current: u32, book: &PinBook, unseen: bool, short: bool) -> Result<(), 
     Ok(())
 }
 
-// Internal, as are all that follow: the state has passed 29. Each answers how many are shown.
+// Internal, as are all that follow. Each answers how many are shown, in slices that C lends one by one.
 pub fn show_pairs(
-    inner: &VersionManagerInner,
+    state: SoundState<'_>,
     book: &PinBook,
     epoch: u32,
     tables: &mut [u32],
     rowsets: &mut [u32],
 ) -> Result<usize, Refusal>
-    requires { bad_inner inner.now ≡ false }
-    ensures { ShowPairsIs (state_of inner.now) book.now epoch tables.old rowsets.old result tables.new rowsets.new }
+    ensures { ShowPairsIs (state_of state.entry.inner.now) book.now epoch tables.old rowsets.old result tables.new rowsets.new }
 {
+    let inner = state.inner;
     let unseen = !book.may_show(inner.epoch, epoch);
     let count = inner.rowsets.shown(epoch).count();
     let room = tables.len().min(rowsets.len());
@@ -54,17 +53,18 @@ pub fn show_pairs(
     Ok(count)
 }
 
+// With a slice more than pairs, as C lends them.
 pub fn show_vectors(
-    inner: &VersionManagerInner,
+    state: SoundState<'_>,
     book: &PinBook,
     epoch: u32,
     tables: &mut [u32],
     rowsets: &mut [u32],
     vectors: &mut [u64],
 ) -> Result<usize, Refusal>
-    requires { bad_inner inner.now ≡ false }
-    ensures { ShowVectorsIs (state_of inner.now) book.now epoch tables.old rowsets.old vectors.old result tables.new rowsets.new vectors.new }
+    ensures { ShowVectorsIs (state_of state.entry.inner.now) book.now epoch tables.old rowsets.old vectors.old result tables.new rowsets.new vectors.new }
 {
+    let inner = state.inner;
     let unseen = !book.may_show(inner.epoch, epoch);
     let count = inner.vectors.shown(epoch).count();
     let room = tables.len().min(rowsets.len()).min(vectors.len());
@@ -86,8 +86,9 @@ fn write_name(name: &[u8], out: &mut [u8])
     out[..name.len()].copy_from_slice(name);
 }
 
+// The slices are as C lends them; a table is read at its place, since its name is lent from there: an iterator is no plainer.
 pub fn show_tables(
-    inner: &VersionManagerInner,
+    state: SoundState<'_>,
     book: &PinBook,
     epoch: u32,
     ids: &mut [u32],
@@ -95,9 +96,9 @@ pub fn show_tables(
     lengths: &mut [u32],
     names: &mut [u8],
 ) -> Result<usize, Refusal>
-    requires { bad_inner inner.now ≡ false }
-    ensures { ShowTablesIs (state_of inner.now) book.now epoch ids.old shapes.old lengths.old names.old result ids.new shapes.new lengths.new names.new }
+    ensures { ShowTablesIs (state_of state.entry.inner.now) book.now epoch ids.old shapes.old lengths.old names.old result ids.new shapes.new lengths.new names.new }
 {
+    let inner = state.inner;
     let unseen = epoch != inner.epoch;
     let count = inner.tables.count;
     let numbers = ids.len().min(shapes.len()).min(lengths.len());

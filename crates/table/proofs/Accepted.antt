@@ -6,19 +6,21 @@ use Prim.Native.Nat.{ℕ, ◌+◌, ◌≤◌, ◌<◌}
 use native.Mathlib.Omega.{arith}
 use lib.Dec.{ltb}
 use lib.ListN.{length, get_or}
-use borrow.Author.Tests.{ltb-true, lt-ltb, le-ltb, lt-leb}
+use borrow.Author.Tests.{ltb-true, lt-ltb, le-ltb, lt-leb, not-false}
 use Rattle.std.specs.Prelude.{Result, Ok, Err}
+use Rattle.lists.specs.Keyed.{keep, all_of}
 use Rattle.lists.proofs.Tests.{both, join}
 use Rattle.lists.proofs.Keyed.{All, all_map, all_of-all, Ascending, ascend-to}
 use Rattle.ids.specs.Ids.{largest32, largest64}
 use Rattle.ids.specs.Limits.{most_operations, last_epoch, longest_manifest}
 use Rattle.ids.specs.declared.refusal.Refusal.{Refusal}
 use Rattle.ids.specs.Results.{and_then}
+use Rattle.columns.proofs.Rows.{rows_all}
 use Rattle.manifest.specs.Operations.{Operation, well_formed}
-use Rattle.snapshot.specs.Entries.{by_ids, below_next, entry_at}
+use Rattle.snapshot.specs.Entries.{by_ids, shown_by, below_next, entry_at}
 use Rattle.version_state.specs.declared.VersionManagerInner.{VersionManagerInner}
 use Rattle.version_state.specs.State.{State, state_of, with_epoch, with_pairs, with_vectors}
-use Rattle.version_state.specs.Sound.{left_behind}
+use Rattle.version_state.specs.Sound.{has_table, has_rowset, left_behind}
 use Rattle.version_state.proofs.Within.{within_of}
 use Rattle.version_state.proofs.Facts.{Sound}
 use Rattle.operations.specs.Effect.{applied, applied_all}
@@ -29,7 +31,7 @@ use Rattle.commit.proofs.Stepwise.{halt, step_given, steps-manifest}
 use Rattle.table.specs.Made.{committed, delete_rowset_of, delete_vector_of}
 use Rattle.version_state.specs.Widths.{Narrow}
 use Rattle.table.proofs.Deletes.{deleted_all, deletes}
-use Rattle.table.proofs.Shown.{Held, rows_all}
+use Rattle.table.proofs.Shown.{Held}
 
 -- ids of two and of three numbers
 abbrev pub two : List ℕ → List ℕ
@@ -68,20 +70,25 @@ steps-applied i e (o ∷ os) s t h = go (step_of i e o s) refl h (λ u. steps-ap
     go (Ok u) a h ih = ih u h ∙ ap (applied_all e os) (sym (step_given i e o s u a).1)
     go (Err k) a h ih = absurd (halt h)
 
+-- these operations are committed, where the epoch, the manifest and the bytes lent have room
+abbrev pub Accepts : State → List Operation → Type 0
+Accepts s os =
+    (room : ℕ) → s.epoch < last_epoch → s.manifest + length (append_of os) ≤ longest_manifest → length (append_of os) ≤ room
+    → commit_of s (length os) os room ≡ Ok (committed os s)
+
 -- all is judged before: the commit accepts
-module _ (s : State) (os : List Operation) (room : ℕ) (few : length os ≤ most_operations) (early : s.epoch < last_epoch) (t : State)
-    (steps : steps_of 0 (s.epoch + 1) os s ≡ Ok t) (whole : left_behind (s.epoch + 1) t ≡ false)
-    (fits : s.manifest + length (append_of os) ≤ longest_manifest) (lent : length (append_of os) ≤ room) where
+module _ (s : State) (os : List Operation) (few : length os ≤ most_operations) (t : State)
+    (steps : steps_of 0 (s.epoch + 1) os s ≡ Ok t) (whole : left_behind (s.epoch + 1) t ≡ false) where
   stays : t.manifest ≡ s.manifest
   stays = steps-manifest (s.epoch + 1) os s t steps
 
-  finished : finish_of (s.epoch + 1) os room t ≡ Ok (committed os s)
-  finished =
+  finished : (room : ℕ) → s.manifest + length (append_of os) ≤ longest_manifest → length (append_of os) ≤ room → finish_of (s.epoch + 1) os room t ≡ Ok (committed os s)
+  finished room fits lent =
       rw (whole, stays, le-ltb longest_manifest (s.manifest + length (append_of os)) fits, le-ltb room (length (append_of os)) lent)
       (ap (λ (u : State). Ok (with_epoch u (s.epoch + 1) (s.manifest + length (append_of os)))) (steps-applied 0 (s.epoch + 1) os s t steps))
 
-  pub commit-accepts : commit_of s (length os) os room ≡ Ok (committed os s)
-  commit-accepts = rw (le-ltb most_operations (length os) few, lt-leb last_epoch s.epoch early, steps) finished
+  pub commit-accepts : Accepts s os
+  commit-accepts room early fits lent = rw (le-ltb most_operations (length os) few, lt-leb last_epoch s.epoch early, steps) (finished room fits lent)
 
 module _ (s : State) (w : Narrow s) where
   below : (x n m : ℕ) → ltb x n ≡ true → n ≤ m → ltb x m ≡ true
@@ -106,7 +113,7 @@ module _ (m : VersionManagerInner) (g : Sound m) where
   pub pairs-held : Held two m.epoch ((state_of m).next_table ∷ (state_of m).next_rowset ∷ []) (state_of m).pairs
   pairs-held =
       record {
-        forms = rows_all (λ x. two (by_ids x) ≡ by_ids x) (entry_at (m.rowsets.tables ∷ m.rowsets.rowsets ∷ []) m.rowsets.added m.rowsets.deleted) (λ i. refl) m.rowsets.count;
+        forms = rows_all (entry_at (m.rowsets.tables ∷ m.rowsets.rowsets ∷ []) m.rowsets.added m.rowsets.deleted) (λ x. two (by_ids x) ≡ by_ids x) (λ i. refl) m.rowsets.count;
         within = all_map (state_of m).pairs (within_of m.epoch _) (all_of-all _ (state_of m).pairs g.pairs);
         order = ascend-to by_ids (state_of m).pairs g.ordered.pairs;
       }
@@ -114,7 +121,12 @@ module _ (m : VersionManagerInner) (g : Sound m) where
   pub vectors-held : Held three m.epoch ((state_of m).next_table ∷ (state_of m).next_rowset ∷ (state_of m).next_vector ∷ []) (state_of m).vectors
   vectors-held =
       record {
-        forms = rows_all (λ x. three (by_ids x) ≡ by_ids x) (entry_at (m.vectors.tables ∷ m.vectors.rowsets ∷ m.vectors.vectors ∷ []) m.vectors.added m.vectors.deleted) (λ i. refl) m.vectors.count;
+        forms = rows_all (entry_at (m.vectors.tables ∷ m.vectors.rowsets ∷ m.vectors.vectors ∷ []) m.vectors.added m.vectors.deleted) (λ x. three (by_ids x) ≡ by_ids x) (λ i. refl) m.vectors.count;
         within = all_map (state_of m).vectors (within_of m.epoch _) (all_of-all _ (state_of m).vectors g.vectors);
         order = ascend-to by_ids (state_of m).vectors g.ordered.vectors;
       }
+
+  -- what is shown has its table, and a vector its rowset
+  pub whole-now : (all_of (has_rowset (keep (shown_by m.epoch) (state_of m).pairs)) (keep (shown_by m.epoch) (state_of m).vectors) ≡ true)
+      × (all_of (has_table (state_of m).tables) (keep (shown_by m.epoch) (state_of m).pairs) ≡ true)
+  whole-now = both (all_of (has_rowset (keep (shown_by m.epoch) (state_of m).pairs)) (keep (shown_by m.epoch) (state_of m).vectors)) _ (not-false _ g.whole)

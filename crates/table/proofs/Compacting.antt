@@ -1,23 +1,25 @@
 -- A compaction's commit is accepted, and what it leaves. Assumes nothing.
 use mathlib.Core.Path.{◌≡◌, refl, sym, ap, subst, ◌∙◌}
-use mathlib.Core.Bool.{Bool, true, false, not, ◌&&◌, ◌||◌}
+use mathlib.Core.Bool.{Bool, true, false, not, ◌&&◌, ◌||◌, and-false}
 use mathlib.Core.List.{List, [], ◌∷◌, ◌++◌, map, append-nil}
 use Prim.Native.Nat.{ℕ, ◌+◌, ◌≤◌, ◌<◌}
 use native.Mathlib.Omega.{arith}
 use lib.Dec.{eqb}
 use lib.ListN.{length, get_or, take, length-append, length-map}
-use borrow.Author.Tests.{le-leb, lt-leb, not-false}
+use borrow.Author.Tests.{lt-leb}
 use Rattle.std.specs.Prelude.{Ok}
 use Rattle.lists.specs.Order.{less, same}
-use Rattle.lists.specs.Keyed.{keep, all_of, any_of, is_at, has, put}
-use Rattle.lists.proofs.Tests.{both, join, by_cases}
+use Rattle.lists.specs.Keyed.{keep, any_of, is_at, has, put}
+use Rattle.lists.proofs.Tests.{join, by_cases}
 use Rattle.lists.proofs.Order.{lex-eq, same_true}
-use Rattle.lists.proofs.Keyed.{All, Ascending, all_map, all-mapped, all-all_of, all_of-all, all_keep, all-put, length-keep, kept-all, has-put, keep-map}
+use Rattle.lists.proofs.Keyed.{All, Ascending, all_map, all-mapped, all-all_of, all_of-all, all_keep, all-put, length-keep, kept-all, has-put, keep-map, all_both}
 use Rattle.lists.proofs.Kept.{has-keep, few-among, keep-put}
 use Rattle.ids.specs.Ids.{is_id32}
 use Rattle.ids.specs.Limits.{most_operations, most_held, last_epoch, longest_manifest}
+use Rattle.columns.proofs.Rows.{few-rows}
 use Rattle.manifest.specs.Operations.{Operation, add_rowset, delete_rowset, well_formed}
-use Rattle.snapshot.specs.Entries.{Entry, by_ids, added_at, gone_at, shown_at, shown_by, shown}
+use Rattle.snapshot.specs.Entries.{Entry, by_ids, added_at, shown_by, shown}
+use Rattle.snapshot.proofs.Entries.{shows-new}
 use Rattle.version_state.specs.declared.VersionManagerInner.{VersionManagerInner}
 use Rattle.version_state.specs.State.{State, state_of, with_pairs, with_vectors, vectors_at, pairs_at}
 use Rattle.version_state.specs.Sound.{has_table, has_rowset, left_behind}
@@ -30,9 +32,8 @@ use Rattle.table.specs.Made.{by_number, of_table, is_over, delete_rowset_of, del
 use Rattle.version_state.specs.Widths.{Narrow}
 use Rattle.table.specs.Laws.{pairs_with, Compacts}
 use Rattle.table.proofs.Deletes.{among, deleted_all, shown-marked}
-use Rattle.table.proofs.Shown.{or-second, few-rows, few-part, next-same, part-forms, part-below, part-rises, part-shown, part-deleted}
-use Rattle.table.proofs.Accepted.{two, three, vectors-deleted, pairs-deleted, commit-accepts, vector-well, pairs-held, vectors-held, steps-applied}
-use Rattle.table.proofs.Dropping.{all_both}
+use Rattle.table.proofs.Shown.{or-second, few-part, next-same, part-forms, part-below, part-rises, part-shown, part-deleted}
+use Rattle.table.proofs.Accepted.{two, three, vectors-deleted, pairs-deleted, commit-accepts, vector-well, pairs-held, vectors-held, whole-now, steps-applied}
 
 pairs-rise : (t : ℕ) (rs : List ℕ) → Ascending by_number rs → Ascending (λ k. k) (pairs_with t rs)
 pairs-rise t [] a = tt
@@ -51,12 +52,8 @@ over-pair t k rs f = ap (λ (j : List ℕ). any_of (same (take 2 j)) (pairs_with
     either true false c = refl
     either false b c = refl
 
-    none : (a : Bool) → false ≡ a && false
-    none true = refl
-    none false = refl
-
     go : (rs : List ℕ) → any_of (same (get_or k 0 0 ∷ get_or k 1 0 ∷ [])) (pairs_with t rs) ≡ is_over t rs k
-    go [] = none (of_table t k)
+    go [] = sym (and-false (of_table t k))
     go (r ∷ rs) = ap (λ (b : Bool). (eqb (get_or k 0 0) t && (eqb (get_or k 1 0) r && true)) || b) (go rs) ∙ either (eqb (get_or k 0 0) t) (eqb (get_or k 1 0) r) (any_of (eqb (get_or k 1 0)) rs)
 
 module _ (m : VersionManagerInner) (g : Sound m) (w : Narrow (state_of m)) (t : ℕ) (id : is_id32 t ≡ true) (rs : List ℕ) (ids : All (λ r. is_id32 r ≡ true) rs) (rising : Ascending by_number rs) where
@@ -74,9 +71,6 @@ module _ (m : VersionManagerInner) (g : Sound m) (w : Narrow (state_of m)) (t : 
 
   abbrev vectors_now : List Entry
   vectors_now = keep (shown_by m.epoch) s.vectors
-
-  whole-now : (all_of (has_rowset pairs_now) vectors_now ≡ true) × (all_of (has_table s.tables) pairs_now ≡ true)
-  whole-now = both (all_of (has_rowset pairs_now) vectors_now) (all_of (has_table s.tables) pairs_now) (not-false _ g.whole)
 
   next-pairs : keep (shown_by e) s.pairs ≡ pairs_now
   next-pairs = next-same two m.epoch _ s.pairs (pairs-held m g)
@@ -127,7 +121,7 @@ module _ (m : VersionManagerInner) (g : Sound m) (w : Narrow (state_of m)) (t : 
           all-all_of (has_rowset (keep stays (keep (shown_by e) u.pairs))) (keep is_free vectors_now)
               (all_both {P = λ x. (three (by_ids x) ≡ by_ids x) × (is_free x ≡ true)} (keep is_free vectors_now) (λ x a b. rowset-stays x a.0 a.1 b)
               (all_both (keep is_free vectors_now) (λ x a b. (a, b)) (all_keep (λ x. three (by_ids x) ≡ by_ids x) is_free vectors_now (all_keep (λ x. three (by_ids x) ≡ by_ids x) (shown_by m.epoch) s.vectors (vectors-held m g).forms)) (kept-all is_free vectors_now))
-              (all_keep (λ x. has_rowset pairs_now x ≡ true) is_free vectors_now (all_of-all (has_rowset pairs_now) vectors_now whole-now.0))),
+              (all_keep (λ x. has_rowset pairs_now x ≡ true) is_free vectors_now (all_of-all (has_rowset pairs_now) vectors_now (whole-now m g).0))),
           all-all_of (has_table u.tables) (keep stays (keep (shown_by e) u.pairs)) (all_keep (λ x. has_table u.tables x ≡ true) stays (keep (shown_by e) u.pairs) tables),
         )
 
@@ -169,7 +163,7 @@ module _ (m : VersionManagerInner) (g : Sound m) (w : Narrow (state_of m)) (t : 
 
     -- with no new rowset
     same_tables : All (λ x. has_table s.tables x ≡ true) (keep (shown_by e) s.pairs)
-    same_tables = rw next-pairs (all_of-all (has_table s.tables) pairs_now whole-now.1)
+    same_tables = rw next-pairs (all_of-all (has_table s.tables) pairs_now (whole-now m g).1)
 
     same_more : (k : List ℕ) → has by_ids k pairs_now ≡ true → is_shown e k s.pairs ≡ true
     same_more k h = ap (has by_ids k) next-pairs ∙ h
@@ -180,7 +174,7 @@ module _ (m : VersionManagerInner) (g : Sound m) (w : Narrow (state_of m)) (t : 
         let steps = delete-steps s refl same_more taken same_tables 0 in
         let is : left s refl same_more taken same_tables ≡ applied_all e (operations []) s = steps-applied 0 e (operations []) s (left s refl same_more taken same_tables) steps in
         record {
-          accepts = commit-accepts s (operations []) room (omega (arith, few 0 (omega arith))) early (left s refl same_more taken same_tables) steps (delete-whole s refl same_more taken same_tables) fits lent;
+          accepts = commit-accepts s (operations []) (omega (arith, few 0 (omega arith))) (left s refl same_more taken same_tables) steps (delete-whole s refl same_more taken same_tables) room early fits lent;
           pairs = ap (pairs_at e) (sym is) ∙ left-pairs s refl same_more taken same_tables ∙ ap (λ (l : List Entry). keep (λ k. not (any_of (same k) (pairs_with t rs))) (map by_ids l)) next-pairs;
           vectors = ap (vectors_at e) (sym is) ∙ left-vectors s refl same_more taken same_tables;
           tables = ap (λ (u : State). u.tables) (sym is) ∙ left-tables s refl same_more taken same_tables;
@@ -195,20 +189,16 @@ module _ (m : VersionManagerInner) (g : Sound m) (w : Narrow (state_of m)) (t : 
       unfolding step_of
       add_step rest = rw (id, new, live, lt-leb s.next_rowset r drawn, unheld, lt-leb most_held (length s.pairs) space)
 
-      shows-new : shown_by e (added_at e (t ∷ r ∷ [])) ≡ true
-      unfolding shown_at gone_at
-      shows-new = rw (le-leb e e (omega arith))
-
       added-pairs : keep (shown_by e) added.pairs ≡ put by_ids (added_at e (t ∷ r ∷ [])) pairs_now
       added-pairs =
-          keep-put by_ids (shown_by e) (added_at e (t ∷ r ∷ [])) s.pairs shows-new (pairs-held m g).order
+          keep-put by_ids (shown_by e) (added_at e (t ∷ r ∷ [])) s.pairs (shows-new e (t ∷ r ∷ [])) (pairs-held m g).order
           ∙ ap (put by_ids (added_at e (t ∷ r ∷ []))) next-pairs
 
       added_more : (k : List ℕ) → has by_ids k pairs_now ≡ true → is_shown e k added.pairs ≡ true
       added_more k h = ap (has by_ids k) added-pairs ∙ has-put by_ids k (added_at e (t ∷ r ∷ [])) pairs_now ∙ or-second (is_at by_ids k (added_at e (t ∷ r ∷ []))) h
 
       added-tables : All (λ x. has_table s.tables x ≡ true) (keep (shown_by e) added.pairs)
-      added-tables = rw added-pairs (all-put by_ids (λ x. has_table s.tables x ≡ true) (added_at e (t ∷ r ∷ [])) pairs_now live (all_of-all (has_table s.tables) pairs_now whole-now.1))
+      added-tables = rw added-pairs (all-put by_ids (λ x. has_table s.tables x ≡ true) (added_at e (t ∷ r ∷ [])) pairs_now live (all_of-all (has_table s.tables) pairs_now (whole-now m g).1))
 
       map-put : (x : Entry) (l : List Entry) → map by_ids (put by_ids x l) ≡ put (λ k. k) (by_ids x) (map by_ids l)
       map-put x [] = refl
@@ -224,7 +214,7 @@ module _ (m : VersionManagerInner) (g : Sound m) (w : Narrow (state_of m)) (t : 
           add_step (map delete_vector_of vector_keys ++ map (delete_rowset t) rs) ∙ delete-steps added refl added_more taken added-tables 1 in
           let is : left added refl added_more taken added-tables ≡ applied_all e (operations (r ∷ [])) s = steps-applied 0 e (operations (r ∷ [])) s (left added refl added_more taken added-tables) steps in
           record {
-            accepts = commit-accepts s (operations (r ∷ [])) room (omega (arith, few 1 (omega arith))) early (left added refl added_more taken added-tables) steps (delete-whole added refl added_more taken added-tables) fits lent;
+            accepts = commit-accepts s (operations (r ∷ [])) (omega (arith, few 1 (omega arith))) (left added refl added_more taken added-tables) steps (delete-whole added refl added_more taken added-tables) room early fits lent;
             pairs =
                 ap (pairs_at e) (sym is)
                 ∙ left-pairs added refl added_more taken added-tables

@@ -5,27 +5,25 @@ use mathlib.Core.List.{List}
 use Prim.Native.Nat.{ℕ, ◌+◌, ◌≤◌, ◌<◌}
 use native.Mathlib.Omega.{arith}
 use lib.ListN.{length, take}
-use borrow.Author.Tests.{lt-ltb, le-leb, lt-leb, eq-eqb, not-false}
+use borrow.Author.Tests.{lt-ltb, le-leb, lt-leb, eq-eqb}
 use Rattle.std.specs.Prelude.{Ok}
-use Rattle.lists.specs.Keyed.{keep, all_of, is_at, put}
-use Rattle.lists.proofs.Tests.{both}
+use Rattle.lists.specs.Keyed.{keep, is_at, put}
 use Rattle.lists.proofs.Keyed.{all_map, all-all_of, all_of-all, has-put}
 use Rattle.ids.specs.Ids.{largest32}
-use Rattle.ids.specs.Limits.{most_tables, last_epoch, longest_manifest}
+use Rattle.ids.specs.Limits.{most_tables}
 use Rattle.text.specs.Name.{is_name}
 use Rattle.manifest.specs.Operations.{Operation, create_table}
 use Rattle.snapshot.specs.Entries.{Entry, by_ids, shown_by}
 use Rattle.snapshot.specs.Tables.{by_table, created, name_taken}
 use Rattle.version_state.specs.declared.VersionManagerInner.{VersionManagerInner}
 use Rattle.version_state.specs.State.{State, state_of}
-use Rattle.version_state.specs.Sound.{has_table, has_rowset, left_behind}
+use Rattle.version_state.specs.Sound.{has_table, left_behind}
 use Rattle.version_state.proofs.Facts.{Sound}
 use Rattle.operations.specs.Effect.{applied}
 use Rattle.operations.specs.Steps.{step_of, steps_of}
-use Rattle.commit.specs.Commit.{append_of, commit_of}
-use Rattle.table.specs.Made.{committed, create_operations}
+use Rattle.table.specs.Made.{create_operations}
 use Rattle.table.proofs.Shown.{or-second, next-same}
-use Rattle.table.proofs.Accepted.{two, three, commit-accepts, pairs-held, vectors-held}
+use Rattle.table.proofs.Accepted.{two, three, commit-accepts, pairs-held, vectors-held, whole-now, Accepts}
 
 module _ (m : VersionManagerInner) (g : Sound m) (h : ℕ) (n : List ℕ) (shape : h ≤ largest32) (name : is_name n ≡ true) (drawn : (state_of m).next_table < largest32)
     (free : name_taken n (state_of m).tables ≡ false) (room-left : length (state_of m).tables < most_tables) where
@@ -56,7 +54,7 @@ module _ (m : VersionManagerInner) (g : Sound m) (h : ℕ) (n : List ℕ) (shape
 
   create-whole : left_behind e left ≡ false
   create-whole =
-      let z = both (all_of (has_rowset pairs_now) vectors_now) (all_of (has_table s.tables) pairs_now) (not-false _ g.whole) in
+      let z = whole-now m g in
       rw (
         next-same three m.epoch _ s.vectors (vectors-held m g),
         next-same two m.epoch _ s.pairs (pairs-held m g),
@@ -64,6 +62,5 @@ module _ (m : VersionManagerInner) (g : Sound m) (h : ℕ) (n : List ℕ) (shape
         all-all_of (has_table (put by_table (created s.next_table h n) s.tables)) pairs_now (all_map pairs_now table_stays (all_of-all (has_table s.tables) pairs_now z.1)),
       )
 
-  pub create-accepts : (room : ℕ) → m.epoch < last_epoch → m.manifest + length (append_of operations) ≤ longest_manifest → length (append_of operations) ≤ room
-      → commit_of s (length operations) operations room ≡ Ok (committed operations s)
-  create-accepts room early fits lent = commit-accepts s operations room (omega arith) early left create-steps create-whole fits lent
+  pub create-accepts : Accepts s operations
+  create-accepts = commit-accepts s operations (omega arith) left create-steps create-whole

@@ -1,28 +1,24 @@
 -- Deletions one after another of what is shown: each is accepted, and what they leave. Assumes nothing.
 use mathlib.Core.Path.{◌≡◌, refl, sym, ap, subst, ◌∙◌}
-use mathlib.Core.Bool.{Bool, true, false, not, ◌&&◌, ◌||◌}
+use mathlib.Core.Bool.{Bool, true, not, ◌&&◌}
 use mathlib.Core.List.{List, [], ◌∷◌, ◌++◌, map}
 use Prim.Native.Nat.{ℕ, ◌+◌, ◌≤◌}
 use native.Mathlib.Omega.{arith}
-use lib.Dec.{leb, eqb}
 use lib.ListN.{length}
-use borrow.Author.Tests.{le-leb, ne_eqb}
 use Rattle.std.specs.Prelude.{Ok}
 use Rattle.lists.specs.Order.{less}
 use Rattle.lists.specs.Keyed.{keep, any_of, is_at, has, without, changed}
+use Rattle.lists.proofs.Tests.{not_or}
 use Rattle.lists.proofs.Order.{more_same, same_true}
 use Rattle.lists.proofs.Keyed.{All, Ascending, keep-keep, keep_same, all_any}
 use Rattle.lists.proofs.Kept.{has-keep, keep-changed}
 use Rattle.manifest.specs.Operations.{Operation, well_formed}
-use Rattle.snapshot.specs.Entries.{Entry, deleted_at, gone_at, shown_at, shown_by, by_ids}
+use Rattle.snapshot.specs.Entries.{Entry, deleted_at, shown_by, by_ids}
+use Rattle.snapshot.proofs.Entries.{hides-deleted}
 use Rattle.version_state.specs.State.{State}
 use Rattle.operations.specs.Effect.{applied}
 use Rattle.operations.specs.Judge.{is_shown}
 use Rattle.operations.specs.Steps.{step_of, steps_of}
-
-not-or : (a b : Bool) → not a && not b ≡ not (a || b)
-not-or true b = refl
-not-or false b = refl
 
 -- the keys of one list are those of an entry
 abbrev pub among : List (List ℕ) → Entry → Bool
@@ -34,16 +30,8 @@ deleted_all e [] l = l
 deleted_all e (k ∷ ks) l = deleted_all e ks (changed by_ids k (deleted_at e) l)
 
 module _ (e : ℕ) (late : 1 ≤ e) where
-  hides-deleted : (x : Entry) → shown_by e (deleted_at e x) ≡ false
-  unfolding shown_at gone_at
-  hides-deleted x = go (leb x.added e)
-    where
-      go : (b : Bool) → b && not (not (eqb e 0) && leb e e) ≡ false
-      go true = rw (ne_eqb e 0 (omega arith), le-leb e e (omega arith))
-      go false = refl
-
   shown-changed : (k : List ℕ) (l : List Entry) → keep (shown_by e) (changed by_ids k (deleted_at e) l) ≡ without by_ids k (keep (shown_by e) l)
-  shown-changed k l = keep-changed by_ids (shown_by e) k (deleted_at e) hides-deleted l
+  shown-changed k l = keep-changed by_ids (shown_by e) k (deleted_at e) (λ x. hides-deleted e x late) l
 
   pub shown-marked : (ks : List (List ℕ)) (l : List Entry) → keep (shown_by e) (deleted_all e ks l) ≡ keep (λ x. not (among ks x)) (keep (shown_by e) l)
   shown-marked [] l = sym (keep-true (keep (shown_by e) l))
@@ -55,7 +43,7 @@ module _ (e : ℕ) (late : 1 ≤ e) where
       shown-marked ks (changed by_ids k (deleted_at e) l)
       ∙ ap (keep (λ x. not (among ks x))) (shown-changed k l)
       ∙ keep-keep (λ x. not (among ks x)) (λ x. not (is_at by_ids k x)) (keep (shown_by e) l)
-      ∙ keep_same (λ x. not (is_at by_ids k x) && not (among ks x)) (λ x. not (among (k ∷ ks) x)) (keep (shown_by e) l) (all_any (keep (shown_by e) l) (λ x. not-or (is_at by_ids k x) (among ks x)))
+      ∙ keep_same (λ x. not (is_at by_ids k x) && not (among ks x)) (λ x. not (among (k ∷ ks) x)) (keep (shown_by e) l) (all_any (keep (shown_by e) l) (λ x. not_or (is_at by_ids k x) (among ks x)))
 
   -- another one is shown as before
   still-shown : (j k : List ℕ) (l : List Entry) → less j k ≡ true → is_shown e k (changed by_ids j (deleted_at e) l) ≡ is_shown e k l

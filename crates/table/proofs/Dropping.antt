@@ -2,20 +2,20 @@
 use mathlib.Core.Path.{◌≡◌, refl, sym, ap, ◌∙◌}
 use mathlib.Core.Bool.{Bool, true, false, not}
 use mathlib.Core.List.{List, [], ◌∷◌, ◌++◌, map, append-nil}
-use Prim.Native.Nat.{ℕ, ◌+◌, ◌≤◌, ◌<◌}
+use Prim.Native.Nat.{ℕ, ◌+◌, ◌≤◌}
 use native.Mathlib.Omega.{arith}
 use lib.Dec.{eqb}
 use lib.ListN.{length, get_or, take, length-append, length-map}
-use borrow.Author.Tests.{not-false}
+use borrow.Author.Tests.{not-true}
 use Rattle.std.specs.Prelude.{Ok}
 use Rattle.lists.specs.Order.{same}
-use Rattle.lists.specs.Keyed.{keep, all_of, is_at, without}
-use Rattle.lists.proofs.Tests.{both}
+use Rattle.lists.specs.Keyed.{keep, is_at, without}
 use Rattle.lists.proofs.Order.{same_true}
-use Rattle.lists.proofs.Keyed.{All, all-all_of, all_of-all, all_keep, kept-all, keep-map}
+use Rattle.lists.proofs.Keyed.{all-all_of, all_of-all, all_keep, kept-all, keep-map, all_both}
 use Rattle.lists.proofs.Kept.{has-keep}
 use Rattle.ids.specs.Ids.{is_id32}
-use Rattle.ids.specs.Limits.{most_operations, most_held, last_epoch, longest_manifest}
+use Rattle.ids.specs.Limits.{most_operations, most_held}
+use Rattle.columns.proofs.Rows.{few-rows}
 use Rattle.manifest.specs.Operations.{Operation, drop_table}
 use Rattle.snapshot.specs.Entries.{Entry, by_ids, shown_by}
 use Rattle.snapshot.specs.Tables.{by_table}
@@ -26,16 +26,11 @@ use Rattle.version_state.proofs.Facts.{Sound}
 use Rattle.operations.specs.Effect.{applied_all}
 use Rattle.operations.specs.Judge.{is_live}
 use Rattle.operations.specs.Steps.{step_of, steps_of}
-use Rattle.commit.specs.Commit.{append_of, commit_of}
 use Rattle.table.specs.Made.{committed, of_table, delete_rowset_of, delete_vector_of, drop_operations}
 use Rattle.version_state.specs.Widths.{Narrow}
 use Rattle.table.proofs.Deletes.{deleted_all}
-use Rattle.table.proofs.Shown.{few-rows, few-part, part-forms, part-below, part-rises, part-shown, part-deleted}
-use Rattle.table.proofs.Accepted.{two, three, vectors-deleted, pairs-deleted, steps-applied, commit-accepts, pair-well, vector-well, pairs-held, vectors-held}
-
-pub all_both : {A : Type 0} {P Q R : A → Type 0} (l : List A) → ((x : A) → P x → Q x → R x) → All P l → All Q l → All R l
-all_both [] f p q = tt
-all_both (x ∷ l) f p q = (f x p.0 q.0, all_both l f p.1 q.1)
+use Rattle.table.proofs.Shown.{few-part, part-forms, part-below, part-rises, part-shown, part-deleted}
+use Rattle.table.proofs.Accepted.{two, three, vectors-deleted, pairs-deleted, steps-applied, commit-accepts, pair-well, vector-well, pairs-held, vectors-held, whole-now, Accepts}
 
 -- a rowset's table and a vector's pair have the first id of both
 first_two : (k : List ℕ) → get_or (take 2 k) 0 0 ≡ get_or k 0 0
@@ -101,9 +96,6 @@ module _ (m : VersionManagerInner) (g : Sound m) (w : Narrow (state_of m)) (t : 
   abbrev vectors_now : List Entry
   vectors_now = keep (shown_by m.epoch) s.vectors
 
-  whole-now : (all_of (has_rowset pairs_now) vectors_now ≡ true) × (all_of (has_table s.tables) pairs_now ≡ true)
-  whole-now = both (all_of (has_rowset pairs_now) vectors_now) (all_of (has_table s.tables) pairs_now) (not-false _ g.whole)
-
   rowset-stays : (x : Entry) → stays x ≡ true → has_rowset pairs_now x ≡ true → has_rowset (keep stays pairs_now) x ≡ true
   rowset-stays x q h =
       has-keep by_ids (take 2 (by_ids x)) stays pairs_now (λ y u. ap (λ (k : List ℕ). not (of_table t k)) (same_true (by_ids y) (take 2 (by_ids x)) u) ∙ ap (λ (n : ℕ). not (eqb n t)) (first_two (by_ids x)) ∙ q) ∙ h
@@ -111,10 +103,6 @@ module _ (m : VersionManagerInner) (g : Sound m) (w : Narrow (state_of m)) (t : 
   table_stays : (x : Entry) → stays x ≡ true → has_table s.tables x ≡ true → has_table (without by_table (t ∷ []) s.tables) x ≡ true
   table_stays x q h =
       has-keep by_table (take 1 (by_ids x)) (λ y. not (is_at by_table (t ∷ []) y)) s.tables (λ y u. ap (λ (k : List ℕ). not (same k (t ∷ []))) (same_true (by_table y) (take 1 (by_ids x)) u) ∙ rw (first_one t (by_ids x) (not-true _ q))) ∙ h
-    where
-      not-true : (b : Bool) → not b ≡ true → b ≡ false
-      not-true true h = sym h
-      not-true false h = refl
 
   drop-whole : left_behind e left ≡ false
   unfolding dropped unvectored left
@@ -123,9 +111,9 @@ module _ (m : VersionManagerInner) (g : Sound m) (w : Narrow (state_of m)) (t : 
         part-deleted three m.epoch _ s.vectors (vectors-held m g) (of_table t),
         part-deleted two m.epoch _ s.pairs (pairs-held m g) (of_table t),
         all-all_of (has_rowset (keep stays pairs_now)) (keep stays vectors_now)
-            (all_both (keep stays vectors_now) rowset-stays (kept-all stays vectors_now) (all_keep (λ x. has_rowset pairs_now x ≡ true) stays vectors_now (all_of-all (has_rowset pairs_now) vectors_now whole-now.0))),
+            (all_both (keep stays vectors_now) rowset-stays (kept-all stays vectors_now) (all_keep (λ x. has_rowset pairs_now x ≡ true) stays vectors_now (all_of-all (has_rowset pairs_now) vectors_now (whole-now m g).0))),
         all-all_of (has_table (without by_table (t ∷ []) s.tables)) (keep stays pairs_now)
-            (all_both (keep stays pairs_now) table_stays (kept-all stays pairs_now) (all_keep (λ x. has_table s.tables x ≡ true) stays pairs_now (all_of-all (has_table s.tables) pairs_now whole-now.1))),
+            (all_both (keep stays pairs_now) table_stays (kept-all stays pairs_now) (all_keep (λ x. has_table s.tables x ≡ true) stays pairs_now (all_of-all (has_table s.tables) pairs_now (whole-now m g).1))),
       )
 
   drop-few : length operations ≤ most_operations
@@ -137,9 +125,8 @@ module _ (m : VersionManagerInner) (g : Sound m) (w : Narrow (state_of m)) (t : 
       let f = few-part (of_table t) m.epoch s.pairs most_held (few-rows _ m.rowsets.count most_held g.fits.rowsets) in
       omega arith
 
-  pub drop-accepts : (room : ℕ) → m.epoch < last_epoch → m.manifest + length (append_of operations) ≤ longest_manifest → length (append_of operations) ≤ room
-      → commit_of s (length operations) operations room ≡ Ok (committed operations s)
-  drop-accepts room early fits lent = commit-accepts s operations room drop-few early left drop-steps drop-whole fits lent
+  pub drop-accepts : Accepts s operations
+  drop-accepts = commit-accepts s operations drop-few left drop-steps drop-whole
 
   -- what the new epoch shows
   dropped-is : left ≡ applied_all e operations s

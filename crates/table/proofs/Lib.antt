@@ -6,5 +6,5 @@ pub mod Dropping
 pub mod Creating
 pub mod Compacting
 pub mod Laws
-pub mod Marked
+pub mod Lines
 pub mod Judged

@@ -1,32 +1,19 @@
 -- The ids of what is shown now, or of a part of it: they are well formed, rise, and are shown at the next epoch too; and what is left when that part is deleted. Assumes nothing.
-use mathlib.Core.Path.{◌≡◌, refl, ap, ◌∙◌}
-use mathlib.Core.Bool.{Bool, true, false, not, ◌&&◌, ◌||◌}
+use mathlib.Core.Path.{◌≡◌, refl, sym, ap, ◌∙◌}
+use mathlib.Core.Bool.{Bool, true, false, not, ◌&&◌, ◌||◌, and-true, and-false}
 use mathlib.Core.List.{List, [], ◌∷◌, map}
-use Prim.Native.Nat.{ℕ, zero, suc, ◌+◌, ◌≤◌}
+use Prim.Native.Nat.{ℕ, ◌+◌, ◌≤◌}
 use native.Mathlib.Omega.{arith}
 use lib.ListN.{length, length-map}
-use borrow.Author.Tests.{le-leb}
 use Rattle.lists.specs.Order.{less, same}
 use Rattle.lists.specs.Keyed.{keep, any_of, is_at, has}
 use Rattle.lists.proofs.Tests.{by_cases}
 use Rattle.lists.proofs.Order.{same_refl, same_true, same-sym}
 use Rattle.lists.proofs.Keyed.{All, Ascending, all_map, all_keep, all-mapped, keep_same, length-keep, ascending-keep}
-use Rattle.columns.specs.Rows.{rows, rows_from}
-use Rattle.columns.proofs.Rows.{rows-length}
-use Rattle.snapshot.specs.Entries.{Entry, gone_at, shown_at, shown_by, shown, by_ids, below_next}
-use Rattle.version_state.proofs.Within.{Within}
+use Rattle.snapshot.specs.Entries.{Entry, shown_by, shown, by_ids, below_next}
+use Rattle.version_state.proofs.Within.{Within, shown-next}
 use Rattle.operations.specs.Judge.{is_shown}
 use Rattle.table.proofs.Deletes.{among, deleted_all, shown-marked}
-
--- what holds of every row holds of the rows
-module _ {A : Type 0} (P : A → Type 0) (f : ℕ → A) (p : (i : ℕ) → P (f i)) where
-  from_all : (i n : ℕ) → All P (rows_from f i n)
-  from_all i zero = tt
-  from_all i (suc n) = (p i, from_all (suc i) n)
-
-  pub rows_all : (n : ℕ) → All P (rows f n)
-  unfolding rows
-  rows_all n = from_all 0 n
 
 pub or-second : {b : Bool} (a : Bool) → b ≡ true → a || b ≡ true
 or-second true h = refl
@@ -41,9 +28,6 @@ module _ {A : Type 0} where
   mapped-rise : (key : A → List ℕ) (l : List A) → Ascending key l → Ascending (λ k. k) (map key l)
   mapped-rise key [] a = tt
   mapped-rise key (x ∷ l) a = (all-mapped (λ k. less (key x) k ≡ true) key l a.0, mapped-rise key l a.1)
-
-pub few-rows : {A : Type 0} (f : ℕ → A) (n k : ℕ) → n ≤ k → length (rows f n) ≤ k
-few-rows f n k h = omega (arith, rows-length f n, h)
 
 -- no more ids are shown than are held
 pub few-part : (p : List ℕ → Bool) (e : ℕ) (l : List Entry) (n : ℕ) → length l ≤ n → length (keep p (shown e l)) ≤ n
@@ -60,14 +44,9 @@ pub record Held (form : List ℕ → List ℕ) (e : ℕ) (ns : List ℕ) (l : Li
   pub order : Ascending by_ids l
 
 module _ (form : List ℕ → List ℕ) (e : ℕ) (ns : List ℕ) (l : List Entry) (h : Held form e ns l) where
-  -- an epoch that nothing reaches shows what the one before it shows
-  next-shown : (x : Entry) → Within e ns x → shown_by (e + 1) x ≡ shown_by e x
-  unfolding shown_at gone_at
-  next-shown x w =
-      rw (le-leb x.added (e + 1) (omega (arith, w.added)), le-leb x.added e w.added, le-leb x.deleted (e + 1) (omega (arith, w.deleted)), le-leb x.deleted e w.deleted)
-
+  -- the next epoch shows what this one shows
   pub next-same : keep (shown_by (e + 1)) l ≡ keep (shown_by e) l
-  next-same = keep_same (shown_by (e + 1)) (shown_by e) l (all_map l next-shown h.within)
+  next-same = shown-next e ns l h.within
 
   module _ (p : List ℕ → Bool) where
     -- the ids of the part of it that passes p
@@ -94,11 +73,7 @@ module _ (form : List ℕ → List ℕ) (e : ℕ) (ns : List ℕ) (l : List Entr
 
     -- an entry is among them exactly if it is shown and passes p
     listed : (k : List ℕ) (m : List Entry) → any_of (same k) (keep p (map by_ids m)) ≡ p k && has by_ids k m
-    listed k [] = go (p k)
-      where
-        go : (b : Bool) → false ≡ b && false
-        go true = refl
-        go false = refl
+    listed k [] = sym (and-false (p k))
     listed k (x ∷ m) =
         by_cases (same k (by_ids x))
         (λ t. let q = same_true k (by_ids x) t in
@@ -112,10 +87,6 @@ module _ (form : List ℕ → List ℕ) (e : ℕ) (ns : List ℕ) (l : List Entr
     pub part-among : All (λ x. among part x ≡ p (by_ids x)) (keep (shown_by e) l)
     part-among =
         all_map (keep (shown_by e) l) (λ x t. listed (by_ids x) (keep (shown_by e) l) ∙ rw t (and-true (p (by_ids x)))) (members by_ids (keep (shown_by e) l))
-      where
-        and-true : (b : Bool) → b && true ≡ b
-        and-true true = refl
-        and-true false = refl
 
     -- what is left when they are deleted at the next epoch
     pub part-deleted : keep (shown_by (e + 1)) (deleted_all (e + 1) part l) ≡ keep (λ x. not (p (by_ids x))) (keep (shown_by e) l)

@@ -1,9 +1,7 @@
 -- Commits that a call makes from what is shown now: their operations in order, and what an accepted one leaves. Assumes nothing.
 use Rattle.std.specs.Prelude.{Bool, ◌&&◌, List, [], ◌∷◌, ◌++◌, map, ℕ, ◌+◌, eqb, length, get_or}
 use Rattle.lists.specs.Keyed.{keep, any_of}
-use Rattle.columns.specs.Rows.{across, marks}
 use Rattle.manifest.specs.Operations.{Operation, create_table, drop_table, add_rowset, delete_rowset, delete_vector}
-use Rattle.snapshot.specs.Picked.{places_of}
 use Rattle.version_state.specs.State.{State, with_epoch}
 use Rattle.operations.specs.Effect.{applied_all}
 use Rattle.commit.specs.Commit.{append_of}
@@ -18,10 +16,6 @@ delete_rowset_of k = delete_rowset (get_or k 0 0) (get_or k 1 0)
 
 abbrev pub delete_vector_of : List ℕ → Operation
 delete_vector_of k = delete_vector (get_or k 0 0) (get_or k 1 0) (get_or k 2 0)
-
--- the ids at the marked places of the first n rows of columns
-abbrev pub marked_rows : List Bool → List (List ℕ) → ℕ → List (List ℕ)
-marked_rows m ks n = map (across ks) (places_of (marks m) n)
 
 -- a pair or vector of the table t
 abbrev pub of_table : ℕ → List ℕ → Bool

@@ -1,15 +1,16 @@
 // Commits that a call makes itself from what is shown now: create and drop of tables, and a compaction.
 #![tactic(auto)]
 
-ghost use Rattle.std.specs.Prelude.{◌≡◌, false, [], ◌∷◌, ◌≤◌, length, Err};
+ghost use Rattle.std.specs.Prelude.{◌≡◌, true, map, ◌+◌, ◌*◌, ◌≤◌, length};
+ghost use Rattle.lists.specs.Keyed.{keep};
 ghost use Rattle.lists.specs.Written.{Wrote};
-ghost use Rattle.ids.specs.Limits.{longest_line};
+ghost use Rattle.ids.specs.Ids.{is_id32};
+ghost use Rattle.ids.specs.Limits.{most_held, longest_line};
 ghost use Rattle.ids.specs.Names.{name_of};
 ghost use Rattle.ids.specs.Verdicts.{judged};
-ghost use Rattle.manifest.specs.Operations.{drop_table, operation_of};
 ghost use Rattle.frames.specs.Frames.{texts_of};
-ghost use Rattle.version_state.specs.State.{state_of, Fit};
-ghost use Rattle.version_state.specs.Sound.{bad_inner};
+ghost use Rattle.version_state.specs.State.{state_of, pairs_at, vectors_at};
+ghost use Rattle.table.specs.Made.{of_table, delete_rowset_of, delete_vector_of};
 ghost use Rattle.table.specs.Create.{created_by, create_rules};
 ghost use Rattle.table.specs.Drop.{dropped_by, drop_rules};
 ghost use Rattle.table.specs.Says.{longest_drop, MadeIs};
@@ -21,153 +22,122 @@ use ids::name::Name;
 use ids::refusal::Refusal;
 use manifest::operation::EpochOp;
 use text::ByteClasses;
-use version_state::VersionManagerInner;
-
-pub mod lines;
+use version_state::sound::SoundState;
 
 // The bytes of `!`, `B` and `E` with their newlines, which stand around a commit's lines.
 pub const APPEND_BYTES: usize = 6;
-
-// A call's verdict, and the length of the lines where it accepts.
-#[derive(Drop)]
-pub struct Made {
-    pub verdict: Result<(), Refusal>,
-    pub length: usize,
-}
 
 // Where a call's own rules pass, the one commit accepts what the call has made.
 pub fn holds()
     ensures { MadeLaws }
 {}
 
-pub fn refused(refusal: Refusal) -> Made
-    ensures { result.verdict ≡ Err refusal }
+// Internal, as is what follows. The `W` lines of the table's vectors that are shown now, from `at` on. Its own loop: a shared one, handed the
+// operations, would not know how long their lines are, and be no plainer.
+fn put_vectors(state: SoundState<'_>, table: TableNo, lines: &mut [u8], at: usize) -> usize
+    requires id { is_id32 table.0 ≡ true }
+    requires room { at + longest_line * most_held ≤ length lines.old }
+    ensures { Wrote lines.old at (texts_of (map delete_vector_of (keep (of_table table.0) (vectors_at state.entry.inner.now.epoch (state_of state.entry.inner.now))))) lines.new result × (result ≤ at + longest_line * most_held) }
 {
-    Made {
-        verdict: Err(refusal),
-        length: 0,
+    let inner = state.inner;
+    let mut at = at;
+    for v in inner.vectors.shown_of(table, inner.epoch) {
+        at = frames::put_line(lines, at, EpochOp::DeleteDV(v.table, v.rowset, v.vector));
     }
+    at
 }
 
-// `X`.
-fn drop_change(table: TableNo) -> EpochOp
-    ensures { (operation_of result ≡ drop_table table.0) × (length (texts_of (operation_of result ∷ [])) ≤ longest_line) }
+// The `D` lines of the table's rowsets that are shown now, from `at` on. Its own loop, as above: a shared one would be no plainer.
+fn put_pairs(state: SoundState<'_>, table: TableNo, lines: &mut [u8], at: usize) -> usize
+    requires id { is_id32 table.0 ≡ true }
+    requires room { at + longest_line * most_held ≤ length lines.old }
+    ensures { Wrote lines.old at (texts_of (map delete_rowset_of (keep (of_table table.0) (pairs_at state.entry.inner.now.epoch (state_of state.entry.inner.now))))) lines.new result × (result ≤ at + longest_line * most_held) }
 {
-    EpochOp::DropTable(table)
+    let inner = state.inner;
+    let mut at = at;
+    for r in inner.rowsets.shown_of(table, inner.epoch) {
+        at = frames::put_line(lines, at, EpochOp::DeleteRowSet(r.table, r.rowset));
+    }
+    at
 }
 
 // The lines of a drop, at the start of a buffer that has room for the longest; answers their length.
-fn put_drop(inner: VersionManagerInner, table: TableNo, lines: &mut [u8]) -> usize
-    requires { Fit inner × (longest_drop ≤ length lines.old) }
-    ensures { Wrote lines.old 0 (texts_of (dropped_by (state_of inner) table.0)) lines.new result × (result ≤ longest_drop) }
+fn put_drop(state: SoundState<'_>, table: TableNo, lines: &mut [u8]) -> usize
+    requires id { is_id32 table.0 ≡ true }
+    requires room { longest_drop ≤ length lines.old }
+    ensures { Wrote lines.old 0 (texts_of (dropped_by (state_of state.entry.inner.now) table.0)) lines.new result × (result ≤ longest_drop) }
 {
-    let vectors = lines::of_table(
-        &inner.vectors.tables,
-        &inner.vectors.added,
-        &inner.vectors.deleted,
-        inner.vectors.count,
-        inner.epoch,
-        table,
-    );
-    let pairs = lines::of_table(
-        &inner.rowsets.tables,
-        &inner.rowsets.added,
-        &inner.rowsets.deleted,
-        inner.rowsets.count,
-        inner.epoch,
-        table,
-    );
-    let at = frames::put_line(lines, 0, drop_change(table));
-    let at = lines::put_vectors(
-        lines,
-        at,
-        &inner.vectors.tables,
-        &inner.vectors.rowsets,
-        &inner.vectors.vectors,
-        &vectors,
-        inner.vectors.count,
-    );
-    lines::put_pairs(
-        lines,
-        at,
-        &inner.rowsets.tables,
-        &inner.rowsets.rowsets,
-        &pairs,
-        inner.rowsets.count,
-    )
+    let at = frames::put_line(lines, 0, EpochOp::DropTable(table));
+    let at = put_vectors(state, table, lines, at);
+    put_pairs(state, table, lines, at)
 }
 
-// Internal, as is drop: the manager has passed 29, and the buffer has room for the lines. Create of a table with the next id, lent a
-// buffer of `room` for the append.
+// Create of a table with the next id, for an append into `room` bytes. As in `drop`, `lines` has room for them; answers their length.
 pub fn create(
-    inner: VersionManagerInner,
+    state: SoundState<'_>,
     shape: u32,
     name: Name,
     room: usize,
     lines: &mut [u8],
-) -> Made
-    requires { (bad_inner inner ≡ false) × (longest_line ≤ length lines.old) }
-    ensures { MadeIs (judged (create_rules (state_of inner) shape (name_of name) room)) (created_by (state_of inner) shape (name_of name)) lines.old result lines.new }
+) -> Result<usize, Refusal>
+    requires { longest_line ≤ length lines.old }
+    ensures { MadeIs (judged (create_rules (state_of state.entry.inner.now) shape (name_of name) room)) (created_by (state_of state.entry.inner.now) shape (name_of name)) lines.old result lines.new }
 {
+    let inner = state.inner;
     if !ByteClasses::new().is_name(name.as_slice()) {
-        return refused(Refusal::Malformed(0));
+        return Err(Refusal::Malformed(0));
     }
-    if snapshot::tables::taken(
-        &inner.tables.lengths,
-        &inner.tables.names,
-        inner.tables.count,
-        name,
-    ) {
-        return refused(Refusal::NameTaken(0));
+    if inner.tables.taken(name) {
+        return Err(Refusal::NameTaken(0));
     }
     if LAST_EPOCH <= inner.epoch {
-        return refused(Refusal::EpochsFull);
+        return Err(Refusal::EpochsFull);
     }
     if MOST_TABLES <= inner.tables.count {
-        return refused(Refusal::TablesFull(0));
+        return Err(Refusal::TablesFull(0));
     }
-    let next = inner.next.table.0;
+    let next = inner.next.table;
     let length = frames::put_line(lines, 0, rewrite::create_change(next, shape, name));
     let size = length + APPEND_BYTES;
     if LONGEST_MANIFEST < inner.manifest + size {
-        return refused(Refusal::ManifestFull);
+        return Err(Refusal::ManifestFull);
     }
-    if LARGEST_32 <= next {
-        return refused(Refusal::IdsUsedUp);
+    if LARGEST_32 <= next.0 {
+        return Err(Refusal::IdsUsedUp);
     }
     if room < size {
-        return refused(Refusal::OutputTooShort);
+        return Err(Refusal::OutputTooShort);
     }
-    Made {
-        verdict: Ok(()),
-        length,
-    }
+    Ok(length)
 }
 
-// Drop of a table, lent a buffer of `room` for the append.
-pub fn drop(inner: VersionManagerInner, table: TableNo, room: usize, lines: &mut [u8]) -> Made
-    requires { (bad_inner inner ≡ false) × (longest_drop ≤ length lines.old) }
-    ensures { MadeIs (judged (drop_rules (state_of inner) table.0 room)) (dropped_by (state_of inner) table.0) lines.old result lines.new }
+// Drop of a table, for an append into `room` bytes.
+pub fn drop(
+    state: SoundState<'_>,
+    table: TableNo,
+    room: usize,
+    lines: &mut [u8],
+) -> Result<usize, Refusal>
+    requires { longest_drop ≤ length lines.old }
+    ensures { MadeIs (judged (drop_rules (state_of state.entry.inner.now) table.0 room)) (dropped_by (state_of state.entry.inner.now) table.0) lines.old result lines.new }
 {
+    let inner = state.inner;
     if !table.is_id() {
-        return refused(Refusal::Malformed(0));
+        return Err(Refusal::Malformed(0));
     }
-    if !snapshot::tables::holds(&inner.tables.ids, inner.tables.count, table) {
-        return refused(Refusal::TableNotLive(0));
+    if !inner.tables.holds(table) {
+        return Err(Refusal::TableNotLive(0));
     }
     if LAST_EPOCH <= inner.epoch {
-        return refused(Refusal::EpochsFull);
+        return Err(Refusal::EpochsFull);
     }
-    let length = put_drop(inner, table, lines);
+    let length = put_drop(state, table, lines);
     let size = length + APPEND_BYTES;
     if LONGEST_MANIFEST < inner.manifest + size {
-        return refused(Refusal::ManifestFull);
+        return Err(Refusal::ManifestFull);
     }
     if room < size {
-        return refused(Refusal::OutputTooShort);
+        return Err(Refusal::OutputTooShort);
     }
-    Made {
-        verdict: Ok(()),
-        length,
-    }
+    Ok(length)
 }

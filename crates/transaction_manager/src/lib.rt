@@ -34,7 +34,7 @@ fn against(held: bool, was: bool) -> Result<(), Refusal>
     }
 }
 
-// 2, 11, then 25 or 27.
+// Refusals 2, 11, then 25 or 27, in this order.
 fn judge(tables: &Tables, table: TableNo, held: bool) -> Result<(), Refusal>
     requires { tables.now.count ≤ most_tables }
     ensures { result ≡ judged (rules_of table.0 held (has by_table (table.0 ∷ []) (tables_of tables.now)) (lock_held table.0 (tables_of tables.now))) }
@@ -48,7 +48,8 @@ fn judge(tables: &Tables, table: TableNo, held: bool) -> Result<(), Refusal>
     against(held, tables.is_locked(table))
 }
 
-// Internal: the lock of a table made held or free. The state has passed 29.
+// Internal: takes or gives back a table's lock. The state has passed 29. Only `held` differs, so two functions would be no plainer. It alters the
+// state, so that a type for one that has passed 29 would be no plainer either.
 pub fn relock(inner: &mut VersionManagerInner, table: TableNo, held: bool) -> Result<(), Refusal>
     requires { bad_inner inner.old ≡ false }
     ensures { LockIs (state_of inner.old) table.0 held result inner.new }

@@ -1,44 +1,24 @@
 -- What a vacuum leaves: older epochs from the bound on show what they showed, and the state passes 29. Assumes nothing.
-use mathlib.Core.Path.{◌≡◌, refl, sym, ap, ◌∙◌}
+use mathlib.Core.Path.{◌≡◌, refl, ap, ◌∙◌}
 use mathlib.Core.Bool.{Bool, true, false, not, ◌&&◌, ◌||◌}
 use mathlib.Core.List.{List, [], ◌∷◌, map}
 use Prim.Native.Nat.{ℕ, ◌≤◌}
 use native.Mathlib.Omega.{arith}
 use lib.Dec.{leb, ltb, eqb}
-use lib.ListN.{length, length-map}
 use borrow.Author.Tests.{leb-true, le-leb, not-false}
 use Rattle.lists.specs.Order.{less}
 use Rattle.lists.specs.Keyed.{keep, all_of, arranged, not_below, sorted}
 use Rattle.lists.proofs.Tests.{by_cases, both, neither}
-use Rattle.lists.proofs.Keyed.{All, all_any, all_of-all, all-all_of, all_keep, keep_same, keep-keep, ascend-to, ascend-from, ascending-keep, Sorted, sorted-arranged, keep-map, length-arranged}
-use Rattle.lists.proofs.Places.{length-mapped}
-use Rattle.columns.specs.Rows.{rows, column}
-use Rattle.columns.proofs.Rows.{rows-map}
+use Rattle.lists.proofs.Keyed.{All, all_any, all_of-all, all-all_of, all_keep, keep_same, keep-keep, ascend-to, ascend-from, ascending-keep, Sorted, sorted-arranged}
 use Rattle.text.specs.Name.{is_name}
-use Rattle.snapshot.specs.Entries.{Entry, gone_at, shown_at, gone_by, shown_by, shown, by_ids, by_deletion, within, entry_at}
-use Rattle.snapshot.specs.Views.{rowsets_of}
+use Rattle.snapshot.specs.Entries.{Entry, gone_at, shown_at, gone_by, shown_by, shown, by_ids, by_deletion, within}
 use Rattle.snapshot.specs.Tables.{TableEntry}
 use Rattle.version_state.specs.declared.VersionManagerInner.{VersionManagerInner}
-use Rattle.ids.specs.Limits.{most_held, longest_manifest}
+use Rattle.ids.specs.Limits.{longest_manifest}
 use Rattle.version_state.specs.State.{State, state_of, counts_fit, Hands, pairs_at, vectors_at}
 use Rattle.version_state.specs.Sound.{left_behind, beyond_limits, out_of_order, above_own, bad_inner}
 use Rattle.version_state.proofs.Facts.{fit-counts, in_order, order-in}
 use Rattle.vacuum.specs.LetGo.{vacuum_list, stays_by, vacuumed}
-
--- a column that came with the state has its length, as the facts of a parameter have it
-pub sized : (c : List ℕ) → length (map (λ v. v) c) ≡ most_held → length c ≡ most_held
-sized c p = length-mapped ℕ ℕ (λ v. v) c most_held p
-
--- how many are gone is how many are listed
-pub counted-list : (b : ℕ) (m : VersionManagerInner) → length (keep (gone_at b) (rows (column m.rowsets.deleted) m.rowsets.count)) ≡ length (vacuum_list b (state_of m))
-counted-list b m =
-    let p = m.rowsets in
-    let f = entry_at (p.tables ∷ p.rowsets ∷ []) p.added p.deleted in
-    let l = rowsets_of p in
-    ap (λ (c : List ℕ). length (keep (gone_at b) c)) (sym (rows-map f (λ (x : Entry). x.deleted) p.count))
-    ∙ ap length (keep-map (λ (x : Entry). x.deleted) (gone_at b) l)
-    ∙ length-map (keep (gone_by b) l) (λ (x : Entry). x.deleted)
-    ∙ sym (length-arranged by_deletion (keep (gone_by b) l))
 
 -- what is gone by b is gone by every later epoch
 pub gone-later : (b e d : ℕ) → b ≤ e → gone_at b d ≡ true → gone_at e d ≡ true

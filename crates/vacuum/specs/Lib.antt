@@ -1,5 +1,4 @@
 -- The definitions that this crate's contracts cite. Assumes nothing.
 pub mod LetGo
-pub mod Listed
 pub mod Says
 pub mod Laws

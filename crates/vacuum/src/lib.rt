@@ -1,173 +1,104 @@
 // Vacuum: deletions that no pin keeps are listed and let go.
 #![tactic(auto)]
 
-ghost use Rattle.std.specs.Prelude.{◌≡◌, true, false, [], ◌∷◌, ◌≤◌, length, Err};
-ghost use Rattle.lists.specs.Keyed.{keep, ascending, rank};
+ghost use Rattle.std.specs.Prelude.{◌≡◌, false, ◌≤◌, map, length, take};
+ghost use Rattle.lists.specs.Keyed.{keep, arranged};
+ghost use Rattle.lists.specs.Written.{over};
 ghost use Rattle.ids.specs.Limits.{most_held};
-ghost use Rattle.columns.specs.Rows.{rows, column, across, plain};
-ghost use Rattle.snapshot.specs.Entries.{gone_at};
-ghost use Rattle.snapshot.specs.Picked.{Stand};
+ghost use Rattle.snapshot.specs.Entries.{gone_by, by_deletion};
+ghost use Rattle.snapshot.specs.Views.{rowsets_of, rowset_of};
 ghost use Rattle.version_state.specs.State.{state_of, Fit, Hands};
 ghost use Rattle.version_state.specs.Sound.{bad_inner};
 ghost use Rattle.vacuum.specs.LetGo.{vacuumed};
-ghost use Rattle.vacuum.specs.Listed.{list_places};
 ghost use Rattle.vacuum.specs.Says.{VacuumIs};
 ghost use Rattle.vacuum.specs.Laws.{VacuumLaws};
 
 use ids::limits::MOST_HELD;
 use ids::refusal::Refusal;
+use ids::{RowsetNo, TableNo};
 use pins::PinBook;
-use snapshot::{gone, held};
+use snapshot::rowsets::{HeldRowset, Rowsets};
 use version_state::VersionManagerInner;
-
-// What a vacuum lists and leaves: `count` deletions, and the state without them. Beside a refusal both mean nothing.
-#[derive(Drop)]
-pub struct Released {
-    pub verdict: Result<(), Refusal>,
-    pub count: usize,
-    pub inner: VersionManagerInner,
-}
 
 // The laws of an accepted vacuum.
 pub fn holds()
     ensures { VacuumLaws }
 {}
 
-// Internal, as is what follows: the count is within the columns. How many of the first `count` are gone by the epoch.
-pub fn counted(deleted: &[u32; MOST_HELD], count: usize, epoch: u32) -> usize
-    requires { count ≤ most_held }
-    ensures { result ≡ length (keep (gone_at epoch) (rows (column deleted.now) count)) }
+// Internal, as is all that follows, where the count is within the columns, which the structs of the C interface cannot say: how many are
+// gone by the epoch.
+pub fn counted(rowsets: &Rowsets, epoch: u32) -> usize
+    requires { rowsets.now.count ≤ most_held }
+    ensures { result ≡ length (keep (gone_by epoch) (rowsets_of rowsets.now)) }
 {
-    let mut k: usize = 0;
-    let mut i = 0;
-    while i < count {
-        if gone(deleted[i], epoch) {
-            k += 1;
-            i += 1;
-        } else {
-            i += 1;
-        }
-    }
-    k
+    rowsets.gone(epoch).count()
 }
 
-// The place of (x, y) among rising rows: at once where it comes last, and else by halves.
-fn place_of<'a>(
-    a: &'a [u32; MOST_HELD],
-    b: &'a [u32; MOST_HELD],
-    count: usize,
-    x: u32,
-    y: u32,
-) -> usize
-    requires { (count ≤ most_held) × (ascending plain (rows (across (a.now ∷ b.now ∷ [])) count) ≡ true) }
-    ensures { (result ≡ rank plain (x ∷ y ∷ []) (rows (across (a.now ∷ b.now ∷ [])) count)) × (result ≤ count) }
+// Those that are gone by the epoch, in the order of the vacuum's list; answers how many they are.
+fn listed(rowsets: &Rowsets, epoch: u32, gone: &mut [HeldRowset; MOST_HELD]) -> usize
+    requires { rowsets.now.count ≤ most_held }
+    ensures inside { result ≤ most_held }
+    ensures told { map (λ x. by_deletion (rowset_of x)) (take result gone.new) ≡ map by_deletion (arranged by_deletion (keep (gone_by epoch) (rowsets_of rowsets.now))) }
 {
-    if count == 0 {
-        return 0;
+    // To do: an `ArrayVec`, which counts itself.
+    let mut count = 0;
+    for rowset in rowsets.gone(epoch) {
+        gone[count] = rowset;
+        count += 1;
     }
-    let last = count - 1;
-    if columns::before(a[last], b[last], x, y) {
-        return count;
-    }
-    columns::place(a, b, count, x, y)
+    gone[..count].sort_unstable_by_key(|r| (r.deleted, r.table.0, r.rowset.0));
+    count
 }
 
-// The places of what is gone by the epoch, in the order of the vacuum's list; answers how many they are.
-pub fn listed(
-    deleted: &[u32; MOST_HELD],
-    count: usize,
-    epoch: u32,
-    places: &mut [u32; MOST_HELD],
-) -> usize
-    requires { (count ≤ most_held) × (length places.old ≡ most_held) }
-    ensures { Stand count (list_places epoch deleted.now count) result places.new }
+// Their ids, to the front of the slices.
+fn write(gone: &[HeldRowset], tables: &mut [u32], rowsets: &mut [u32])
+    requires tables { length gone.now ≤ length tables.old }
+    requires rowsets { length gone.now ≤ length rowsets.old }
+    ensures tables { tables.new ≡ over (map (λ x. x.table.0) gone.now) tables.old }
+    ensures rowsets { rowsets.new ≡ over (map (λ x. x.rowset.0) gone.now) rowsets.old }
 {
-    let mut epochs = [0; MOST_HELD];
-    let mut k: usize = 0;
-    let mut i = 0;
-    while i < count {
-        let d = deleted[i];
-        if gone(d, epoch) {
-            let at = place_of(&epochs, places, k, d, i as u32);
-            columns::insert(&mut epochs, k, at, d);
-            columns::insert(places, k, at, i as u32);
-            k += 1;
-            i += 1;
-        } else {
-            i += 1;
-        }
-    }
-    k
-}
-
-// What is left without the deletions up to an epoch.
-pub fn let_go(inner: VersionManagerInner, epoch: u32) -> VersionManagerInner
-    requires { Fit inner }
-    ensures { Hands result (vacuumed epoch (state_of inner)) }
-{
-    let mut s = inner;
-    let n = s.rowsets.count;
-    let kept = held::left(&s.rowsets.deleted, n, epoch);
-    columns::keep(&mut s.rowsets.tables, &kept, n);
-    columns::keep(&mut s.rowsets.rowsets, &kept, n);
-    columns::keep(&mut s.rowsets.added, &kept, n);
-    let left = columns::keep(&mut s.rowsets.deleted, &kept, n);
-    s.rowsets.count = left;
-    let n = s.vectors.count;
-    let kept = held::left(&s.vectors.deleted, n, epoch);
-    columns::keep(&mut s.vectors.tables, &kept, n);
-    columns::keep(&mut s.vectors.rowsets, &kept, n);
-    columns::keep(&mut s.vectors.vectors, &kept, n);
-    columns::keep(&mut s.vectors.added, &kept, n);
-    let left = columns::keep(&mut s.vectors.deleted, &kept, n);
-    s.vectors.count = left;
-    s
-}
-
-fn refused(inner: VersionManagerInner, why: Refusal) -> Released
-    ensures { result.verdict ≡ Err why }
-{
-    Released {
-        verdict: Err(why),
-        count: 0,
-        inner,
+    for (i, rowset) in gone.iter().enumerate() {
+        tables[i] = rowset.table.0;
+        rowsets[i] = rowset.rowset.0;
     }
 }
 
-// The state has passed 29.
+// What is left without the deletions up to an epoch. The structs of the C interface cannot say that their counts are within the columns.
+pub fn let_go(inner: &mut VersionManagerInner, epoch: u32)
+    requires { Fit inner.old }
+    ensures { Hands inner.new (vacuumed epoch (state_of inner.old)) }
+{
+    inner.rowsets.let_go(epoch);
+    inner.vectors.let_go(epoch);
+}
+
+// The state has passed 29. It alters the state, so that the type for one that has passed 29 would be no plainer. Answers how many
+// deletions are listed, in slices that C lends one by one.
 pub fn vacuum(
-    inner: VersionManagerInner,
-    book: PinBook,
+    inner: &mut VersionManagerInner,
+    book: &PinBook,
     tables: &mut [u32],
     rowsets: &mut [u32],
-) -> Released
-    requires { bad_inner inner ≡ false }
-    ensures { VacuumIs (state_of inner) book tables.old rowsets.old result tables.new rowsets.new }
+) -> Result<usize, Refusal>
+    requires { bad_inner inner.old ≡ false }
+    ensures { VacuumIs (state_of inner.old) book.now tables.old rowsets.old result inner.new tables.new rowsets.new }
 {
-    let current = inner.epoch;
-    if book.bad(current) {
-        return refused(inner, Refusal::BadPinBook);
+    if book.bad(inner.epoch) {
+        return Err(Refusal::BadPinBook);
     }
-    let bound = book.bound(current);
-    let mut places = [0; MOST_HELD];
-    let count = listed(
-        &inner.rowsets.deleted,
-        inner.rowsets.count,
-        bound,
-        &mut places,
-    );
-    if tables.len() < count {
-        return refused(inner, Refusal::OutputTooShort);
+    let bound = book.bound(inner.epoch);
+    let none = HeldRowset {
+        table: TableNo(0),
+        rowset: RowsetNo(0),
+        added: 0,
+        deleted: 0,
+    };
+    let mut gone = [none; MOST_HELD];
+    let count = listed(&inner.rowsets, bound, &mut gone);
+    if tables.len() < count || rowsets.len() < count {
+        return Err(Refusal::OutputTooShort);
     }
-    if rowsets.len() < count {
-        return refused(inner, Refusal::OutputTooShort);
-    }
-    held::write(&inner.rowsets.tables, &places, count, tables);
-    held::write(&inner.rowsets.rowsets, &places, count, rowsets);
-    let left = let_go(inner, bound);
-    Released {
-        verdict: Ok(()),
-        count,
-        inner: left,
-    }
+    write(&gone[..count], tables, rowsets);
+    let_go(inner, bound);
+    Ok(count)
 }

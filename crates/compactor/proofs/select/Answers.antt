@@ -1,90 +1,64 @@
 -- `compactor::select` meets its contract.
-use mathlib.Core.Path.{refl, sym, ap, ◌∙◌}
-use mathlib.Core.Bool.{not}
-use mathlib.Core.List.{List}
-use Prim.Native.Nat.{ℕ}
-use native.Mathlib.Omega.{arith}
-use borrow.Author.Tests.{ltb-true, not-false}
-use Rattle.lists.specs.Written.{over}
-use Rattle.lists.proofs.Places.{known}
-use Rattle.version_state.proofs.Facts.{sound-of, pairs-rise}
-use Rattle.compactor.proofs.Selecting.{compacted-few, here-count, selected-are, selected-count, selected-inside, live_here, not-id, wrong-count, not_live, no_room, chooses}
+use Rattle.std.proofs.Common.{◌≡◌, List, ◌++◌, ℕ, map, length, take, drop, sym, ap, ap₂, ◌∙◌, arith}
+use mathlib.Core.Logic.{inl}
+use lib.ListN.{length-map}
+use Rattle.std.proofs.lemmas.Iterator.Consumers.{YieldsList-from_first, count_from_yields_List}
+use Rattle.snapshot.specs.Entries.{Entry}
+use Rattle.snapshot.specs.Views.{rowset_of}
+use Rattle.snapshot.specs.Shown.{shown_rowsets}
+use Rattle.version_state.specs.State.{state_of}
+use Rattle.version_state.proofs.Facts.{sound-of}
+use Rattle.compactor.specs.Selection.{taken, sized, rowsets_now}
+use Rattle.compactor.proofs.Taking.{rowset_in, rowset_at}
+use Rattle.compactor.proofs.Selecting.{shown-few, rowsets-shown, rowsets-few, selected-are, selected-count, wrong-count, not_live, no_room, chooses}
 use Rattle.compactor.proofs.select.Goals as goal
+use Rattle.compactor.proofs.select.Goals.{After-count, After-take}
 
-pub is_id-requires : goal.is_id-requires
-is_id-requires c = search known
+-- how many are shown
+shown-count : (c : After-count) → c.count.result ≡ length (rowsets_now c.args.table.0 (state_of c.args.state.inner.now))
+shown-count c =
+    count_from_yields_List c.shown_of.result _ c.count.ensures.ran (YieldsList-from_first rowset_of shown_rowsets _ c.shown_of.ensures)
+    ∙ sym (length-map _ rowset_at)
+    ∙ ap length (rowsets-shown c.args.table.0 (state_of c.args.state.inner.now))
 
-pub returns-then-not-is_id : goal.returns-then-not-is_id
-returns-then-not-is_id c =
-    let a = c.args in
-    not-id c.args.inner c.args.table.0 c.args.target c.args.sizes.now c.args.out.now (ap not (sym c.is_id.ensures) ∙ c.if-not-is_id.true-raw)
+-- what was taken
+told : (c : After-take) → take c.take.result c.take.new.chosen ≡ map rowset_in (taken c.args.target (sized (rowsets_now c.args.table.0 (state_of c.args.state.inner.now)) c.args.sizes.now))
+told c =
+    c.take.ensures.told
+    ∙ ap (λ (es : List Entry). map rowset_in (taken c.args.target (sized (map rowset_at es) c.args.sizes.now))) c.shown_of-shown.ensures
+    ∙ ap (λ (rs : List ℕ). map rowset_in (taken c.args.target (sized rs c.args.sizes.now))) (rowsets-shown c.args.table.0 (state_of c.args.state.inner.now))
 
-pub places_of-shown-requires : goal.places_of-shown-requires
-places_of-shown-requires c =
-    let a = c.args in
-    let s = sound-of c.args.inner c.requires in
-    (s.fits.rowsets, pairs-rise c.args.inner s.ordered, ltb-true c.args.table.0 _ (sym c.is_id.ensures ∙ not-false _ c.if-not-is_id.false-raw), refl)
+pub count-requires-clause-fits : goal.count-requires-clause-fits
+count-requires-clause-fits c =
+    let f = (sound-of c.args.state.inner.now c.args.state.sound).fits.rowsets in
+    inl (omega (arith, ap length c.shown_of.ensures, shown-few c.args.table.0 c.args.state.inner.now.epoch c.args.state.inner.now.rowsets, f))
 
-pub returns-then-sizes-shown : goal.returns-then-sizes-shown
-returns-then-sizes-shown c =
-    let a = c.args in
-    let h = ap not (sym c.is_id.ensures) ∙ c.if-not-is_id.false-raw in
-    let x = c.places_of-shown in
-    let k = here-count c.args.inner c.args.table.0 c.args.target c.args.sizes.now c.places_of-shown.result _ c.places_of-shown.ensures.0 in
-    wrong-count c.args.inner c.args.table.0 c.args.target c.args.sizes.now c.args.out.now h (λ e. c.if-sizes-shown.true (e ∙ sym k))
-
-pub holds-requires : goal.holds-requires
-holds-requires c = (sound-of c.args.inner c.requires).fits.tables
+pub returns-then-sizes-count : goal.returns-then-sizes-count
+returns-then-sizes-count c =
+    let k = shown-count (goal.at.returns-then-sizes-count c).After-count in
+    wrong-count c.args.state.inner.now c.args.table.0 c.args.target c.args.sizes.now c.args.out.now (sym c.is_id.ensures ∙ c.if-not-is_id.false) (λ e. c.if-sizes-count.true (e ∙ sym k))
 
 pub returns-then-not-holds : goal.returns-then-not-holds
 returns-then-not-holds c =
-    let a = c.args in
-    let h = ap not (sym c.is_id.ensures) ∙ c.if-not-is_id.false-raw in
-    let x = c.places_of-shown in
-    let k = here-count c.args.inner c.args.table.0 c.args.target c.args.sizes.now c.places_of-shown.result _ c.places_of-shown.ensures.0 in
-    not_live c.args.inner c.args.table.0 c.args.target c.args.sizes.now c.args.out.now h (c.if-sizes-shown.false ∙ k) (ap not (sym (live_here c.args.inner c.args.table.0 c.args.target c.args.sizes.now _ c.holds.ensures)) ∙ c.if-not-holds.true-raw)
+    let k = shown-count (goal.at.returns-then-not-holds c).After-count in
+    not_live c.args.state.inner.now c.args.table.0 c.args.target c.args.sizes.now c.args.out.now (sym c.is_id.ensures ∙ c.if-not-is_id.false) (c.if-sizes-count.false ∙ k) (sym c.holds.ensures ∙ c.if-not-holds.true)
 
-pub take-taken-requires : goal.take-taken-requires
-take-taken-requires c =
-    let a = c.args in
-    let f = (sound-of c.args.inner c.requires).fits.rowsets in
-    (omega (arith, f, c.places_of-shown.ensures.0.fewer, c.if-sizes-shown.false), c.places_of-shown.ensures.1)
-
-pub compacted-count-requires : goal.compacted-count-requires
-compacted-count-requires c = search known
+pub take-requires : goal.take-requires
+take-requires c =
+    let f = (sound-of c.args.state.inner.now c.args.state.sound).fits.rowsets in
+    let k = shown-count (goal.at.take-requires c).After-count in
+    omega (arith, c.if-sizes-count.false, k, rowsets-few c.args.table.0 c.args.state.inner.now, f)
 
 pub returns-then-out-count : goal.returns-then-out-count
 returns-then-out-count c =
-    let a = c.args in
-    let h = ap not (sym c.is_id.ensures) ∙ c.if-not-is_id.false-raw in
-    let x = c.places_of-shown in
-    let k = here-count c.args.inner c.args.table.0 c.args.target c.args.sizes.now c.places_of-shown.result _ c.places_of-shown.ensures.0 in
-    let y = c.take-taken in
-    let n = selected-count c.args.inner c.args.table.0 c.args.target c.args.sizes.now c.places_of-shown.result _ c.places_of-shown.ensures.0 c.if-sizes-shown.false c.take-taken.result _ c.take-taken.ensures _ c.compacted-count.ensures in
-    no_room c.args.inner c.args.table.0 c.args.target c.args.sizes.now c.args.out.now h (c.if-sizes-shown.false ∙ k) (ap not (sym (live_here c.args.inner c.args.table.0 c.args.target c.args.sizes.now _ c.holds.ensures)) ∙ c.if-not-holds.false-raw) (omega (arith, n, c.if-out-count.true))
-
-pub write-requires : goal.write-requires
-write-requires c =
-    let a = c.args in
-    let f = (sound-of c.args.inner c.requires).fits.rowsets in
-    let x = c.places_of-shown in
-    let y = c.take-taken in
-    let w = c.if-sizes-shown.false in
-    let n = compacted-few c.take-taken.result _ c.compacted-count.ensures in
-    let i = selected-inside c.args.inner c.args.table.0 c.args.target c.args.sizes.now c.places_of-shown.result _ c.places_of-shown.ensures.0 w c.take-taken.result _ c.take-taken.ensures _ c.compacted-count.ensures (λ j h. let o = c.places_of-shown.ensures.0.inside j (omega (arith, h, w)) in omega (arith, o, f)) in
-    (c.if-out-count.false, omega (arith, n, c.take-taken.ensures.fewer, w, c.places_of-shown.ensures.0.fewer, f), i)
-
-pub shape_of-out : goal.shape_of-out
-shape_of-out c = search known
+    let k = shown-count (goal.at.returns-then-out-count c).After-count in
+    let n = selected-count c.args.state.inner.now c.args.table.0 c.args.target c.args.sizes.now c.take.new.chosen c.take.result _ (omega (arith, c.take.ensures.inside)) (told (goal.at.returns-then-out-count c).After-take) c.compacted-count.ensures in
+    no_room c.args.state.inner.now c.args.table.0 c.args.target c.args.sizes.now c.args.out.now (sym c.is_id.ensures ∙ c.if-not-is_id.false) (c.if-sizes-count.false ∙ k) (sym c.holds.ensures ∙ c.if-not-holds.false) (omega (arith, n, c.if-out-count.true))
 
 pub returns : goal.returns
 returns c =
-    let a = c.args in
-    let h = ap not (sym c.is_id.ensures) ∙ c.if-not-is_id.false-raw in
-    let x = c.places_of-shown in
-    let k = here-count c.args.inner c.args.table.0 c.args.target c.args.sizes.now c.places_of-shown.result _ c.places_of-shown.ensures.0 in
-    let y = c.take-taken in
-    let w = c.if-sizes-shown.false in
-    let n = selected-count c.args.inner c.args.table.0 c.args.target c.args.sizes.now c.places_of-shown.result _ c.places_of-shown.ensures.0 w c.take-taken.result _ c.take-taken.ensures _ c.compacted-count.ensures in
-    let l = selected-are c.args.inner c.args.table.0 c.args.target c.args.sizes.now c.places_of-shown.result _ c.places_of-shown.ensures.0 w c.take-taken.result _ c.take-taken.ensures _ c.compacted-count.ensures in
-    chooses c.args.inner c.args.table.0 c.args.target c.args.sizes.now c.args.out.now h (w ∙ k) (ap not (sym (live_here c.args.inner c.args.table.0 c.args.target c.args.sizes.now _ c.holds.ensures)) ∙ c.if-not-holds.false-raw) (omega (arith, n, c.if-out-count.false)) _ _ n (c.write.ensures ∙ ap (λ (i : List ℕ). over i c.args.out.now) l)
+    let k = shown-count (goal.at.returns c).After-count in
+    let n = selected-count c.args.state.inner.now c.args.table.0 c.args.target c.args.sizes.now c.take.new.chosen c.take.result _ (omega (arith, c.take.ensures.inside)) (told (goal.at.returns c).After-take) c.compacted-count.ensures in
+    let l = selected-are c.args.state.inner.now c.args.table.0 c.args.target c.args.sizes.now c.take.new.chosen c.take.result _ (omega (arith, c.take.ensures.inside)) (told (goal.at.returns c).After-take) c.compacted-count.ensures in
+    chooses c.args.state.inner.now c.args.table.0 c.args.target c.args.sizes.now c.args.out.now (sym c.is_id.ensures ∙ c.if-not-is_id.false) (c.if-sizes-count.false ∙ k) (sym c.holds.ensures ∙ c.if-not-holds.false) (omega (arith, n, c.if-out-count.false)) _ _ n
+    (ap₂ (λ (run : List ℕ) (i : ℕ). run ++ drop i c.args.out.now) (c.copy_from_slice.ensures.after ∙ l) n)

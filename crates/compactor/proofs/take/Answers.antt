@@ -1,54 +1,46 @@
 -- `compactor::take` meets its contract.
-use mathlib.Core.Path.{refl}
-use Rattle.lists.proofs.Places.{known}
-use Rattle.compactor.proofs.Taking.{taking-start, taking-one, taking-none, taking-done}
+use Rattle.std.proofs.Common.{◌≡◌, ◌<◌, ℕ, List, [], ◌∷◌, map, sym, ap, ◌∙◌, arith, Bor}
+use mathlib.Core.List.{map-map}
+use lib.ListN.{length-map}
+use Rattle.std.proofs.lemmas.Slice.Zip.{length-zip}
+use Rattle.ids.specs.Limits.{most_held}
+use Rattle.std.proofs.lemmas.Iterator.{YieldsList-from_slice, YieldsList-from_zip}
+use Rattle.std.proofs.lemmas.Iterator.Consumers.{YieldsList-from_first, YieldsList-turn, YieldsList-end}
+use Rattle.lists.proofs.Views.{map-append}
+use Rattle.snapshot.specs.Entries.{Entry}
+use Rattle.snapshot.specs.Views.{rowset_of}
+use Rattle.snapshot.specs.Shown.{shown_rowsets}
+use Rattle.snapshot.specs.declared.rowsets.HeldRowset.{HeldRowset}
+use Rattle.compactor.specs.Selection.{Sized, sized_as, taken, sized}
+use Rattle.compactor.proofs.Taking.{rowset_in, rowset_at, seen, take-one, take_none, zipped}
 use Rattle.compactor.proofs.take.Goals as goal
+use Rattle.compactor.proofs.take.Goals.{In-Some}
 
-pub loop-i-init : goal.loop-i-init
-loop-i-init c = (refl, c.requires.0, taking-start _ _ _ c.requires.1)
+-- there is room for one more
+room : (c : In-Some) → c.loop-rowset.count < most_held
+room c =
+    let es = shown_rowsets c.args.shown in
+    let road = YieldsList-from_zip {s = c.into_iter-rowset-iterator.result} (YieldsList-from_first rowset_of shown_rowsets es (cc)) (YieldsList-from_slice c.args.sizes.now (cc)) in
+    let t = YieldsList-turn road c.loop-rowset.yielded c.loop-rowset.rowset-iterator c.loop-rowset.yielded_by _ c.next.new.self (c.in-Some.rowset, c.in-Some.size) c.in-Some.is c.next.ensures.steps in
+    omega (arith, t.0, length-zip es c.args.sizes.now, c.requires, c.loop-rowset.invariant.behind, length-map c.loop-rowset.yielded seen)
 
-pub offset_bounds-sizes-i : goal.offset_bounds-sizes-i
-offset_bounds-sizes-i c = search known
+pub loop-rowset-preserved-then-size-left : goal.loop-rowset-preserved-then-size-left
+loop-rowset-preserved-then-size-left c =
+    rw (map-append seen c.loop-rowset.yielded ((c.in-Some.rowset, c.in-Some.size) ∷ []))
+    (take-one c.args.target c.loop-rowset.left c.loop-rowset.count (map seen c.loop-rowset.yielded) c.loop-rowset.chosen (seen (c.in-Some.rowset, c.in-Some.size)) c.loop-rowset.invariant c.if-size-left.true (room (goal.at.loop-rowset-preserved-then-size-left c).In-Some))
 
-pub bounds-sizes-i : goal.bounds-sizes-i
-bounds-sizes-i c = search known
+pub loop-rowset-preserved : goal.loop-rowset-preserved
+loop-rowset-preserved c =
+    rw (map-append seen c.loop-rowset.yielded ((c.in-Some.rowset, c.in-Some.size) ∷ []))
+    (take_none c.args.target c.loop-rowset.left c.loop-rowset.count (map seen c.loop-rowset.yielded) c.loop-rowset.chosen (seen (c.in-Some.rowset, c.in-Some.size)) c.loop-rowset.invariant c.if-size-left.false)
 
-pub offset_bounds-places-i : goal.offset_bounds-places-i
-offset_bounds-places-i c = search known
-
-pub bounds-places-i : goal.bounds-places-i
-bounds-places-i c = search known
-
-pub offset_bounds-places-k : goal.offset_bounds-places-k
-offset_bounds-places-k c = search known
-
-pub bounds-places-k : goal.bounds-places-k
-bounds-places-k c = search known
-
-pub overflow_add-k : goal.overflow_add-k
-overflow_add-k c = search known
-
-pub overflow_add-i : goal.overflow_add-i
-overflow_add-i c = search known
-
-pub loop-i-smaller-then-size-left : goal.loop-i-smaller-then-size-left
-loop-i-smaller-then-size-left c = search known
-
-pub loop-i-preserved-then-size-left : goal.loop-i-preserved-then-size-left
-loop-i-preserved-then-size-left c =
-    let inv = c.loop-i.invariant in
-    (c.loop-i.invariant.0, c.loop-i.invariant.1, taking-one _ _ _ _ _ _ _ c.loop-i.invariant.1 c.loop-i-test.true c.loop-i.invariant.2 c.if-size-left.true)
-
-pub overflow_add-i-else-size-left : goal.overflow_add-i-else-size-left
-overflow_add-i-else-size-left c = search known
-
-pub loop-i-smaller : goal.loop-i-smaller
-loop-i-smaller c = search known
-
-pub loop-i-preserved : goal.loop-i-preserved
-loop-i-preserved c =
-    let inv = c.loop-i.invariant in
-    (c.loop-i.invariant.0, c.loop-i.invariant.1, taking-none _ _ _ _ _ _ _ c.loop-i.invariant.1 c.loop-i-test.true c.loop-i.invariant.2 c.if-size-left.false)
-
-pub returns : goal.returns
-returns c = taking-done _ _ _ _ _ _ _ c.loop-i-test.false c.loop-i.invariant.2
+pub returns-clause-told : goal.returns-clause-told
+returns-clause-told c =
+    let es = shown_rowsets c.args.shown in
+    let road = YieldsList-from_zip {s = c.into_iter-rowset-iterator.result} (YieldsList-from_first rowset_of shown_rowsets es (cc)) (YieldsList-from_slice c.args.sizes.now (cc)) in
+    let e = YieldsList-end road c.loop-rowset.yielded c.loop-rowset.rowset-iterator c.loop-rowset.yielded_by _ c.next.new.self c.in-None.is c.next.ensures.steps in
+    let all : map seen c.loop-rowset.yielded ≡ sized (map rowset_at es) c.args.sizes.now =
+    sym (map-map (λ (q : Entry × ℕ). sized_as (rowset_at q.0) q.1) (λ (p : HeldRowset × Bor ℕ). (rowset_of p.0, p.1.now)) c.loop-rowset.yielded)
+    ∙ ap (map (λ (q : Entry × ℕ). sized_as (rowset_at q.0) q.1)) e.0
+    ∙ zipped es c.args.sizes.now in
+    c.loop-rowset.invariant.told ∙ ap (λ (l : List Sized). map rowset_in (taken c.args.target l)) all

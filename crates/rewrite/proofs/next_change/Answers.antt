@@ -1,7 +1,6 @@
 -- `rewrite::next_change` meets its contract.
 use mathlib.Core.Path.{refl}
 use native.Mathlib.Omega.{arith}
-use Rattle.lists.proofs.Places.{known}
 use Rattle.rewrite.proofs.Room.{next-line}
 use Rattle.rewrite.proofs.next_change.Goals as goal
 

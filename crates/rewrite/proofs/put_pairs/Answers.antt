@@ -1,68 +1,39 @@
 -- `rewrite::put_pairs` meets its contract.
-use mathlib.Core.Path.{sym, ◌∙◌}
 use mathlib.Core.List.{map-map}
-use Rattle.lists.proofs.Places.{known}
-use Rattle.snapshot.specs.Entries.{by_ids}
+use native.Mathlib.Omega.{arith}
+use Rattle.std.proofs.lemmas.Iterator.Consumers.{YieldsList-from_first, YieldsList-turn, YieldsList-end}
+use Rattle.std.proofs.lemmas.List.{length_push}
+use Rattle.lists.specs.Keyed.{keep}
+use Rattle.snapshot.specs.Entries.{by_ids, shown_by}
+use Rattle.snapshot.specs.Views.{rowset_of}
+use Rattle.snapshot.specs.Shown.{shown_rowsets}
+use Rattle.version_state.specs.State.{state_of}
 use Rattle.rewrite.specs.Rewritten.{add_of}
-use Rattle.rewrite.proofs.Lines.{write-start, write-length, write-room, write-yes, write-no, write_done}
+use Rattle.rewrite.proofs.Lines.{kept-few, write-start, write-room, write-more, write_done}
+use Rattle.rewrite.proofs.Room.{add-line}
 use Rattle.rewrite.proofs.put_pairs.Goals as goal
 
-pub loop-i-init : goal.loop-i-init
-loop-i-init c = write-start _ _ _ _ c.requires.0 c.requires.1
+pub loop-r-init : goal.loop-r-init
+loop-r-init c = write-start (kept-few _ _ _ _ c.requires.fits.rowsets) c.requires.room
 
-pub offset_bounds-added-i : goal.offset_bounds-added-i
-offset_bounds-added-i c = search known
+pub put_line-at-requires : goal.put_line-at-requires
+put_line-at-requires c =
+    let l = keep (shown_by c.args.inner.now.epoch) (state_of c.args.inner.now).pairs in
+    let road = YieldsList-from_first rowset_of shown_rowsets {s = c.into_iter-r-iterator.result} l (cc) in
+    let t = YieldsList-turn road c.loop-r.yielded c.loop-r.r-iterator c.loop-r.yielded_by _ c.next.new.self c.in-Some.r c.in-Some.is c.next.ensures.steps in
+    write-room c.loop-r.invariant t.0 _ (add-line c.in-Some.r.table.0 c.in-Some.r.rowset.0 (omega arith) (omega arith))
 
-pub bounds-added-i : goal.bounds-added-i
-bounds-added-i c = search known
-
-pub offset_bounds-deleted-i : goal.offset_bounds-deleted-i
-offset_bounds-deleted-i c = search known
-
-pub bounds-deleted-i : goal.bounds-deleted-i
-bounds-deleted-i c = search known
-
-pub shown-requires : goal.shown-requires
-shown-requires c = search known
-
-pub offset_bounds-tables-i : goal.offset_bounds-tables-i
-offset_bounds-tables-i c = search known
-
-pub bounds-tables-i : goal.bounds-tables-i
-bounds-tables-i c = search known
-
-pub offset_bounds-rowsets-i : goal.offset_bounds-rowsets-i
-offset_bounds-rowsets-i c = search known
-
-pub bounds-rowsets-i : goal.bounds-rowsets-i
-bounds-rowsets-i c = search known
-
-pub add_change-requires : goal.add_change-requires
-add_change-requires c = search known
-
-pub put_line-j-requires : goal.put_line-j-requires
-put_line-j-requires c = write-room c.loop-i.invariant c.loop-i-test.true _ c.add_change.ensures.1
-
-pub overflow_add-i : goal.overflow_add-i
-overflow_add-i c = search known
-
-pub loop-i-smaller-then-shown : goal.loop-i-smaller-then-shown
-loop-i-smaller-then-shown c = search known
-
-pub loop-i-preserved-then-shown : goal.loop-i-preserved-then-shown
-loop-i-preserved-then-shown c = write-yes c.loop-i.invariant c.loop-i-test.true (sym c.shown.ensures ∙ c.if-shown.true) _ c.add_change.ensures.0 c.add_change.ensures.1 _ _ c.put_line-j.ensures
-
-pub overflow_add-i-else-shown : goal.overflow_add-i-else-shown
-overflow_add-i-else-shown c = search known
-
-pub loop-i-smaller : goal.loop-i-smaller
-loop-i-smaller c = search known
-
-pub loop-i-preserved : goal.loop-i-preserved
-loop-i-preserved c = write-no c.loop-i.invariant c.loop-i-test.true (sym c.shown.ensures ∙ c.if-shown.false)
-
-pub shape_of-out : goal.shape_of-out
-shape_of-out c = write-length c.loop-i.invariant
+pub loop-r-preserved : goal.loop-r-preserved
+loop-r-preserved c =
+    let l = keep (shown_by c.args.inner.now.epoch) (state_of c.args.inner.now).pairs in
+    let road = YieldsList-from_first rowset_of shown_rowsets {s = c.into_iter-r-iterator.result} l (cc) in
+    let t = YieldsList-turn road c.loop-r.yielded c.loop-r.r-iterator c.loop-r.yielded_by _ c.next.new.self c.in-Some.r c.in-Some.is c.next.ensures.steps in
+    let w = write-more c.loop-r.invariant t.0 (rowset_of c.in-Some.r) t.1 (add-line c.in-Some.r.table.0 c.in-Some.r.rowset.0 (omega arith) (omega arith)) _ _ c.put_line-at.ensures in
+    rw (length_push c.loop-r.yielded c.in-Some.r) w
 
 pub returns : goal.returns
-returns c = rw (map-map add_of by_ids) (write_done c.loop-i.invariant c.loop-i-test.false)
+returns c =
+    let l = keep (shown_by c.args.inner.now.epoch) (state_of c.args.inner.now).pairs in
+    let road = YieldsList-from_first rowset_of shown_rowsets {s = c.into_iter-r-iterator.result} l (cc) in
+    let t = YieldsList-end road c.loop-r.yielded c.loop-r.r-iterator c.loop-r.yielded_by _ c.next.new.self c.in-None.is c.next.ensures.steps in
+    rw (map-map add_of by_ids) (write_done c.loop-r.invariant t.1)

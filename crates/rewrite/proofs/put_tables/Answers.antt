@@ -1,46 +1,31 @@
 -- `rewrite::put_tables` meets its contract.
-use mathlib.Core.Path.{refl}
-use Rattle.lists.proofs.Places.{known}
-use Rattle.rewrite.proofs.Lines.{write-start, write-length, write-room, write-yes, write_done, keep-every}
+use mathlib.Core.Path.{◌≡◌, sym, ◌∙◌}
+use Prim.Native.Nat.{◌<◌}
+use native.Mathlib.Omega.{arith}
+use lib.ListN.{length}
+use Rattle.std.proofs.lemmas.List.{get_or_default}
+use Rattle.columns.proofs.Rows.{rows-length}
+use Rattle.snapshot.specs.Tables.{no_table}
+use Rattle.snapshot.specs.Views.{table_of}
+use Rattle.version_state.specs.declared.VersionManagerInner.{VersionManagerInner}
+use Rattle.version_state.specs.State.{state_of}
+use Rattle.rewrite.proofs.Lines.{write-start, write-more, write_done}
 use Rattle.rewrite.proofs.put_tables.Goals as goal
 
+-- as many as the count says
+counted : (m : VersionManagerInner) → length (state_of m).tables ≡ m.tables.count
+counted m = rows-length _ m.tables.count
+
 pub loop-i-init : goal.loop-i-init
-loop-i-init c = write-start _ _ _ _ c.requires.0 c.requires.2
-
-pub name_at-name-requires : goal.name_at-name-requires
-name_at-name-requires c = search known
-
-pub offset_bounds-ids-i : goal.offset_bounds-ids-i
-offset_bounds-ids-i c = search known
-
-pub bounds-ids-i : goal.bounds-ids-i
-bounds-ids-i c = search known
-
-pub offset_bounds-shapes-i : goal.offset_bounds-shapes-i
-offset_bounds-shapes-i c = search known
-
-pub bounds-shapes-i : goal.bounds-shapes-i
-bounds-shapes-i c = search known
-
-pub create_change-requires : goal.create_change-requires
-create_change-requires c = search known
-
-pub put_line-j-requires : goal.put_line-j-requires
-put_line-j-requires c = write-room c.loop-i.invariant c.loop-i-test.true _ c.create_change.ensures.1
-
-pub overflow_add-i : goal.overflow_add-i
-overflow_add-i c = search known
-
-pub loop-i-smaller : goal.loop-i-smaller
-loop-i-smaller c = search known
+loop-i-init c = let f = c.requires.fits.tables in write-start (omega (arith, counted c.args.inner.now)) c.requires.room
 
 pub loop-i-preserved : goal.loop-i-preserved
 loop-i-preserved c =
-    let e = rw c.name_at-name.ensures at c.create_change.ensures.0 in
-    write-yes c.loop-i.invariant c.loop-i-test.true refl _ e c.create_change.ensures.1 _ _ c.put_line-j.ensures
-
-pub shape_of-out : goal.shape_of-out
-shape_of-out c = write-length c.loop-i.invariant
+    let l = (state_of c.args.inner.now).tables in
+    let h : c.loop-i.i < length l = omega (arith, c.loop-i-test.true, counted c.args.inner.now) in
+    let x = table_of c.get-table.result in
+    write-more c.loop-i.invariant h x (c.get-table.ensures ∙ sym (get_or_default l c.loop-i.i x no_table h))
+    (rw c.create_change.ensures.0 at c.create_change.ensures.1) _ _ (rw c.create_change.ensures.0 at c.put_line-at.ensures)
 
 pub returns : goal.returns
-returns c = rw keep-every at (write_done c.loop-i.invariant c.loop-i-test.false)
+returns c = write_done c.loop-i.invariant (omega (arith, c.loop-i-test.false, counted c.args.inner.now))

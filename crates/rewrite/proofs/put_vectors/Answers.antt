@@ -1,74 +1,39 @@
 -- `rewrite::put_vectors` meets its contract.
-use mathlib.Core.Path.{sym, ◌∙◌}
 use mathlib.Core.List.{map-map}
-use Rattle.lists.proofs.Places.{known}
-use Rattle.snapshot.specs.Entries.{by_ids}
+use native.Mathlib.Omega.{arith}
+use Rattle.std.proofs.lemmas.Iterator.Consumers.{YieldsList-from_first, YieldsList-turn, YieldsList-end}
+use Rattle.std.proofs.lemmas.List.{length_push}
+use Rattle.lists.specs.Keyed.{keep}
+use Rattle.snapshot.specs.Entries.{by_ids, shown_by}
+use Rattle.snapshot.specs.Views.{vector_of}
+use Rattle.snapshot.specs.Shown.{shown_vectors}
+use Rattle.version_state.specs.State.{state_of}
 use Rattle.rewrite.specs.Rewritten.{add_vector_of}
-use Rattle.rewrite.proofs.Lines.{write-start, write-length, write-room, write-yes, write-no, write_done}
+use Rattle.rewrite.proofs.Lines.{kept-few, write-start, write-room, write-more, write_done}
+use Rattle.rewrite.proofs.Room.{vector_line}
 use Rattle.rewrite.proofs.put_vectors.Goals as goal
 
-pub loop-i-init : goal.loop-i-init
-loop-i-init c = write-start _ _ _ _ c.requires.0 c.requires.1
+pub loop-v-init : goal.loop-v-init
+loop-v-init c = write-start (kept-few _ _ _ _ c.requires.fits.vectors) c.requires.room
 
-pub offset_bounds-added-i : goal.offset_bounds-added-i
-offset_bounds-added-i c = search known
+pub put_line-at-requires : goal.put_line-at-requires
+put_line-at-requires c =
+    let l = keep (shown_by c.args.inner.now.epoch) (state_of c.args.inner.now).vectors in
+    let road = YieldsList-from_first vector_of shown_vectors {s = c.into_iter-v-iterator.result} l (cc) in
+    let t = YieldsList-turn road c.loop-v.yielded c.loop-v.v-iterator c.loop-v.yielded_by _ c.next.new.self c.in-Some.v c.in-Some.is c.next.ensures.steps in
+    write-room c.loop-v.invariant t.0 _ (vector_line c.in-Some.v.table.0 c.in-Some.v.rowset.0 (omega arith) (omega arith) c.in-Some.v.vector.0 (omega arith))
 
-pub bounds-added-i : goal.bounds-added-i
-bounds-added-i c = search known
-
-pub offset_bounds-deleted-i : goal.offset_bounds-deleted-i
-offset_bounds-deleted-i c = search known
-
-pub bounds-deleted-i : goal.bounds-deleted-i
-bounds-deleted-i c = search known
-
-pub shown-requires : goal.shown-requires
-shown-requires c = search known
-
-pub offset_bounds-tables-i : goal.offset_bounds-tables-i
-offset_bounds-tables-i c = search known
-
-pub bounds-tables-i : goal.bounds-tables-i
-bounds-tables-i c = search known
-
-pub offset_bounds-rowsets-i : goal.offset_bounds-rowsets-i
-offset_bounds-rowsets-i c = search known
-
-pub bounds-rowsets-i : goal.bounds-rowsets-i
-bounds-rowsets-i c = search known
-
-pub offset_bounds-vectors-i : goal.offset_bounds-vectors-i
-offset_bounds-vectors-i c = search known
-
-pub bounds-vectors-i : goal.bounds-vectors-i
-bounds-vectors-i c = search known
-
-pub add_vector_change-requires : goal.add_vector_change-requires
-add_vector_change-requires c = search known
-
-pub put_line-j-requires : goal.put_line-j-requires
-put_line-j-requires c = write-room c.loop-i.invariant c.loop-i-test.true _ c.add_vector_change.ensures.1
-
-pub overflow_add-i : goal.overflow_add-i
-overflow_add-i c = search known
-
-pub loop-i-smaller-then-shown : goal.loop-i-smaller-then-shown
-loop-i-smaller-then-shown c = search known
-
-pub loop-i-preserved-then-shown : goal.loop-i-preserved-then-shown
-loop-i-preserved-then-shown c = write-yes c.loop-i.invariant c.loop-i-test.true (sym c.shown.ensures ∙ c.if-shown.true) _ c.add_vector_change.ensures.0 c.add_vector_change.ensures.1 _ _ c.put_line-j.ensures
-
-pub overflow_add-i-else-shown : goal.overflow_add-i-else-shown
-overflow_add-i-else-shown c = search known
-
-pub loop-i-smaller : goal.loop-i-smaller
-loop-i-smaller c = search known
-
-pub loop-i-preserved : goal.loop-i-preserved
-loop-i-preserved c = write-no c.loop-i.invariant c.loop-i-test.true (sym c.shown.ensures ∙ c.if-shown.false)
-
-pub shape_of-out : goal.shape_of-out
-shape_of-out c = write-length c.loop-i.invariant
+pub loop-v-preserved : goal.loop-v-preserved
+loop-v-preserved c =
+    let l = keep (shown_by c.args.inner.now.epoch) (state_of c.args.inner.now).vectors in
+    let road = YieldsList-from_first vector_of shown_vectors {s = c.into_iter-v-iterator.result} l (cc) in
+    let t = YieldsList-turn road c.loop-v.yielded c.loop-v.v-iterator c.loop-v.yielded_by _ c.next.new.self c.in-Some.v c.in-Some.is c.next.ensures.steps in
+    let w = write-more c.loop-v.invariant t.0 (vector_of c.in-Some.v) t.1 (vector_line c.in-Some.v.table.0 c.in-Some.v.rowset.0 (omega arith) (omega arith) c.in-Some.v.vector.0 (omega arith)) _ _ c.put_line-at.ensures in
+    rw (length_push c.loop-v.yielded c.in-Some.v) w
 
 pub returns : goal.returns
-returns c = rw (map-map add_vector_of by_ids) (write_done c.loop-i.invariant c.loop-i-test.false)
+returns c =
+    let l = keep (shown_by c.args.inner.now.epoch) (state_of c.args.inner.now).vectors in
+    let road = YieldsList-from_first vector_of shown_vectors {s = c.into_iter-v-iterator.result} l (cc) in
+    let t = YieldsList-end road c.loop-v.yielded c.loop-v.v-iterator c.loop-v.yielded_by _ c.next.new.self c.in-None.is c.next.ensures.steps in
+    rw (map-map add_vector_of by_ids) (write_done c.loop-v.invariant t.1)

@@ -18,20 +18,20 @@ use Rattle.show.proofs.show_pairs.Goals as goal
 
 pub count-count-requires-clause-fits : goal.count-count-requires-clause-fits
 count-count-requires-clause-fits c =
-    let f = (sound-of c.args.inner.now c.requires).fits.rowsets in
-    let h : length (keep (shown_by c.args.epoch) (state_of c.args.inner.now).pairs) ≤ c.args.inner.now.rowsets.count = kept-few _ _ _ in
+    let f = (sound-of c.args.state.inner.now c.args.state.sound).fits.rowsets in
+    let h : length (keep (shown_by c.args.epoch) (state_of c.args.state.inner.now).pairs) ≤ c.args.state.inner.now.rowsets.count = kept-few _ _ _ in
     inl (omega (arith, ap length c.shown.ensures))
 
 pub returns-in_err-judge : goal.returns-in_err-judge
 returns-in_err-judge c =
-    let l = keep (shown_by c.args.epoch) (state_of c.args.inner.now).pairs in
+    let l = keep (shown_by c.args.epoch) (state_of c.args.state.inner.now).pairs in
     let n = count_from_yields_List c.shown.result c.count-count.result c.count-count.ensures.ran (YieldsList-from_first rowset_of shown_rowsets l c.shown.ensures) in
-    let d = pairs-judged (state_of c.args.inner.now) c.args.book.now c.args.epoch _ c.args.tables.now c.args.rowsets.now _ _ (ap not c.may_show-unseen.ensures) n c.min-room.ensures in
-    pairs-refuse (state_of c.args.inner.now) c.args.book.now c.args.epoch c.args.tables.now c.args.rowsets.now _ _ c.from_residual.ensures.1 (sym d ∙ sym c.judge.ensures ∙ c.in_err-judge.was)
+    let d = pairs-judged (state_of c.args.state.inner.now) c.args.book.now c.args.epoch _ c.args.tables.now c.args.rowsets.now _ _ (ap not c.may_show-unseen.ensures) n c.min-room.ensures in
+    pairs-refuse (state_of c.args.state.inner.now) c.args.book.now c.args.epoch c.args.tables.now c.args.rowsets.now _ _ c.from_residual.ensures.1 (sym d ∙ sym c.judge.ensures ∙ c.in_err-judge.was)
 
 pub loop-i-preserved : goal.loop-i-preserved
 loop-i-preserved c =
-    let l = keep (shown_by c.args.epoch) (state_of c.args.inner.now).pairs in
+    let l = keep (shown_by c.args.epoch) (state_of c.args.state.inner.now).pairs in
     let road = YieldsList-from_enumerate {s = c.into_iter-i-iterator.result} (YieldsList-from_first rowset_of shown_rowsets l (cc)) (cc) in
     let t = numbered-turn rowset_of l road c.loop-i.yielded c.loop-i.i-iterator c.loop-i.yielded_by _ c.next.new.self (c.in-Some.i, c.in-Some.pair) nothing c.in-Some.is c.next.ensures.steps in
     let k = length_push c.loop-i.yielded (c.in-Some.i, c.in-Some.pair) in (
@@ -41,11 +41,11 @@ loop-i-preserved c =
 
 pub returns : goal.returns
 returns c =
-    let l = keep (shown_by c.args.epoch) (state_of c.args.inner.now).pairs in
+    let l = keep (shown_by c.args.epoch) (state_of c.args.state.inner.now).pairs in
     let road = YieldsList-from_enumerate {s = c.into_iter-i-iterator.result} (YieldsList-from_first rowset_of shown_rowsets l (cc)) (cc) in
     let t = numbered-end rowset_of l road c.loop-i.yielded c.loop-i.i-iterator c.loop-i.yielded_by _ c.next.new.self c.in-None.is c.next.ensures.steps in
     let n = count_from_yields_List c.shown.result c.count-count.result c.count-count.ensures.ran (YieldsList-from_first rowset_of shown_rowsets l c.shown.ensures) in
-    let d = pairs-judged (state_of c.args.inner.now) c.args.book.now c.args.epoch _ c.args.tables.now c.args.rowsets.now _ _ (ap not c.may_show-unseen.ensures) n c.min-room.ensures in
-    pairs-accept (state_of c.args.inner.now) c.args.book.now c.args.epoch c.args.tables.now c.args.rowsets.now _ _ _ (sym d ∙ sym c.judge.ensures ∙ c.in_ok-judge.was) (n ∙ sym (length-map l (λ (x : Entry). x.ids)))
+    let d = pairs-judged (state_of c.args.state.inner.now) c.args.book.now c.args.epoch _ c.args.tables.now c.args.rowsets.now _ _ (ap not c.may_show-unseen.ensures) n c.min-room.ensures in
+    pairs-accept (state_of c.args.state.inner.now) c.args.book.now c.args.epoch c.args.tables.now c.args.rowsets.now _ _ _ (sym d ∙ sym c.judge.ensures ∙ c.in_ok-judge.was) (n ∙ sym (length-map l (λ (x : Entry). x.ids)))
     (fronts-done l 0 c.args.tables.now (length c.loop-i.yielded) c.loop-i.tables c.loop-i.invariant.0 t)
     (fronts-done l 1 c.args.rowsets.now (length c.loop-i.yielded) c.loop-i.rowsets c.loop-i.invariant.1 t)

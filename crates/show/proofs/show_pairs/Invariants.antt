@@ -8,5 +8,5 @@ use Rattle.show.proofs.show_pairs.Given as goal
 
 abbrev pub invariant-loop-i : goal.invariant-loop-i
 invariant-loop-i l =
-    let m = keep (shown_by l.epoch) (state_of l.inner).pairs in
+    let m = keep (shown_by l.epoch) (state_of l.state.inner.now).pairs in
     Fronts m 0 l.initial.tables (length l.yielded) l.tables × Fronts m 1 l.initial.rowsets (length l.yielded) l.rowsets

@@ -5,7 +5,7 @@ use native.Mathlib.Omega.{arith}
 use mathlib.Core.List.{List, []}
 use lib.ListN.{length, get_or, length-take, length-drop}
 use Rattle.snapshot.specs.Tables.{TableEntry, no_table}
-use Rattle.snapshot.proofs.Picked.{fill_start, fill_more, fill_done}
+use Rattle.snapshot.proofs.Filled.{fill_start, fill_more, fill_done}
 use Rattle.version_state.specs.State.{state_of}
 use Rattle.columns.proofs.Rows.{rows-length}
 use Rattle.lists.specs.Written.{over}
@@ -18,19 +18,19 @@ use Rattle.show.proofs.Says.{rows-of, roomy, tables-judged, tables-refuse, table
 use Rattle.show.proofs.show_tables.Goals as goal
 use Rattle.show.proofs.show_tables.Goals.{After-judge}
 
-rest : (c : After-judge) → c.judge.result ≡ judged (show_tables_rules (state_of c.args.inner.now) c.args.book.now c.args.epoch (length c.args.ids.now) (length c.args.shapes.now) (length c.args.lengths.now) (length c.args.names.now))
+rest : (c : After-judge) → c.judge.result ≡ judged (show_tables_rules (state_of c.args.state.inner.now) c.args.book.now c.args.epoch (length c.args.ids.now) (length c.args.shapes.now) (length c.args.lengths.now) (length c.args.names.now))
 rest c =
-    let n : c.args.inner.now.tables.count ≡ length (state_of c.args.inner.now).tables = sym (rows-length _ c.args.inner.now.tables.count) in
+    let n : c.args.state.inner.now.tables.count ≡ length (state_of c.args.state.inner.now).tables = sym (rows-length _ c.args.state.inner.now.tables.count) in
     let room = c.min-room.ensures ∙ ap (λ (n : ℕ). min n (length c.args.names.now / longest_name)) (c.min-numbers.ensures ∙ ap (λ (n : ℕ). min n (length c.args.lengths.now)) c.min.ensures) in
-    c.judge.ensures ∙ tables-judged (state_of c.args.inner.now) c.args.book.now c.args.epoch _ c.args.ids.now c.args.shapes.now c.args.lengths.now c.args.names.now _ _ refl n room
+    c.judge.ensures ∙ tables-judged (state_of c.args.state.inner.now) c.args.book.now c.args.epoch _ c.args.ids.now c.args.shapes.now c.args.lengths.now c.args.names.now _ _ refl n room
 
 pub returns-in_err-judge : goal.returns-in_err-judge
 returns-in_err-judge c =
-    tables-refuse (state_of c.args.inner.now) c.args.book.now c.args.epoch c.args.ids.now c.args.shapes.now c.args.lengths.now c.args.names.now _ _ c.from_residual.ensures.1 (sym (rest (goal.at.returns-in_err-judge c).After-judge) ∙ c.in_err-judge.was)
+    tables-refuse (state_of c.args.state.inner.now) c.args.book.now c.args.epoch c.args.ids.now c.args.shapes.now c.args.lengths.now c.args.names.now _ _ c.from_residual.ensures.1 (sym (rest (goal.at.returns-in_err-judge c).After-judge) ∙ c.in_err-judge.was)
 
 pub loop-i-init : goal.loop-i-init
 loop-i-init c =
-    let r = roomy (state_of c.args.inner.now) c.args.book.now _ c.min-room.result c.args.inner.now.tables.count (sym c.judge.ensures ∙ c.in_ok-judge.was) in
+    let r = roomy (state_of c.args.state.inner.now) c.args.book.now _ c.min-room.result c.args.state.inner.now.tables.count (sym c.judge.ensures ∙ c.in_ok-judge.was) in
     let a = c.min.ensures in
     let b = c.min-numbers.ensures in
     let d = c.min-room.ensures in
@@ -43,7 +43,7 @@ write_name-requires c =
 
 pub loop-i-preserved : goal.loop-i-preserved
 loop-i-preserved c =
-    let l = (state_of c.args.inner.now).tables in
+    let l = (state_of c.args.state.inner.now).tables in
     let n = c.loop-i.invariant.3 in
     let e = ap (λ (t : TableEntry). t.table) c.get-table.ensures in
     let f = ap (λ (t : TableEntry). t.shape) c.get-table.ensures in
@@ -56,9 +56,9 @@ loop-i-preserved c =
 
 pub returns : goal.returns
 returns c =
-    let l = (state_of c.args.inner.now).tables in
-    let n : c.args.inner.now.tables.count ≡ length l = sym (rows-length _ c.args.inner.now.tables.count) in
-    tables-accept (state_of c.args.inner.now) c.args.book.now c.args.epoch c.args.ids.now c.args.shapes.now c.args.lengths.now c.args.names.now _ _ _ _ _ (sym (rest (goal.at.returns c).After-judge) ∙ c.in_ok-judge.was) n
+    let l = (state_of c.args.state.inner.now).tables in
+    let n : c.args.state.inner.now.tables.count ≡ length l = sym (rows-length _ c.args.state.inner.now.tables.count) in
+    tables-accept (state_of c.args.state.inner.now) c.args.book.now c.args.epoch c.args.ids.now c.args.shapes.now c.args.lengths.now c.args.names.now _ _ _ _ _ (sym (rest (goal.at.returns c).After-judge) ∙ c.in_ok-judge.was) n
     (fill_done _ _ _ _ _ c.loop-i-test.false c.loop-i.invariant.0 ∙ ap (λ (r : List ℕ). over r c.args.ids.now) (rows-of l n 0 (λ t. t.table)))
     (fill_done _ _ _ _ _ c.loop-i-test.false c.loop-i.invariant.1 ∙ ap (λ (r : List ℕ). over r c.args.shapes.now) (rows-of l n 0 (λ t. t.shape)))
     (fill_done _ _ _ _ _ c.loop-i-test.false c.loop-i.invariant.2 ∙ ap (λ (r : List ℕ). over r c.args.lengths.now) (rows-of l n 0 (λ t. length t.name)))

@@ -1,34 +1,22 @@
 -- `compaction::taken::rising` meets its contract.
-use Rattle.compaction.proofs.Loops.{climb-start, climb-large, climb-low, climb-more, climb-done}
-use Rattle.lists.proofs.Places.{known}
+use mathlib.Core.Path.{refl, ◌∙◌}
+use mathlib.Core.Bool.{◌&&◌}
+use Rattle.std.proofs.Common.{◌≡◌, ltb, rules}
+use borrow.Author.Tests.{tests}
+use Rattle.std.specs.List.{list_all}
+use Rattle.std.proofs.lemmas.Iterator.{YieldsList-from_slice}
+use Rattle.std.proofs.lemmas.Iterator.Search.{all_from_yields_List}
+use Rattle.std.proofs.lemmas.List.Recursion.{same_from_clauses}
+use Rattle.std.proofs.lemmas.List.Sorted.{answers_always}
+use Rattle.lists.specs.Keyed.{all_of}
+use Rattle.ids.specs.Ids.{is_id32}
+use Rattle.compaction.proofs.Searched.{rises}
 use Rattle.compaction.proofs.taken.rising.Goals as goal
 
-pub loop-i-init : goal.loop-i-init
-loop-i-init c = climb-start _
-
-pub offset_bounds-taken-i : goal.offset_bounds-taken-i
-offset_bounds-taken-i c = search known
-
-pub bounds-taken-i : goal.bounds-taken-i
-bounds-taken-i c = search known
-
-pub returns-then-x-ge-LARGEST_32 : goal.returns-then-x-ge-LARGEST_32
-returns-then-x-ge-LARGEST_32 c = climb-large _ _ _ c.loop-i.invariant c.loop-i-test.true c.if-x-ge-LARGEST_32.true
-
-pub returns-then-x-least : goal.returns-then-x-least
-returns-then-x-least c = climb-low _ _ _ c.loop-i.invariant c.loop-i-test.true c.if-x-least.true
-
-pub overflow_add-least : goal.overflow_add-least
-overflow_add-least c = search known
-
-pub overflow_add-i : goal.overflow_add-i
-overflow_add-i c = search known
-
-pub loop-i-smaller : goal.loop-i-smaller
-loop-i-smaller c = search known
-
-pub loop-i-preserved : goal.loop-i-preserved
-loop-i-preserved c = climb-more _ _ _ c.loop-i.invariant c.loop-i-test.true c.if-x-ge-LARGEST_32.false c.if-x-least.false
-
-pub returns : goal.returns
-returns c = climb-done _ _ _ c.loop-i.invariant c.loop-i-test.false
+pub returns-then-all : goal.returns-then-all
+returns-then-all c =
+    let l = c.args.taken.now in
+    let ids : c.all.result ≡ all_of is_id32 l =
+    all_from_yields_List is_id32 _ _ _ c.all.ensures.ran (YieldsList-from_slice l cc) (λ x b q k. search rules)
+    ∙ same_from_clauses (list_all is_id32) (all_of is_id32) (λ x r. is_id32 x && r) refl (λ _ _. refl) (λ _ _. refl) l in
+    rw (← ids, c.if-all.true) (rises l c.is_sorted_by.result (c.is_sorted_by.ensures.cases ltb (answers_always _ (λ a r. r ≡ ltb a.0.now a.1.0.now) _ (λ f a r q k. search (rules, tests)))))

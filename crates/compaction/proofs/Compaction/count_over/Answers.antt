@@ -1,0 +1,27 @@
+-- `compaction::Compaction::count_over` meets its contract.
+use mathlib.Core.Path.{◌∙◌, ap}
+use mathlib.Core.Logic.{inl}
+use native.Mathlib.Omega.{arith}
+use lib.ListN.{length}
+use Rattle.std.proofs.Common.{rules}
+use Rattle.std.proofs.lemmas.Iterator.Consumers.{YieldsList-from_first, YieldsList-from_filter, count_from_yields_List}
+use Rattle.snapshot.specs.Views.{vector_of}
+use Rattle.snapshot.specs.Shown.{shown_vectors}
+use Rattle.version_state.proofs.Facts.{sound-of}
+use Rattle.compaction.proofs.Filtered.{taken_of, shown_of, over-count, few-shown}
+use Rattle.compaction.proofs.Compaction.count_over.Goals as goal
+
+pub count-requires-clause-fits : goal.count-requires-clause-fits
+count-requires-clause-fits c =
+    let a = c.args.self.now in
+    let f = (sound-of a.state.inner.now a.state.sound).fits.vectors in
+    let h = few-shown a.state.inner.now a.table.0 a.taken.now in
+    inl (omega (arith, ap length c.shown_of.ensures, ap (λ s. length (shown_vectors s)) c.filter.ensures.source))
+
+pub returns : goal.returns
+returns c =
+    let a = c.args.self.now in
+    let m = a.state.inner.now in
+    count_from_yields_List _ c.count.result c.count.ensures.ran
+    (YieldsList-from_filter _ (taken_of a.taken.now) (YieldsList-from_first vector_of shown_vectors (shown_of m a.table.0 a.taken.now) (cc)) c.filter.ensures.closure (λ x b q k. search rules))
+    ∙ over-count m a.table.0 a.taken.now

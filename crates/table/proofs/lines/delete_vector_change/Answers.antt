@@ -1,9 +1,0 @@
--- `table::lines::delete_vector_change` meets its contract.
-use mathlib.Core.Path.{refl}
-use native.Mathlib.Omega.{arith}
-use Rattle.lists.proofs.Places.{known}
-use Rattle.table.proofs.Marked.{delete-vector-line}
-use Rattle.table.proofs.lines.delete_vector_change.Goals as goal
-
-pub returns : goal.returns
-returns c = (refl, delete-vector-line _ _ (omega arith) (omega arith) _ (omega arith))

@@ -1,0 +1,41 @@
+-- `table::put_pairs` meets its contract.
+use mathlib.Core.List.{map-map}
+use native.Mathlib.Omega.{arith}
+use Rattle.std.proofs.lemmas.Iterator.Consumers.{YieldsList-from_first, YieldsList-turn, YieldsList-end}
+use Rattle.std.proofs.lemmas.List.{length_push}
+use Rattle.lists.specs.Keyed.{keep}
+use Rattle.lists.proofs.Keyed.{keep-map}
+use Rattle.snapshot.specs.Entries.{by_ids, shown_by, of_table}
+use Rattle.snapshot.specs.Views.{rowset_of}
+use Rattle.snapshot.specs.Shown.{shown_rowsets}
+use Rattle.version_state.specs.State.{state_of}
+use Rattle.version_state.proofs.Facts.{sound-of}
+use Rattle.rewrite.proofs.Lines.{write-start, write-room, write-more, write_done}
+use Rattle.table.specs.Made.{delete_rowset_of}
+use Rattle.table.proofs.Lines.{part-few, delete-line}
+use Rattle.table.proofs.put_pairs.Goals as goal
+
+pub loop-r-init : goal.loop-r-init
+loop-r-init c = write-start (part-few _ _ _ _ _ (sound-of c.args.state.inner.now c.args.state.sound).fits.rowsets) c.requires.room
+
+pub put_line-at-requires : goal.put_line-at-requires
+put_line-at-requires c =
+    let l = keep (of_table c.args.table.0) (keep (shown_by c.args.state.inner.now.epoch) (state_of c.args.state.inner.now).pairs) in
+    let road = YieldsList-from_first rowset_of shown_rowsets {s = c.into_iter-r-iterator.result} l (cc) in
+    let t = YieldsList-turn road c.loop-r.yielded c.loop-r.r-iterator c.loop-r.yielded_by _ c.next.new.self c.in-Some.r c.in-Some.is c.next.ensures.steps in
+    write-room c.loop-r.invariant t.0 _ (delete-line c.in-Some.r.table.0 c.in-Some.r.rowset.0 (omega arith) (omega arith))
+
+pub loop-r-preserved : goal.loop-r-preserved
+loop-r-preserved c =
+    let l = keep (of_table c.args.table.0) (keep (shown_by c.args.state.inner.now.epoch) (state_of c.args.state.inner.now).pairs) in
+    let road = YieldsList-from_first rowset_of shown_rowsets {s = c.into_iter-r-iterator.result} l (cc) in
+    let t = YieldsList-turn road c.loop-r.yielded c.loop-r.r-iterator c.loop-r.yielded_by _ c.next.new.self c.in-Some.r c.in-Some.is c.next.ensures.steps in
+    let w = write-more c.loop-r.invariant t.0 (rowset_of c.in-Some.r) t.1 (delete-line c.in-Some.r.table.0 c.in-Some.r.rowset.0 (omega arith) (omega arith)) _ _ c.put_line-at.ensures in
+    rw (length_push c.loop-r.yielded c.in-Some.r) w
+
+pub returns : goal.returns
+returns c =
+    let l = keep (of_table c.args.table.0) (keep (shown_by c.args.state.inner.now.epoch) (state_of c.args.state.inner.now).pairs) in
+    let road = YieldsList-from_first rowset_of shown_rowsets {s = c.into_iter-r-iterator.result} l (cc) in
+    let t = YieldsList-end road c.loop-r.yielded c.loop-r.r-iterator c.loop-r.yielded_by _ c.next.new.self c.in-None.is c.next.ensures.steps in
+    rw (keep-map, map-map delete_rowset_of by_ids) (write_done c.loop-r.invariant t.1)
