@@ -1,5 +1,6 @@
 -- What a change of a list does to the entries that it stands for. Assumes nothing.
-use Rattle.std.proofs.Common.{◌≡◌, refl, sym, Bool, true, false, List, [], ◌∷◌, map, ℕ, ◌<◌, ◌≤◌, length, get_or, drop, drop-cons, drop_of_length-le}
+use Rattle.std.proofs.Common.{◌≡◌, refl, sym, ap, Bool, ◌||◌, List, [], ◌∷◌, map, ℕ}
+use Rattle.std.specs.List.{list_any}
 use Rattle.lists.specs.Order.{same}
 use Rattle.lists.specs.Keyed.{any_of, all_of, is_at, has, put, without}
 use Rattle.lists.proofs.Keyed.{any_of-map}
@@ -13,19 +14,10 @@ use Rattle.replay.specs.declared.sets.LiveVector.{LiveVector}
 use Rattle.replay.specs.Sets.{table_entry, rowset_entry, vector_entry}
 use Rattle.replay.proofs.Maps.{map-put, map-without}
 
--- what is left of a list at a place: the entry there, or nothing
-module _ {A : Type 0} (p : A → Bool) where
-  pub any_here : (l : List A) (i : ℕ) (d : A) → i < length l → p (get_or l i d) ≡ true → any_of p (drop i l) ≡ true
-  any_here l i d h t = rw (drop-cons l i d h, t) refl
-
-  pub any_end : (l : List A) (i : ℕ) → length l ≤ i → any_of p (drop i l) ≡ false
-  any_end l i h = rw (drop_of_length-le l {i = i} h) refl
-
-  pub all-fails : (l : List A) (i : ℕ) (d : A) → i < length l → p (get_or l i d) ≡ false → all_of p (drop i l) ≡ false
-  all-fails l i d h t = rw (drop-cons l i d h, t) refl
-
-  pub all_end : (l : List A) (i : ℕ) → length l ≤ i → all_of p (drop i l) ≡ true
-  all_end l i h = rw (drop_of_length-le l {i = i} h) refl
+-- the library's test for one of a list is this one
+pub any-same : {A : Type 0} (p : A → Bool) (l : List A) → list_any p l ≡ any_of p l
+any-same p [] = refl
+any-same p (x ∷ l) = ap (λ (b : Bool). p x || b) (any-same p l)
 
 module _ (l : List LiveTable) where
   pub table-has : (k : List ℕ) → has by_table k (map table_entry l) ≡ has (λ (x : LiveTable). x.table.0 ∷ []) k l

@@ -1,5 +1,5 @@
 -- Lines and frames: what the loops over them keep. Assumes nothing.
-use Rattle.std.proofs.Common.{◌≡◌, refl, sym, ap, ◌∙◌, List, [], ◌∷◌, map, ℕ, zero, suc, ◌+◌, ◌-◌, ◌<◌, ◌≤◌, length, take, drop, arith, Result, Ok, Err}
+use Rattle.std.proofs.Common.{◌≡◌, refl, sym, ap, ◌∙◌, List, [], ◌∷◌, map, ℕ, zero, suc, ◌+◌, ◌-◌, ◌<◌, ◌≤◌, length, take, drop, arith, Ok, Err}
 use Rattle.std.specs.Prelude.{not, Option, Some, None}
 use Rattle.std.proofs.Math.ListN.{length-map}
 use Rattle.lists.specs.Keyed.{is_at}
@@ -7,6 +7,7 @@ use Rattle.lists.proofs.Tests.{by_cases}
 use Rattle.lists.proofs.Keyed.{length-put, length-keep}
 use Rattle.ids.specs.Results.{and_then}
 use Rattle.ids.specs.declared.refusal.Refusal.{Refusal}
+use Rattle.ids.proofs.Results.{not-given, same-given}
 use Rattle.manifest.specs.Operations.{Operation, Line, bad, line_said, said_of, operation_of}
 use Rattle.manifest.specs.Edits.{Edit, leaves, adds, deletes, edits_of}
 use Rattle.manifest.specs.Lines.{line_of}
@@ -68,8 +69,8 @@ length-edited key f (deletes k) l = omega (arith, length-keep (λ y. not (is_at 
 one-fits : (n : ℕ) (o : Operation) (l m : Sets) (k j : ℕ) → one_of n o (state_in l) ≡ Ok (state_in m) → RoomFor k l → k ≡ j + 1 → RoomFor j m
 one-fits n o l m k j e r h =
     by_cases (conflicts o (state_in l))
-    (λ t. absurd (differ (rw t at e)))
-    (λ t. let same = inside (rw t at e) in
+    (λ t. absurd (not-given (rw t at e)))
+    (λ t. let same = same-given (rw t at e) in
     let lt = length-map l.tables table_entry in
     let lr = length-map l.rowsets rowset_entry in
     let lv = length-map l.vectors vector_entry in
@@ -80,12 +81,6 @@ one-fits n o l m k j e r h =
     let er = length-edited by_ids (added_at reopened) (edits_of o).pairs (state_in l).pairs in
     let ev = length-edited by_ids (added_at reopened) (edits_of o).vectors (state_in l).vectors in
     record { tables = omega (arith, r.tables); rowsets = omega (arith, r.rowsets); vectors = omega (arith, r.vectors) })
-  where
-    differ : {k : Refusal} {s : State} → ◌≡◌ {A = Result State Refusal} (Err k) (Ok s) → ⊥
-    differ h = let z : ◌≡◌ {A = ℕ} 0 1 = cc in omega arith
-
-    inside : {s t : State} → ◌≡◌ {A = Result State Refusal} (Ok s) (Ok t) → s ≡ t
-    inside h = cc
 
 pub room-one : (k : ℕ) (l : Sets) → RoomFor k l → 0 < k → RoomFor 1 l
 room-one k l r h = record { tables = omega (arith, r.tables); rowsets = omega (arith, r.rowsets); vectors = omega (arith, r.vectors) }

@@ -9,6 +9,7 @@ use Rattle.lists.proofs.Keyed.{ascend-to}
 use Rattle.ids.specs.Results.{and_then}
 use Rattle.ids.specs.Limits.{most_operations, most_tables, most_held}
 use Rattle.ids.specs.declared.refusal.Refusal.{Refusal}
+use Rattle.ids.proofs.Results.{not-given, same-given, then_same}
 use Rattle.manifest.specs.Operations.{Operation, Line, end, operation, line_said}
 use Rattle.manifest.specs.Lines.{line_of}
 use Rattle.manifest.specs.Split.{lines}
@@ -59,12 +60,6 @@ module _ (src : List ℕ) (l : Sets) (at next n : ℕ) (b : Begun) (f : Frame) (
       let t : take b.count (leading (said_from src b.place)) ≡ w.ops = rw (w.count, w.said, s) (ap (take (length w.ops)) (leading-ops w.ops (said_from src next)) ∙ take-length w.ops) in
       rw (w.frame, t) (frame-in l b.line w.ops (limited n))
 
-differ : {A : Type 0} {k : Refusal} {a : A} → ◌≡◌ {A = Result A Refusal} (Err k) (Ok a) → ⊥
-differ h = let z : ◌≡◌ {A = ℕ} 0 1 = cc in omega arith
-
-inside : {A : Type 0} {a b : A} → ◌≡◌ {A = Result A Refusal} (Ok a) (Ok b) → a ≡ b
-inside h = cc
-
 -- what was within the limits has room for a frame
 within-limits : (m : Sets) → over_limit (state_in m) ≡ false → RoomFor most_operations m
 within-limits m h =
@@ -77,11 +72,11 @@ within-limits m h =
     }
 
 limited-room : (n : ℕ) (x : Result State Refusal) (m : Sets) → and_then x (limited n) ≡ Ok (state_in m) → RoomFor most_operations m
-limited-room n (Err k) m h = absurd (differ h)
+limited-room n (Err k) m h = absurd (not-given h)
 limited-room n (Ok s) m h =
     by_cases (over_limit s)
-    (λ t. absurd (differ (rw t at h)))
-    (λ t. let e = inside (rw t at h) in within-limits m (rw e at t))
+    (λ t. absurd (not-given (rw t at h)))
+    (λ t. let e = same-given (rw t at h) in within-limits m (rw e at t))
 
 -- An `E`, and what is carried after it.
 module _ (src : List ℕ) (l : Sets) (at next n : ℕ) (b : Begun) (f : Frame) (w : Opened src at b f) (s : said_from src at ≡ end ∷ said_from src next) where
@@ -105,13 +100,9 @@ abbrev pub said_read : List Line → Carried → Result Carried Refusal
 said_read [] c = Ok c
 said_read (l ∷ ls) c = and_then (line_read l c) (said_read ls)
 
-said-same : (ls : List (List ℕ)) (c : Carried) → lines_read ls c ≡ said_read (map line_of ls) c
-said-same [] c = refl
-said-same (l ∷ ls) c = on (said-same ls) (line_read (line_of l) c)
-  where
-    on : ((d : Carried) → lines_read ls d ≡ said_read (map line_of ls) d) → (x : Result Carried Refusal) → and_then x (lines_read ls) ≡ and_then x (said_read (map line_of ls))
-    on h (Err k) = refl
-    on h (Ok d) = h d
+pub said-read : (ls : List (List ℕ)) (c : Carried) → lines_read ls c ≡ said_read (map line_of ls) c
+said-read [] c = refl
+said-read (l ∷ ls) c = then_same (line_read (line_of l) c) (lines_read ls) (said_read (map line_of ls)) (said-read ls)
 
 -- the lines up to a place are read, and that is carried on
 pub record Reading (src : List ℕ) (l : Sets) (b : Option Begun) (at n : ℕ) : Type 0 where
@@ -127,7 +118,7 @@ pub reading-start : (src : List ℕ) (l : Sets) → state_in l ≡ at_start.stat
 reading-start src l e r =
     record {
       frame = none;
-      same = said-same (lines src) at_start ∙ rw (e, lines-from-start) refl;
+      same = said-read (lines src) at_start ∙ rw (e, lines-from-start) refl;
       known = refl;
       within = tt;
       room = r;

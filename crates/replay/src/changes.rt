@@ -1,11 +1,11 @@
 // What one operation does to the lists and to the next ids.
 ghost use Rattle.std.specs.Prelude.{◌≡◌, true, ◌<◌, ◌||◌, ◌∷◌, []};
 ghost use Rattle.lists.specs.Keyed.{has};
-ghost use Rattle.ids.specs.Ids.{largest32, largest64};
+ghost use Rattle.ids.specs.Ids.{largest32};
 ghost use Rattle.ids.specs.Names.{name_of};
-ghost use Rattle.manifest.specs.Operations.{create_table, drop_table, add_rowset, delete_rowset, add_vector, delete_vector, next_ids, operation_of, well_formed};
+ghost use Rattle.manifest.specs.Operations.{create_table, drop_table, operation_of, well_formed};
 ghost use Rattle.snapshot.specs.Tables.{by_table, name_taken};
-ghost use Rattle.replay.specs.Sets.{state_in, RoomFor, one_of, lightly, left_by};
+ghost use Rattle.replay.specs.Sets.{state_in, RoomFor, one_of, left_by};
 
 use crate::sets::{LiveRowset, LiveTable, LiveVector, Sets};
 use ids::name::Name;
@@ -13,16 +13,12 @@ use ids::refusal::Refusal;
 use ids::{RowsetNo, TableNo, VectorNo};
 use manifest::operation::EpochOp;
 
+// What puts an entry in asks for the room of one: see `Sets`.
 impl Sets {
     fn name_taken(&self, name: Name) -> bool
         ensures { result ≡ name_taken (name_of name) (state_in self.now).tables }
     {
-        for x in self.tables.as_slice() {
-            if x.name == name {
-                return true;
-            }
-        }
-        false
+        self.tables.as_slice().iter().any(|x| x.name == name)
     }
 
     // Whether a live table has the id or the name.
@@ -46,7 +42,7 @@ impl Sets {
         Ok(())
     }
 
-    // `X`.
+    // `X`, as `operations` has it over its own tables: one function over both types would be no plainer.
     fn drop(&mut self, line: usize, table: TableNo) -> Result<(), Refusal>
         ensures { (one_of line (drop_table table.0) (state_in self.old)) ≡ left_by result self.new }
     {
@@ -57,50 +53,7 @@ impl Sets {
         Ok(())
     }
 
-    // `A`.
-    fn add(&mut self, x: LiveRowset)
-        requires room { RoomFor 1 self.old }
-        requires id { x.rowset.0 < largest32 }
-        ensures { state_in self.new ≡ lightly (add_rowset x.table.0 x.rowset.0) (state_in self.old) }
-    {
-        self.rowsets.put(x);
-        self.next.rowset = RowsetNo(self.next.rowset.0.max(x.rowset.0 + 1));
-    }
-
-    // `D`.
-    fn delete(&mut self, table: TableNo, rowset: RowsetNo)
-        ensures { state_in self.new ≡ lightly (delete_rowset table.0 rowset.0) (state_in self.old) }
-    {
-        self.rowsets.remove((table.0, rowset.0));
-    }
-
-    // `V`.
-    fn add_vector(&mut self, x: LiveVector)
-        requires room { RoomFor 1 self.old }
-        requires id { x.vector.0 < largest64 }
-        ensures { state_in self.new ≡ lightly (add_vector x.table.0 x.rowset.0 x.vector.0) (state_in self.old) }
-    {
-        self.vectors.put(x);
-        self.next.vector = VectorNo(self.next.vector.0.max(x.vector.0 + 1));
-    }
-
-    // `W`.
-    fn delete_vector(&mut self, table: TableNo, rowset: RowsetNo, vector: VectorNo)
-        ensures { state_in self.new ≡ lightly (delete_vector table.0 rowset.0 vector.0) (state_in self.old) }
-    {
-        self.vectors.remove((table.0, rowset.0, vector.0));
-    }
-
-    // `N`.
-    fn raise(&mut self, table: TableNo, rowset: RowsetNo, vector: VectorNo)
-        ensures { state_in self.new ≡ lightly (next_ids table.0 rowset.0 vector.0) (state_in self.old) }
-    {
-        self.next.table = TableNo(self.next.table.0.max(table.0));
-        self.next.rowset = RowsetNo(self.next.rowset.0.max(rowset.0));
-        self.next.vector = VectorNo(self.next.vector.0.max(vector.0));
-    }
-
-    // The operation on the line with a number.
+    // The operation on line `line`. A match: each kind has its own fields and list, so a table of functions would be no plainer.
     pub fn apply(&mut self, line: usize, change: EpochOp) -> Result<(), Refusal>
         requires room { RoomFor 1 self.old }
         requires well { well_formed (operation_of change) ≡ true }
@@ -111,17 +64,27 @@ impl Sets {
                 return self.create(line, LiveTable { table, shape, name });
             }
             EpochOp::DropTable(table) => return self.drop(line, table),
-            EpochOp::AddRowSet(table, rowset) => self.add(LiveRowset { table, rowset }),
-            EpochOp::DeleteRowSet(table, rowset) => self.delete(table, rowset),
+            EpochOp::AddRowSet(table, rowset) => {
+                self.rowsets.put(LiveRowset { table, rowset });
+                self.next.rowset = RowsetNo(self.next.rowset.0.max(rowset.0 + 1));
+            }
+            EpochOp::DeleteRowSet(table, rowset) => self.rowsets.remove((table.0, rowset.0)),
             EpochOp::AddDV(table, rowset, vector) => {
-                self.add_vector(LiveVector {
+                self.vectors.put(LiveVector {
                     table,
                     rowset,
                     vector,
                 });
+                self.next.vector = VectorNo(self.next.vector.0.max(vector.0 + 1));
             }
-            EpochOp::DeleteDV(table, rowset, vector) => self.delete_vector(table, rowset, vector),
-            EpochOp::NextIds(table, rowset, vector) => self.raise(table, rowset, vector),
+            EpochOp::DeleteDV(table, rowset, vector) => {
+                self.vectors.remove((table.0, rowset.0, vector.0));
+            }
+            EpochOp::NextIds(table, rowset, vector) => {
+                self.next.table = self.next.table.max(table);
+                self.next.rowset = self.next.rowset.max(rowset);
+                self.next.vector = self.next.vector.max(vector);
+            }
         }
         Ok(())
     }

@@ -1,4 +1,5 @@
-// The end of a replay: what was read becomes what a manager holds.
+// The end of a replay: what was read becomes what a manager holds. Each function that needs room asks for it: a frame uses it up, so that a field of
+// `Sets` would be no plainer.
 ghost use Rattle.std.specs.Prelude.{◌≡◌, map, ◌≤◌, length};
 ghost use Rattle.lists.specs.Keyed.{keep, all_of};
 ghost use Rattle.ids.specs.Limits.{most_tables, most_held, most_operations};
@@ -59,14 +60,13 @@ impl Sets {
     fn have_tables(&self) -> bool
         ensures { result ≡ all_of (has_table (state_in self.now).tables) (state_in self.now).pairs }
     {
-        for x in self.rowsets.as_slice() {
-            if !self.tables.holds(x.table.0) {
-                return false;
-            }
-        }
-        true
+        self.rowsets
+            .as_slice()
+            .iter()
+            .all(|x| self.tables.holds(x.table.0))
     }
 
+    // Room for a frame, so that each list is within what may be held: see `Sets`.
     pub fn finish(&self) -> Result<VersionManagerInner, Refusal>
         requires { RoomFor most_operations self.now }
         ensures { ReplayIs (finished (state_in self.now)) result }

@@ -1,4 +1,5 @@
-// Frames: the operations of one, read again and applied at its `E`.
+// Frames: the operations of one, read again and applied at its `E`. Each function that needs room asks for it: a frame uses it up, so that a field of
+// `Sets` would be no plainer.
 ghost use Rattle.std.specs.Prelude.{◌≡◌, ◌||◌, ◌≤◌, ltb, length, take};
 ghost use Rattle.ids.specs.Limits.{most_tables, most_held, most_operations, longest_manifest};
 ghost use Rattle.ids.specs.Results.{and_then};
@@ -6,11 +7,11 @@ ghost use Rattle.replay.specs.Replay.{limited, over_limit};
 ghost use Rattle.replay.specs.Reading.{leading, said_from, HereSays, Within};
 ghost use Rattle.replay.specs.Sets.{state_in, RoomFor, framed_lightly, left_by};
 
+use crate::said::Manifest;
 use crate::sets::Sets;
 use ids::limits::{MOST_HELD, MOST_TABLES};
 use ids::refusal::Refusal;
 use manifest::operation::{EpochOp, ManifestOperation};
-use text::ByteClasses;
 
 // An operation that stands on a line, and the place after the line.
 #[derive(Clone, Copy)]
@@ -27,41 +28,34 @@ pub struct Begun {
     pub count: usize,
 }
 
-// The operation on the line at a place.
-fn operation_at(classes: &ByteClasses, src: &[u8], at: usize) -> Option<Here>
-    ensures { HereSays src.now at result }
-{
-    let Some(said) = crate::said::said_at(classes, src, at) else {
-        return None;
-    };
-    let Some(operation) = said.parsed else {
-        return None;
-    };
-    let ManifestOperation::Epoch(change) = operation else {
-        return None;
-    };
-    Some(Here {
-        change,
-        next: said.next,
-    })
+impl<'a> Manifest<'a> {
+    // The operation on the line that begins at `at`.
+    fn operation_at(&self, at: usize) -> Option<Here>
+        ensures { HereSays self.now.src.now at result }
+    {
+        let said = self.said_at(at)?;
+        let ManifestOperation::Epoch(change) = said.parsed? else {
+            return None;
+        };
+        Some(Here {
+            change,
+            next: said.next,
+        })
+    }
 }
 
+// A frame has room for all its operations: see `Sets`.
 impl Sets {
-    // The operations of a frame, a line each.
-    fn apply_frame(
-        &mut self,
-        classes: &ByteClasses,
-        src: &[u8],
-        begun: Begun,
-    ) -> Result<(), Refusal>
+    // The operations of a frame, a line each: the numbers are for refusals, and the lines are found by their places. To do:
+    // `ManifestLines`, as in `lines`.
+    fn apply_frame(&mut self, manifest: &Manifest, begun: Begun) -> Result<(), Refusal>
         requires room { RoomFor most_operations self.old }
-        requires frame { Within src.now begun }
-        requires short { length src.now ≤ longest_manifest }
-        ensures { (framed_lightly begun.line (take begun.count (leading (said_from src.now begun.place))) (state_in self.old)) ≡ left_by result self.new }
+        requires frame { Within manifest.now.src.now begun }
+        ensures { (framed_lightly begun.line (take begun.count (leading (said_from manifest.now.src.now begun.place))) (state_in self.old)) ≡ left_by result self.new }
     {
         let mut at = begun.place;
         for line in begun.line..begun.line + begun.count {
-            let Some(here) = operation_at(classes, src, at) else {
+            let Some(here) = manifest.operation_at(at) else {
                 return Ok(());
             };
             self.apply(line, here.change)?;
@@ -82,17 +76,15 @@ impl Sets {
     // `E` on a line, where a frame is open.
     pub fn end_frame(
         &mut self,
-        classes: &ByteClasses,
-        src: &[u8],
+        manifest: &Manifest,
         line: usize,
         begun: Begun,
     ) -> Result<(), Refusal>
         requires room { RoomFor most_operations self.old }
-        requires frame { Within src.now begun }
-        requires short { length src.now ≤ longest_manifest }
-        ensures { (and_then (framed_lightly begun.line (take begun.count (leading (said_from src.now begun.place))) (state_in self.old)) (limited line)) ≡ left_by result self.new }
+        requires frame { Within manifest.now.src.now begun }
+        ensures { (and_then (framed_lightly begun.line (take begun.count (leading (said_from manifest.now.src.now begun.place))) (state_in self.old)) (limited line)) ≡ left_by result self.new }
     {
-        self.apply_frame(classes, src, begun)?;
+        self.apply_frame(manifest, begun)?;
         if self.over_limit() {
             return Err(Refusal::OverLimit(line));
         }

@@ -22,8 +22,11 @@ pub fn replay(src: &[u8]) -> Result<VersionManagerInner, Refusal>
     if LONGEST_MANIFEST < src.len() {
         return Err(Refusal::ManifestTooLong);
     }
-    let classes = ByteClasses::new();
+    let manifest = said::Manifest {
+        src,
+        classes: ByteClasses::new(),
+    };
     let mut sets = sets::Sets::new();
-    sets.read(&classes, src)?;
+    sets.read(&manifest)?;
     sets.finish()
 }

@@ -1,4 +1,5 @@
-// The lines of a manifest, one after another.
+// The lines of a manifest, one after another. Each function that needs room asks for it: a frame uses it up, so that a field of `Sets` would be no
+// plainer.
 ghost use Rattle.std.specs.Prelude.{◌≡◌, ◌≤◌, ◌∷◌, ◌+◌, ℕ, length};
 ghost use Rattle.manifest.specs.Operations.{line_said};
 ghost use Rattle.manifest.specs.Split.{lines};
@@ -8,12 +9,11 @@ ghost use Rattle.replay.specs.Reading.{said_from, one_more, FrameIs, OpenWithin,
 ghost use Rattle.replay.specs.Sets.{state_in, RoomFor};
 
 use crate::frame::Begun;
-use crate::said::Said;
+use crate::said::{Manifest, Said};
 use crate::sets::Sets;
 use ids::limits::MOST_OPERATIONS;
 use ids::refusal::Refusal;
 use manifest::operation::ManifestOperation;
-use text::ByteClasses;
 
 // An operation on a line: outside a frame it is ignored.
 fn counted(line: usize, begun: Option<Begun>) -> Result<Option<Begun>, Refusal>
@@ -26,28 +26,26 @@ fn counted(line: usize, begun: Option<Begun>) -> Result<Option<Begun>, Refusal>
         return Err(Refusal::TooManyOperations(line));
     }
     Ok(Some(Begun {
-        place: begun.place,
-        line: begun.line,
         count: begun.count + 1,
+        ..begun
     }))
 }
 
+// Between frames there is room for another: see `Sets`.
 impl Sets {
     // One line, and the frame that is open after it.
     fn read_line(
         &mut self,
-        classes: &ByteClasses,
-        src: &[u8],
+        manifest: &Manifest,
         line: usize,
         said: Said,
         begun: Option<Begun>,
     ) -> Result<Option<Begun>, Refusal>
         requires room { RoomFor most_operations self.old }
-        requires frame { OpenWithin src.now begun }
-        requires place { (line ≤ said.next) × (said.next ≤ length src.now) }
-        requires short { length src.now ≤ longest_manifest }
-        ensures { (at : ℕ) (f : Frame) → said_from src.now at ≡ line_said said.parsed ∷ said_from src.now said.next → FrameIs src.now at begun f
-            → Carries (line_read (line_said said.parsed) (carried (state_in self.old) f line)) src.now said.next (line + 1) self.new result }
+        requires frame { OpenWithin manifest.now.src.now begun }
+        requires place { (line ≤ said.next) × (said.next ≤ length manifest.now.src.now) }
+        ensures { (at : ℕ) (f : Frame) → said_from manifest.now.src.now at ≡ line_said said.parsed ∷ said_from manifest.now.src.now said.next → FrameIs manifest.now.src.now at begun f
+            → Carries (line_read (line_said said.parsed) (carried (state_in self.old) f line)) manifest.now.src.now said.next (line + 1) self.new result }
     {
         let Some(operation) = said.parsed else {
             return Err(Refusal::Malformed(line));
@@ -60,7 +58,7 @@ impl Sets {
             })),
             ManifestOperation::End => {
                 if let Some(begun) = begun {
-                    self.end_frame(classes, src, line, begun)?;
+                    self.end_frame(manifest, line, begun)?;
                 }
                 Ok(None)
             }
@@ -70,17 +68,17 @@ impl Sets {
     }
 
     // All complete lines, one after another.
-    pub fn read(&mut self, classes: &ByteClasses, src: &[u8]) -> Result<(), Refusal>
+    pub fn read(&mut self, manifest: &Manifest) -> Result<(), Refusal>
         requires start { state_in self.old ≡ at_start.state }
         requires room { RoomFor most_operations self.old }
-        requires short { length src.now ≤ longest_manifest }
-        ensures { Ends (lines_read (lines src.now) at_start) self.new result }
+        ensures { Ends (lines_read (lines manifest.now.src.now) at_start) self.new result }
     {
+        // To do: `ManifestLines`, which begins at any place, here and in `frame`.
         let mut begun = None;
         let mut at = 0;
         let mut line = 1;
-        while let Some(said) = crate::said::said_at(classes, src, at) {
-            begun = self.read_line(classes, src, line, said, begun)?;
+        while let Some(said) = manifest.said_at(at) {
+            begun = self.read_line(manifest, line, said, begun)?;
             at = said.next;
             line += 1;
         }

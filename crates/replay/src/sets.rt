@@ -14,6 +14,7 @@ const TABLE_ROOM: usize = MOST_TABLES + MOST_OPERATIONS;
 
 const HELD_ROOM: usize = MOST_HELD + MOST_OPERATIONS;
 
+// Its Default fills free places and is written by hand: 0 is an id like any other, so that ids have none, which would be no plainer.
 #[derive(Clone, Copy)]
 pub struct LiveTable {
     pub table: TableNo,
@@ -21,12 +22,14 @@ pub struct LiveTable {
     pub name: Name,
 }
 
+// Its Default fills free places and is written by hand: 0 is an id like any other, so that ids have none, which would be no plainer.
 #[derive(Clone, Copy)]
 pub struct LiveRowset {
     pub table: TableNo,
     pub rowset: RowsetNo,
 }
 
+// The ids of one vector. `NextIds` has the same fields for ids to come: one type for both would be no plainer.
 #[derive(Clone, Copy)]
 pub struct LiveVector {
     pub table: TableNo,
@@ -34,6 +37,7 @@ pub struct LiveVector {
     pub vector: VectorNo,
 }
 
+// These three fill the free places of a list: an id has no default to derive one from.
 impl Default for LiveTable {
     fn default() -> LiveTable {
         LiveTable {
@@ -105,7 +109,9 @@ impl Keyed for LiveVector {
     }
 }
 
-// The live tables, rowsets and vectors, each ascending by its ids, and the next ids.
+// The live tables, rowsets and vectors, each ascending by its ids, and the next ids. How much room is left is no field: a frame's
+// operations take it up one by one, and its `E` refuses where too little is left for another frame. `new` is no
+// Default: callers go by the lists being empty and having room, and Default would be no plainer.
 #[derive(Drop)]
 pub struct Sets {
     pub tables: SortedList<LiveTable, TABLE_ROOM>,

@@ -1,7 +1,8 @@
 -- Keys that are a number, or several, are in the order of these. Assumes nothing.
-use Rattle.std.proofs.Common.{◌≡◌, ℕ, [], ◌∷◌, List, ltb, eqb, Ordering, Less, Equal, Greater, refl, ap, ◌∙◌}
+use Rattle.std.proofs.Common.{◌≡◌, ℕ, [], ◌∷◌, List, ltb, eqb, refl, ap, ◌∙◌}
 use Rattle.std.specs.Ordering.{nat_cmp, ordering_then}
 use Rattle.lists.proofs.Tests.{by_cases}
+use Rattle.lists.proofs.Order.{then_assoc}
 use Rattle.replay_lists.specs.Entries.{compared}
 
 pub compared-one : (a b : ℕ) → nat_cmp a b ≡ compared (a ∷ []) (b ∷ [])
@@ -12,11 +13,6 @@ compared-more a b l m = by_cases (ltb a b) (λ t. rw t refl) (λ t. by_cases (eq
 
 pub compared_two : (a b : ℕ × ℕ) → ordering_then (nat_cmp a.0 b.0) (nat_cmp a.1 b.1) ≡ compared (a.0 ∷ a.1 ∷ []) (b.0 ∷ b.1 ∷ [])
 compared_two a b = ap (ordering_then (nat_cmp a.0 b.0)) (compared-one a.1 b.1) ∙ compared-more a.0 b.0 (a.1 ∷ []) (b.1 ∷ [])
-
-then_assoc : (x y z : Ordering) → ordering_then (ordering_then x y) z ≡ ordering_then x (ordering_then y z)
-then_assoc Less y z = refl
-then_assoc Equal y z = refl
-then_assoc Greater y z = refl
 
 pub compared_three : (a b : ℕ × ℕ × ℕ) → ordering_then (ordering_then (nat_cmp a.0 b.0) (nat_cmp a.1 b.1)) (nat_cmp a.2 b.2) ≡ compared (a.0 ∷ a.1 ∷ a.2 ∷ []) (b.0 ∷ b.1 ∷ b.2 ∷ [])
 compared_three a b =

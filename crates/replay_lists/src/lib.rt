@@ -58,7 +58,7 @@ impl<T: Keyed, const N: usize> SortedList<T, N> {
         self.entries.as_slice()
     }
 
-    // Where the key stands, or would stand.
+    // Where the key is, or would go. One call of std, as in `pins`: a shared function would be no plainer.
     fn find(&self, key: T::Key) -> Result<usize, usize>
         ensures found { IfOk result (StandsAt (by T.numbers T.key) (T.numbers key) self.now) }
         ensures missing { IfErr result (MissingAt (by T.numbers T.key) (T.numbers key) self.now) }

@@ -1,9 +1,17 @@
-use Rattle.std.proofs.Common.{sym, ◌∙◌}
-use Rattle.replay.proofs.Entries.{has-tables, all-fails, all_end}
+use Rattle.std.proofs.Common.{[], ◌∷◌, sym, ◌∙◌, rules, tests}
+use Rattle.std.proofs.lemmas.Iterator.{YieldsList-from_slice}
+use Rattle.std.proofs.lemmas.Iterator.Search.{all_from_yields_List}
+use Rattle.lists.specs.Keyed.{has}
+use Rattle.snapshot.proofs.Tested.{all-same}
+use Rattle.replay.specs.declared.sets.LiveTable.{LiveTable}
+use Rattle.replay.specs.declared.sets.LiveRowset.{LiveRowset}
+use Rattle.replay.proofs.Entries.{has-tables}
 use Rattle.replay.proofs.sets.Sets.have_tables.Goals as goal
 
-pub returns-then-not-holds : goal.returns-then-not-holds
-returns-then-not-holds c = rw (has-tables, ← c.as_slice-x-items.ensures.all, ← c.loop-x.invariant) (sym (all-fails _ _ _ _ c.loop-x-test.true (sym c.holds.ensures ∙ c.if-not-holds.true)))
-
 pub returns : goal.returns
-returns c = rw (has-tables, ← c.as_slice-x-items.ensures.all, ← c.loop-x.invariant) (sym (all_end _ _ _ c.loop-x-test.false))
+returns c =
+    let ts = c.args.self.now.tables in
+    let l = c.args.self.now.rowsets in
+    let p = λ (x : LiveRowset). has (λ (y : LiveTable). y.table.0 ∷ []) (x.table.0 ∷ []) ts in
+    all_from_yields_List p _ _ _ c.all.ensures.ran (YieldsList-from_slice l cc) (λ x b q k. search (rules, tests))
+    ∙ all-same p l ∙ sym (has-tables ts l)

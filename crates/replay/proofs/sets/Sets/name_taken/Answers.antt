@@ -1,11 +1,16 @@
-use Rattle.std.proofs.Common.{sym, ◌∙◌}
+use Rattle.std.proofs.Common.{sym, ◌∙◌, rules, tests}
+use Rattle.std.proofs.lemmas.Iterator.{YieldsList-from_slice}
+use Rattle.std.proofs.lemmas.Iterator.Search.{any_from_yields_List}
+use Rattle.lists.specs.Order.{same}
+use Rattle.ids.specs.Names.{name_of}
 use Rattle.ids.proofs.Names.{bytes-same}
-use Rattle.replay.proofs.Entries.{name-taken, any_here, any_end}
+use Rattle.replay.specs.declared.sets.LiveTable.{LiveTable}
+use Rattle.replay.proofs.Entries.{name-taken, any-same}
 use Rattle.replay.proofs.sets.Sets.name_taken.Goals as goal
 
-pub returns-then-eq : goal.returns-then-eq
-returns-then-eq c =
-    rw (name-taken, ← c.as_slice-x-items.ensures.all, ← c.loop-x.invariant) (sym (any_here _ _ _ _ c.loop-x-test.true (rw bytes-same at (sym c.eq.ensures ∙ c.if-eq.true))))
-
 pub returns : goal.returns
-returns c = rw (name-taken, ← c.as_slice-x-items.ensures.all, ← c.loop-x.invariant) (sym (any_end _ _ _ c.loop-x-test.false))
+returns c =
+    let p = λ (x : LiveTable). same (name_of x.name) (name_of c.args.name) in
+    let l = c.args.self.now.tables in
+    any_from_yields_List p _ _ _ c.any.ensures.ran (YieldsList-from_slice l cc) (λ x b q k. search (rules, tests, bytes-same))
+    ∙ any-same p l ∙ sym (name-taken l (name_of c.args.name))
