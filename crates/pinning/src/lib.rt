@@ -13,7 +13,7 @@ use ids::refusal::Refusal;
 use pins::{MOST_PINS, PinBook, Place};
 use version_manager::VersionManager;
 
-// For callers that go by value: the book afterwards, beside the answer.
+// For callers that go by value: the book afterwards, beside the answer. The C interface has such a struct of its own, in numbers.
 #[derive(Drop)]
 pub struct Stepped<T> {
     pub book: PinBook,
@@ -25,7 +25,8 @@ pub type PinStep = Stepped<u32>;
 
 pub type UnpinStep = Stepped<Readiness>;
 
-// Whether a vacuum is due, and how many deletions it would list.
+// Whether a vacuum is due, and how many deletions it would list: two answers of the specification, for which an Option of the second
+// would be no plainer.
 #[derive(Clone, Copy)]
 pub struct Readiness {
     pub due: bool,
@@ -37,7 +38,7 @@ pub fn holds()
     ensures { PinLaws }
 {}
 
-// 29, 28
+// Refusals 29 and 28, in this order.
 fn judge(manager: &VersionManager, book: &PinBook) -> Result<(), Refusal>
     ensures { result ≡ judged ((bad_manager manager.now ⇒ BadManager) ∷ (bad_book (current manager.now) book.now ⇒ BadPinBook) ∷ []) }
 {
@@ -50,7 +51,7 @@ fn judge(manager: &VersionManager, book: &PinBook) -> Result<(), Refusal>
     Ok(())
 }
 
-// 10, 18, 19 of an epoch with so many pins. One without pins needs a place in the book.
+// Refusals 10, 18 and 19, in this order, for an epoch with `pins` pins. One without pins needs a place in the book.
 fn judge_pin(epoch: u32, pins: u16, full: bool) -> Result<(), Refusal>
     ensures { result ≡ judged ((eqb epoch 0 ⇒ PinAtEpochZero) ∷ (leb most_pins pins ⇒ PinsFull) ∷ ((eqb pins 0 && full) ⇒ PinnedEpochsFull) ∷ []) }
 {
@@ -96,10 +97,10 @@ pub fn unpin(manager: VersionManager, book: &mut PinBook, epoch: u32) -> Result<
             ready: 0,
         });
     }
-    // The column is moved out: lent from the manager it would keep a copy of the whole, measured as half a microsecond of 2.7.
-    let deleted = manager.inner.rowsets.deleted;
+    // The rowsets are copied out: lent, they keep a copy of the whole manager, measured as 0.5 of 2.7 us.
+    let held = manager.inner.rowsets;
     let bound = book.bound(current);
-    let ready = vacuum::counted(&deleted, manager.inner.rowsets.count, bound);
+    let ready = vacuum::counted(&held, bound);
     Ok(Readiness { due: true, ready })
 }
 

@@ -10,9 +10,10 @@ ghost use Rattle.storage.specs.Reopen.{opened_of, reopen_told, ReopenIs, ReopenS
 
 use ids::refusal::Refusal;
 use pins::PinBook;
-use version_manager::VersionManager;
+use version_manager::{Opened, VersionManager};
 use version_state::VersionManagerInner;
 
+// What a reopen hands out. The C interface has such a struct of its own, in numbers.
 #[derive(Drop)]
 pub struct Reopened {
     pub manager: VersionManager,
@@ -24,9 +25,7 @@ pub struct Reopened {
 fn refused(refusal: Refusal) -> Reopened
     ensures { (reopen_told result.answer ≡ told (Err refusal) []) × Manages result.manager start × Keeps result.book [] }
 {
-    let opened = VersionManager::fresh();
-    let manager = opened.manager;
-    let book = opened.book;
+    let Opened { manager, book } = VersionManager::fresh();
     Reopened {
         manager,
         book,
@@ -35,22 +34,19 @@ fn refused(refusal: Refusal) -> Reopened
 }
 
 // Internal: what was replayed is handed out with its manifest.
-fn opened(inner: VersionManagerInner, out: &mut [u8]) -> Reopened
-    requires { Fit inner }
-    ensures { ReopenIs (opened_of (length out.old) (state_of inner)) out.old result out.new }
+// The structs of the C interface cannot say that their counts are within the columns.
+fn opened(replayed: VersionManagerInner, out: &mut [u8]) -> Reopened
+    requires { Fit replayed }
+    ensures { ReopenIs (opened_of (length out.old) (state_of replayed)) out.old result out.new }
 {
-    let done = rewrite::rewrite_into(inner, out);
-    let verdict = done.verdict;
-    if let Err(refusal) = verdict {
-        return refused(refusal);
-    }
-    let inner = done.inner;
-    let manager = version_manager::handed(inner);
-    let book = PinBook::none();
-    Reopened {
-        manager,
-        book,
-        answer: Ok(done.length),
+    let mut inner = replayed;
+    match rewrite::rewrite_into(&mut inner, out) {
+        Ok(length) => Reopened {
+            manager: version_manager::handed(inner),
+            book: PinBook::none(),
+            answer: Ok(length),
+        },
+        Err(refusal) => refused(refusal),
     }
 }
 

@@ -1,6 +1,5 @@
 -- What the work below a method tells of the method's own proposition. Assumes nothing.
-use mathlib.Core.Path.{◌≡◌, refl, sym, ap, subst, ◌∙◌}
-use mathlib.Core.Bool.{Bool, false}
+use mathlib.Core.Path.{◌≡◌, refl, ap, subst, ◌∙◌}
 use mathlib.Core.List.{List, [], ◌∷◌, map}
 use Prim.Native.Nat.{ℕ, ◌*◌, ◌≤◌}
 use native.Mathlib.Omega.{arith}
@@ -8,42 +7,29 @@ use lib.ListN.{length, take, drop, length-map}
 use lib.Seq.{take-append_seam}
 use Rattle.std.specs.Prelude.{Result, Ok, Err}
 use Rattle.std.specs.Result.{result_and}
-use Rattle.lists.specs.Written.{over, Wrote}
+use Rattle.lists.specs.Written.{Wrote}
 use Rattle.lists.proofs.Views.{view-length}
 use Rattle.lists.proofs.Written.{wrote-over, wrote-length}
 use Rattle.ids.specs.Limits.{most_operations, longest_line}
-use Rattle.ids.specs.declared.TableNo.{TableNo}
 use Rattle.ids.specs.declared.refusal.Refusal.{Refusal}
 use Rattle.ids.specs.declared.refusal.Refusal.TheVariants.{BadManager}
 use Rattle.ids.specs.Verdicts.{◌⇒◌, judged, Verdict}
-use Rattle.ids.specs.Answers.{told, after}
+use Rattle.ids.specs.Answers.{Told, told, after}
 use Rattle.manifest.specs.declared.operation.Batch.{Batch}
 use Rattle.manifest.specs.Operations.{Operation, operation_of, batch_of}
-use Rattle.snapshot.specs.Entries.{field}
 use Rattle.version_state.specs.declared.VersionManagerInner.{VersionManagerInner}
 use Rattle.version_state.specs.State.{State, Hands}
-use Rattle.pins.specs.declared.PinBook.{PinBook}
 use Rattle.frames.specs.Frames.{texts_of}
-use Rattle.commit.specs.Commit.{commit_of}
+use Rattle.commit.specs.Commit.{commit_of, CommitIs}
 use Rattle.commit.specs.Lent.{as_line, operations_in}
 use Rattle.commit.proofs.Sounds.{onward-given}
 use Rattle.commit.proofs.AsLines.{lines-room, lines-read, commit-same, commit-lines-same}
-use Rattle.rewrite.specs.declared.Rewrote.{Rewrote}
-use Rattle.rewrite.specs.Rewritten.{rewritten_of}
-use Rattle.rewrite.specs.Says.{with_rewritten, RewriteIs}
-use Rattle.vacuum.specs.declared.Released.{Released}
-use Rattle.vacuum.specs.LetGo.{vacuumed}
-use Rattle.vacuum.specs.Says.{bound_of, list_of, VacuumIs}
-use Rattle.transaction_manager.specs.Locks.{relocked}
-use Rattle.transaction_manager.specs.Says.{LockIs}
 use Rattle.version_manager.specs.declared.VersionManager.{VersionManager}
-use Rattle.version_manager.specs.Answered.{Committed, Vacuumed, Checkpointed, Locked}
-use Rattle.version_manager.specs.Managers.{held_by, bad_manager, HandsBack}
+use Rattle.version_manager.specs.declared.Answered.{Answered}
+use Rattle.version_manager.specs.Answered.{Committed}
+use Rattle.version_manager.specs.Managers.{held_by, bad_manager, HandsBack, Settled}
 use Rattle.version_manager.proofs.Managers.{manages}
-use Rattle.version_manager.specs.Commit.{outcome_of, CommitEnds, CommitSays}
-use Rattle.version_manager.specs.Vacuum.{vacuum_verdict, VacuumSays}
-use Rattle.version_manager.specs.Lock.{lock_verdict, RelockSays}
-use Rattle.version_manager.specs.Checkpoint.{checkpoint_verdict, CheckpointSays}
+use Rattle.version_manager.specs.Commit.{commit_told, outcome_of, CommitEnds, CommitSays}
 
 -- a commit of a typed batch's lines is one of its operations
 module _ (m : VersionManager) (n : ℕ) (os : List Operation) (out : List ℕ) (r : Committed) (out' : List ℕ) where
@@ -83,92 +69,19 @@ module _ (b : Batch) (s t : List ℕ) (n : ℕ) (few : b.count ≤ most_operatio
   pub lines-count : length (operations_in (take n t)) ≡ b.count
   lines-count = ap length lines_are ∙ length-map (batch_of b) as_line ∙ short
 
--- a vacuum of a manager that passed 29
-module _ (m : VersionManager) (b : PinBook) (ts rs : List ℕ) (v : Released) (ts' rs' : List ℕ) (g : bad_manager m ≡ false) (i : VacuumIs (held_by m) b ts rs v ts' rs') where
-  verdict-is : v.verdict ≡ vacuum_verdict m b (length ts) (length rs)
-  verdict-is = rw g i.verdict
+-- work on the state of a manager that passed 29: what it answers, and what it leaves, go by its verdict
+pub settled-says : {T : Type 0} (m : VersionManager) (v : Verdict) (x : T) (s : State) (i : VersionManagerInner) (a : Result T Refusal) (r : Answered T)
+    → a ≡ result_and v (Ok x) → Hands i (after v s (held_by m)) → Settled m i a r → (r.answer ≡ result_and v (Ok x)) × HandsBack v m s r.manager
+settled-says m (Ok _) x s i a r e h d = let q = subst (λ y. Settled m i y r) e d in (q.0, manages r.manager i s (q.1, q.2) h)
+settled-says m (Err k) x s i a r e h d = let q = subst (λ y. Settled m i y r) e d in (q.0, q.1)
 
-  module _ (r : Vacuumed) where
-    says : told v.verdict (length (list_of (held_by m) b) ∷ []) ≡ told (vacuum_verdict m b (length ts) (length rs)) (length (list_of (held_by m) b) ∷ [])
-    says = ap (λ (d : Verdict). told d (length (list_of (held_by m) b) ∷ [])) verdict-is
+-- a number that such a call answers
+pub told-number : (f : Result ℕ Refusal → Told) → ((n : ℕ) → f (Ok n) ≡ told (Ok tt) (n ∷ [])) → ((k : Refusal) → f (Err k) ≡ told (Err k) []) → (v : Verdict) (n : ℕ) → f (result_and v (Ok n)) ≡ told v (n ∷ [])
+told-number f given none (Ok _) n = given n
+told-number f given none (Err k) n = none k
 
-    tables-are : ts' ≡ after (vacuum_verdict m b (length ts) (length rs)) (over (field 0 (list_of (held_by m) b)) ts) ts
-    tables-are = i.tables ∙ ap (λ (d : Verdict). after d (over (field 0 (list_of (held_by m) b)) ts) ts) verdict-is
-
-    rowsets-are : rs' ≡ after (vacuum_verdict m b (length ts) (length rs)) (over (field 1 (list_of (held_by m) b)) rs) rs
-    rowsets-are = i.rowsets ∙ ap (λ (d : Verdict). after d (over (field 1 (list_of (held_by m) b)) rs) rs) verdict-is
-
-    pub vacuum-no : (k : Refusal) → v.verdict ≡ Err k → r.manager ≡ m → r.answer ≡ Err k → VacuumSays m b ts rs r ts' rs'
-    vacuum-no k e h a =
-        record {
-          answer = rw a (sym (ap (λ (d : Verdict). told d (length (list_of (held_by m) b) ∷ [])) e) ∙ says);
-          tables = tables-are;
-          rowsets = rowsets-are;
-          manager = subst (λ (d : Verdict). HandsBack d m (vacuumed (bound_of (held_by m) b) (held_by m)) r.manager) (sym e ∙ verdict-is) h;
-        }
-
-    pub vacuum-yes : v.verdict ≡ Ok tt → (r.manager.inner ≡ v.inner) × (r.manager.append ≡ 0) → r.answer ≡ Ok v.count → VacuumSays m b ts rs r ts' rs'
-    vacuum-yes e h a =
-        record {
-          answer = rw (a, i.count e) (sym (ap (λ (d : Verdict). told d (length (list_of (held_by m) b) ∷ [])) e) ∙ says);
-          tables = tables-are;
-          rowsets = rowsets-are;
-          manager = subst (λ (d : Verdict). HandsBack d m (vacuumed (bound_of (held_by m) b) (held_by m)) r.manager) (sym e ∙ verdict-is) (manages r.manager v.inner _ h (i.inner e));
-        }
-
--- a lock of a manager that passed 29 taken or given back
-module _ (m : VersionManager) (t : TableNo) (b : Bool) (v : Verdict) (n : VersionManagerInner) (g : bad_manager m ≡ false) (i : LockIs (held_by m) t.0 b v n) where
-  lock-verdict : v ≡ lock_verdict m t.0 b
-  lock-verdict = rw g i.verdict
-
-  module _ (r : Locked) (a : r.answer ≡ v) where
-    lock-told : told r.answer [] ≡ told (lock_verdict m t.0 b) []
-    lock-told = ap (λ (d : Verdict). told d []) (a ∙ lock-verdict)
-
-    pub lock-no : (k : Refusal) → v ≡ Err k → r.manager ≡ m → RelockSays m t b r
-    lock-no k e h =
-        record {
-          answer = lock-told;
-          manager = subst (λ (d : Verdict). HandsBack d m (relocked t.0 b (held_by m)) r.manager) (sym e ∙ lock-verdict) h;
-        }
-
-    pub lock-yes : v ≡ Ok tt → (r.manager.inner ≡ n) × (r.manager.append ≡ 0) → RelockSays m t b r
-    lock-yes e h =
-        let k = subst (λ (d : Verdict). Hands n (after d (relocked t.0 b (held_by m)) (held_by m))) e i.inner in
-        record {
-          answer = lock-told;
-          manager = subst (λ (d : Verdict). HandsBack d m (relocked t.0 b (held_by m)) r.manager) (sym e ∙ lock-verdict) (manages r.manager n _ h k);
-        }
-
--- a checkpoint of a manager that passed 29
-module _ (m : VersionManager) (out : List ℕ) (v : Rewrote) (out' : List ℕ) (g : bad_manager m ≡ false) (i : RewriteIs (held_by m) out v out') where
-  checkpoint-verdict : v.verdict ≡ checkpoint_verdict m (length out)
-  checkpoint-verdict = rw g i.verdict
-
-  module _ (r : Checkpointed) where
-    abbrev written : List ℕ
-    written = rewritten_of (held_by m)
-
-    checkpoint-says : told v.verdict (length written ∷ []) ≡ told (checkpoint_verdict m (length out)) (length written ∷ [])
-    checkpoint-says = ap (λ (d : Verdict). told d (length written ∷ [])) checkpoint-verdict
-
-    checkpoint-bytes : out' ≡ after (checkpoint_verdict m (length out)) (over written out) out
-    checkpoint-bytes = rw g i.bytes
-
-    pub checkpoint-no : (k : Refusal) → v.verdict ≡ Err k → r.manager ≡ m → r.answer ≡ Err k → CheckpointSays m out r out'
-    checkpoint-no k e h a =
-        record {
-          answer = rw a (sym (ap (λ (d : Verdict). told d (length written ∷ [])) e) ∙ checkpoint-says);
-          bytes = checkpoint-bytes;
-          manager = subst (λ (d : Verdict). HandsBack d m (with_rewritten (held_by m)) r.manager) (sym e ∙ checkpoint-verdict) h;
-          room = λ b. i.within;
-        }
-
-    pub checkpoint-yes : v.verdict ≡ Ok tt → (r.manager.inner ≡ v.inner) × (r.manager.append ≡ 0) → r.answer ≡ Ok v.length → CheckpointSays m out r out'
-    checkpoint-yes e h a =
-        record {
-          answer = rw (a, i.counted) (sym (ap (λ (d : Verdict). told d (length written ∷ [])) e) ∙ checkpoint-says);
-          bytes = checkpoint-bytes;
-          manager = subst (λ (d : Verdict). HandsBack d m (with_rewritten (held_by m)) r.manager) (sym e ∙ checkpoint-verdict) (manages r.manager v.inner _ h (i.inner e));
-          room = λ b. i.within;
-        }
+-- a commit that is refused hands back the same manager
+pub append-refused : (x : Result State Refusal) (m : VersionManager) (os : List Operation) (out : List ℕ) (a : Result ℕ Refusal) (i : VersionManagerInner) (out' : List ℕ) (k : Refusal) (r : Committed)
+    → CommitIs x os out a i out' → a ≡ Err k → r.answer ≡ Err k → r.manager ≡ m → CommitEnds x m os out r out'
+append-refused (Ok s) m os out a i out' k r c e q h = absurd (cc (c.0, e))
+append-refused (Err j) m os out a i out' k r c e q h = let z : ◌≡◌ {A = Result ℕ Refusal} (Err j) (Err k) = cc (c.0, e) in (ap commit_told q ∙ cc z, h, c.1)

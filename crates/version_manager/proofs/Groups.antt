@@ -1,34 +1,24 @@
 -- What a grouping tells of the method's own proposition. Assumes nothing.
 use mathlib.Core.Path.{◌≡◌, refl, sym, ap, subst, ◌∙◌}
 use mathlib.Core.Bool.{false}
-use mathlib.Core.List.{List, [], ◌∷◌, map}
+use mathlib.Core.List.{List, [], ◌∷◌}
 use Prim.Native.Nat.{ℕ, ◌+◌, ◌≤◌}
-use lib.ListN.{length, take}
+use lib.ListN.{length}
 use borrow.Author.Tests.{ltb-false}
 use Rattle.std.specs.Prelude.{Ok, Err, Result}
-use Rattle.std.specs.Result.{result_and}
 use Rattle.lists.specs.Written.{over}
 use Rattle.ids.specs.Ids.{largest64}
 use Rattle.ids.specs.declared.refusal.Refusal.{Refusal}
 use Rattle.ids.specs.Verdicts.{judged, Verdict}
 use Rattle.ids.specs.Answers.{told, after}
-use Rattle.ids.proofs.Verdicts.{none-judged}
+use Rattle.ids.proofs.Verdicts.{none-judged, accepted-with, refused-with}
 use Rattle.transaction.specs.declared.Handles.{Handles}
-use Rattle.transaction.specs.Groups.{Handle, handles_of, rowsets_in, lengths_in, counts_in, files_in, memories_in}
+use Rattle.transaction.specs.Groups.{handles_of, rowsets_in, lengths_in, counts_in, files_in, memories_in}
 use Rattle.transaction.specs.Says.{group_rules, GroupIs}
 use Rattle.version_manager.specs.declared.VersionManager.{VersionManager}
 use Rattle.version_manager.specs.Answered.{Grouped}
 use Rattle.version_manager.specs.Managers.{held_by, bad_manager, Manages, HandsBack}
 use Rattle.version_manager.specs.Group.{group_told, vectors_drawn, grouped_by, group_verdict, GroupSays}
-
--- an answer that a verdict decides
-passed : (v : Verdict) (a b : ℕ) → result_and v (Ok a) ≡ Ok b → (v ≡ Ok tt) × (a ≡ b)
-passed (Ok _) a b h = (refl, cc)
-passed (Err k) a b h = absurd (cc)
-
-stopped : (v : Verdict) (a : ℕ) (k : Refusal) → result_and v (Ok a) ≡ Err k → v ≡ Err k
-stopped (Ok _) a k h = absurd (cc)
-stopped (Err j) a k h = cc
 
 -- a grouping for a manager that passed 29
 module _ (m : VersionManager) (h : Handles) (rs ls cs fs ms : List ℕ) (d : Result ℕ Refusal) (rs' ls' cs' fs' ms' : List ℕ)
@@ -42,7 +32,7 @@ module _ (m : VersionManager) (h : Handles) (rs ls cs fs ms : List ℕ) (d : Res
   -- the ids that are drawn fit
   pub group-fits : (n : ℕ) → d ≡ Ok n → (held_by m).next_vector + n ≤ largest64
   group-fits n a =
-      let q = passed own (length (grouped_by h)) n (sym i.answer ∙ a) in
+      let q = accepted-with own (length (grouped_by h)) n (sym i.answer ∙ a) in
       let z = none-judged (group_rules (handles_of h) h.count (held_by m).next_vector (length rs) (length ls) (length cs) (length fs) (length ms)) q.0 in
       rw (sym q.1) (ltb-false largest64 ((held_by m).next_vector + length (grouped_by h)) z.1.1.0)
 
@@ -61,7 +51,7 @@ module _ (m : VersionManager) (h : Handles) (rs ls cs fs ms : List ℕ) (d : Res
 
     pub group-no : (k : Refusal) → d ≡ Err k → r.manager ≡ m → r.answer ≡ Err k → GroupSays m h rs ls cs fs ms r rs' ls' cs' fs' ms'
     group-no k v p a =
-        let q : Err k ≡ group_verdict m h rs ls cs fs ms = sym (stopped own (length (grouped_by h)) k (sym i.answer ∙ v)) ∙ verdict-is in
+        let q : Err k ≡ group_verdict m h rs ls cs fs ms = sym (refused-with own (length (grouped_by h)) k (sym i.answer ∙ v)) ∙ verdict-is in
         buffers
         (rw a (ap (λ (x : Verdict). told x (length (grouped_by h) ∷ (held_by m).next_vector ∷ [])) q))
         (subst (λ (x : Verdict). HandsBack x m (vectors_drawn (length (grouped_by h)) (held_by m)) r.manager) q p)
@@ -69,7 +59,7 @@ module _ (m : VersionManager) (h : Handles) (rs ls cs fs ms : List ℕ) (d : Res
     pub group-yes : (n : ℕ) → d ≡ Ok n → Manages r.manager (vectors_drawn n (held_by m)) → group_told r.answer ≡ told (Ok tt) (n ∷ (held_by m).next_vector ∷ [])
         → GroupSays m h rs ls cs fs ms r rs' ls' cs' fs' ms'
     group-yes n v p a =
-        let w = passed own (length (grouped_by h)) n (sym i.answer ∙ v) in
+        let w = accepted-with own (length (grouped_by h)) n (sym i.answer ∙ v) in
         let q : Ok tt ≡ group_verdict m h rs ls cs fs ms = sym w.0 ∙ verdict-is in
         buffers
         (a ∙ ap (λ (k : ℕ). told (Ok tt) (k ∷ (held_by m).next_vector ∷ [])) (sym w.1) ∙ ap (λ (x : Verdict). told x (length (grouped_by h) ∷ (held_by m).next_vector ∷ [])) q)

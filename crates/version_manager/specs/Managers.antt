@@ -1,10 +1,15 @@
 -- Managers: what one stands for, what 29 judges of it, and what a call hands back. What a manager holds beside its state is said here. Assumes nothing.
-use Rattle.std.specs.Prelude.{◌≡◌, Bool, not, ◌&&◌, ◌||◌, [], ℕ, eqb, Ok, Err}
+use Rattle.std.specs.Prelude.{◌≡◌, Bool, true, false, not, ◌&&◌, ◌||◌, [], ℕ, eqb, Result, Ok, Err}
+use Rattle.ids.specs.declared.refusal.Refusal.{Refusal}
+use Rattle.ids.specs.declared.refusal.Refusal.TheVariants.{BadManager}
 use Rattle.ids.specs.Verdicts.{Verdict}
+use Rattle.version_state.specs.declared.VersionManagerInner.{VersionManagerInner}
+use Rattle.version_state.specs.declared.sound.SoundState.{SoundState}
 use Rattle.version_state.specs.State.{State, start, state_of, lengthened, Hands}
 use Rattle.version_state.specs.Sound.{bad_inner}
 use Rattle.pins.specs.Book.{Keeps}
 use Rattle.version_manager.specs.declared.VersionManager.{VersionManager}
+use Rattle.version_manager.specs.declared.Answered.{Answered}
 use Rattle.version_manager.specs.declared.Opened.{Opened}
 
 -- the state that a manager stands for
@@ -27,6 +32,11 @@ bad_former m = has_former m && bad_inner (lengthened m.append m.kept)
 abbrev pub bad_manager : VersionManager → Bool
 bad_manager m = bad_inner m.inner || bad_former m
 
+-- Internal: what judging 29 finds; where it lets pass, the state below, which it lends, passes too
+abbrev pub Judged : VersionManager → Result SoundState Refusal → Type 0
+Judged m (Ok s) = (bad_manager m ≡ false) × (bad_inner m.inner ≡ false) × (s.inner.now ≡ m.inner)
+Judged m (Err k) = (bad_manager m ≡ true) × (k ≡ BadManager)
+
 -- the manager stands for the state s, and keeps nothing
 pub record Manages (m : VersionManager) (s : State) : Type 0 where
   pub hands : Hands m.inner s
@@ -42,6 +52,12 @@ pub record Follows (m : VersionManager) (s f : State) (n : ℕ) : Type 0 where
 abbrev pub HandsBack : Verdict → VersionManager → State → VersionManager → Type 0
 HandsBack (Ok _) m s n = Manages n s
 HandsBack (Err k) m s n = n ≡ m
+
+-- Internal: work on a copy of its state answered and left i; on a refusal the very same m goes with the answer, and else one of i that
+-- keeps nothing
+abbrev pub Settled : {T : Type 0} → VersionManager → VersionManagerInner → Result T Refusal → Answered T → Type 0
+Settled m i (Ok x) r = (r.answer ≡ Ok x) × (r.manager.inner ≡ i) × (r.manager.append ≡ 0)
+Settled m i (Err k) r = (r.answer ≡ Err k) × (r.manager ≡ m)
 
 -- by a commit of k bytes: the state that it started from is kept
 abbrev pub HandsOn : Verdict → VersionManager → State → ℕ → VersionManager → Type 0

@@ -1,16 +1,16 @@
 // The version manager: every public method. 29 is judged here; what works below is given a state that passed.
 #![tactic(auto)]
 
-ghost use Rattle.std.specs.Prelude.{◌≡◌, length};
-ghost use Rattle.ids.specs.Limits.{longest_line};
+ghost use Rattle.std.specs.Prelude.{◌≡◌, false, ℕ, ◌≤◌, length, Ok, Err};
 ghost use Rattle.ids.specs.Names.{name_of};
 ghost use Rattle.manifest.specs.Operations.{batch_of};
 ghost use Rattle.commit.specs.Lent.{operations_in};
 ghost use Rattle.compaction.specs.New.{new_of};
-ghost use Rattle.version_manager.specs.Managers.{bad_manager, FreshSays};
+ghost use Rattle.version_manager.specs.Managers.{bad_manager, Judged, Settled, FreshSays};
 ghost use Rattle.version_manager.specs.Draw.{DrawRowsetSays, DrawVectorSays};
 ghost use Rattle.version_manager.specs.Group.{GroupSays};
 ghost use Rattle.version_manager.specs.Commit.{CommitSays};
+ghost use Rattle.version_manager.specs.Made.{AppendsMade};
 ghost use Rattle.version_manager.specs.Create.{CreateSays};
 ghost use Rattle.version_manager.specs.Drop.{DropSays};
 ghost use Rattle.version_manager.specs.Compact.{CompactSays};
@@ -32,6 +32,7 @@ use manifest::operation::Batch;
 use pins::PinBook;
 use transaction::Handles;
 use version_state::VersionManagerInner;
+use version_state::sound::SoundState;
 
 #[repr(C)]
 #[derive(Clone, Copy)]
@@ -39,7 +40,8 @@ pub struct VersionManager {
     pub inner: VersionManagerInner,
     // The whole state before the last commit, for a report of a short write; without meaning where `append` is 0.
     pub kept: VersionManagerInner,
-    // How many bytes that commit appended. Any other accepted call that hands a manager back makes it 0: nothing is kept.
+    // How many bytes that commit appended. Any other accepted call that hands a manager back makes it 0: nothing is kept. C reads the struct, so that
+    // this is no Option.
     pub append: usize,
 }
 
@@ -51,7 +53,7 @@ pub struct Opened {
     pub book: PinBook,
 }
 
-// The manager that a call hands back, and what it answers.
+// The manager that a call hands back, and what it answers. The C interface has such a struct of its own, in numbers.
 #[derive(Drop)]
 pub struct Answered<T> {
     pub manager: VersionManager,
@@ -127,102 +129,97 @@ fn followed(inner: VersionManagerInner, kept: VersionManagerInner, append: usize
     }
 }
 
-// Room for one line.
-fn buffer() -> [u8; LONGEST_LINE]
-    ensures { length result ≡ longest_line }
-{
-    [0u8; LONGEST_LINE]
-}
-
 // What fresh, draw, group, a checkpoint, a commit, a report, create, drop and a compaction hand out passes 29.
 pub fn holds()
     ensures { DrawLaws × CheckpointLaws × CommitLaws × ReportLaws × TableLaws × CompactLaws }
 {}
 
+// The C interface hands a manager over by value and takes one back, and so does each method, which judges 29 first.
 impl VersionManager {
     pub fn fresh() -> Opened
         ensures { FreshSays result }
     {
-        let inner = VersionManagerInner::fresh();
-        let manager = handed(inner);
-        let book = PinBook::none();
-        Opened { manager, book }
+        Opened {
+            manager: handed(VersionManagerInner::fresh()),
+            book: PinBook::none(),
+        }
     }
 
     // The specification's 29, of any value whatsoever.
     pub fn bad(self) -> bool
         ensures { result ≡ bad_manager self }
     {
-        let inner = self.inner;
-        if inner.bad() {
-            return true;
-        }
-        let append = self.append;
-        if append == 0 {
-            return false;
-        }
-        let kept = self.kept;
-        kept.bad_with(append)
+        self.inner.bad() || self.append != 0 && self.kept.bad_with(self.append)
     }
 
+    // Refusal 29: the state that has passed it is lent.
+    fn judge(&self) -> Result<SoundState<'_>, Refusal>
+        ensures { Judged self.now result }
+    {
+        if self.bad() {
+            return Err(Refusal::BadManager);
+        }
+        Ok(SoundState { inner: &self.inner })
+    }
+
+    fn refused<T>(&self, refusal: Refusal) -> Answered<T>
+        ensures { (result.answer ≡ Err refusal) × (result.manager ≡ self.now) }
+    {
+        Answered {
+            manager: *self,
+            answer: Err(refusal),
+        }
+    }
+
+    // What work on a copy of the state answered: a refusal hands back the manager as it was. The manager is lent here and to what appends,
+    // since by value each would copy it whole: a tenth of a small commit, as measured.
+    fn settled<T>(&self, inner: VersionManagerInner, answer: Result<T, Refusal>) -> Answered<T>
+        ensures { Settled self.now inner answer result }
+    {
+        match answer {
+            Ok(x) => Answered {
+                manager: handed(inner),
+                answer: Ok(x),
+            },
+            Err(refusal) => self.refused(refusal),
+        }
+    }
+
+    // The two draws differ in the field and its width: a trait over both would be longer, and no plainer.
     pub fn draw_rowset(self) -> DrawnRowset
         ensures { DrawRowsetSays self result }
     {
         if self.bad() {
-            return Answered {
-                manager: self,
-                answer: Err(Refusal::BadManager),
-            };
+            return self.refused(Refusal::BadManager);
+        }
+        let id = self.inner.next.rowset;
+        if LARGEST_32 <= id.0 {
+            return self.refused(Refusal::IdsUsedUp);
         }
         let mut inner = self.inner;
-        let mut next = inner.next;
-        let id = next.rowset.0;
-        if LARGEST_32 <= id {
-            return Answered {
-                manager: self,
-                answer: Err(Refusal::IdsUsedUp),
-            };
-        }
-        let raised = RowsetNo(id + 1);
-        next.rowset = raised;
-        inner.next = next;
-        let manager = handed(inner);
-        Answered {
-            manager,
-            answer: Ok(RowsetNo(id)),
-        }
+        inner.next.rowset = RowsetNo(id.0 + 1);
+        self.settled(inner, Ok(id))
     }
 
+    // With its own field and width, as above: a trait would be no plainer.
     pub fn draw_vector(self) -> DrawnVector
         ensures { DrawVectorSays self result }
     {
         if self.bad() {
-            return Answered {
-                manager: self,
-                answer: Err(Refusal::BadManager),
-            };
+            return self.refused(Refusal::BadManager);
+        }
+        let id = self.inner.next.vector;
+        if LARGEST_64 <= id.0 {
+            return self.refused(Refusal::IdsUsedUp);
         }
         let mut inner = self.inner;
-        let mut next = inner.next;
-        let id = next.vector.0;
-        if LARGEST_64 <= id {
-            return Answered {
-                manager: self,
-                answer: Err(Refusal::IdsUsedUp),
-            };
-        }
-        let raised = VectorNo(id + 1);
-        next.vector = raised;
-        inner.next = next;
-        let manager = handed(inner);
-        Answered {
-            manager,
-            answer: Ok(VectorNo(id)),
-        }
+        inner.next.vector = VectorNo(id.0 + 1);
+        self.settled(inner, Ok(id))
     }
 
     // One delete vector for each rowset that handles name, ascending: its rowset, the length of its file and its count of rows in
     // memory; then all files one after another, and all rows in memory one after another.
+    // The slices are as C lends them, one by one.
     pub fn group(
         self,
         handles: Handles,
@@ -235,31 +232,15 @@ impl VersionManager {
         ensures { GroupSays self handles rowsets.old lengths.old counts.old files.old rows.old result rowsets.new lengths.new counts.new files.new rows.new }
     {
         if self.bad() {
-            return Answered {
-                manager: self,
-                answer: Err(Refusal::BadManager),
-            };
+            return self.refused(Refusal::BadManager);
         }
-        let mut inner = self.inner;
-        let mut next = inner.next;
-        let id = next.vector.0;
-        match transaction::group(&handles, id, rowsets, lengths, counts, files, rows) {
-            Err(refusal) => Answered {
-                manager: self,
-                answer: Err(refusal),
-            },
+        let first = self.inner.next.vector;
+        match transaction::group(&handles, first.0, rowsets, lengths, counts, files, rows) {
+            Err(refusal) => self.refused(refusal),
             Ok(count) => {
-                let raised = VectorNo(id + count as u64);
-                next.vector = raised;
-                inner.next = next;
-                let manager = handed(inner);
-                Answered {
-                    manager,
-                    answer: Ok(NewVectors {
-                        count,
-                        first: VectorNo(id),
-                    }),
-                }
+                let mut inner = self.inner;
+                inner.next.vector = VectorNo(first.0 + count as u64);
+                self.settled(inner, Ok(NewVectors { count, first }))
             }
         }
     }
@@ -268,21 +249,15 @@ impl VersionManager {
     pub fn commit(self, batch: Batch, out: &mut [u8]) -> Committed
         ensures { CommitSays self batch.count (batch_of batch) out.old result out.new }
     {
+        if self.bad() {
+            return self.refused(Refusal::BadManager);
+        }
         if MOST_OPERATIONS < batch.count {
-            if self.bad() {
-                return Answered {
-                    manager: self,
-                    answer: Err(Refusal::BadManager),
-                };
-            }
-            return Answered {
-                manager: self,
-                answer: Err(Refusal::TooManyOperations(0)),
-            };
+            return self.refused(Refusal::TooManyOperations(0));
         }
         let mut lines = commit::typed::buffer();
         let n = commit::typed::put_lines(&mut lines, batch);
-        self.commit_lines(&lines[..n], out)
+        self.append(&lines[..n], out)
     }
 
     // The operations as manifest lines: each newline ends one, and bytes after the last newline are one more.
@@ -290,17 +265,19 @@ impl VersionManager {
         ensures { CommitSays self (length (operations_in ops.now)) (operations_in ops.now) out.old result out.new }
     {
         if self.bad() {
-            return Answered {
-                manager: self,
-                answer: Err(Refusal::BadManager),
-            };
+            return self.refused(Refusal::BadManager);
         }
+        self.append(ops, out)
+    }
+
+    // Operations as lines, committed by a manager that has passed 29.
+    fn append(&self, ops: &[u8], out: &mut [u8]) -> Committed
+        requires passed { bad_manager self.now ≡ false }
+        ensures { CommitSays self.now (length (operations_in ops.now)) (operations_in ops.now) out.old result out.new }
+    {
         let mut inner = self.inner;
         match commit::commit_lines(&mut inner, ops, out) {
-            Err(refusal) => Answered {
-                manager: self,
-                answer: Err(refusal),
-            },
+            Err(refusal) => self.refused(refusal),
             Ok(length) => Answered {
                 manager: followed(inner, self.inner, length),
                 answer: Ok(Appended {
@@ -311,103 +288,71 @@ impl VersionManager {
         }
     }
 
+    // The same of lines that a call has made at the front of a buffer, if it is not refused.
+    fn append_made(&self, made: Result<usize, Refusal>, lines: &[u8], out: &mut [u8]) -> Committed
+        requires passed { bad_manager self.now ≡ false }
+        requires within { (n : ℕ) → made ≡ Ok n → n ≤ length lines.now }
+        ensures { AppendsMade made self.now lines.now out.old result out.new }
+    {
+        match made {
+            Ok(n) => self.append(&lines[..n], out),
+            Err(refusal) => self.refused(refusal),
+        }
+    }
+
     // The rewritten manifest of what is shown now, to replace the old one while the store stays open. Epochs, waiting deletions, locks and
     // next ids go on.
+    // Judged, done on a copy, settled, as a vacuum and a lock are: a closure for the middle would be no plainer, since it would have to tell
+    // what it leaves in the lent slices.
     pub fn checkpoint(self, out: &mut [u8]) -> Checkpointed
         ensures { CheckpointSays self out.old result out.new }
     {
         if self.bad() {
-            return Answered {
-                manager: self,
-                answer: Err(Refusal::BadManager),
-            };
+            return self.refused(Refusal::BadManager);
         }
-        let inner = self.inner;
-        let done = rewrite::rewrite_into(inner, out);
-        let verdict = done.verdict;
-        if let Err(refusal) = verdict {
-            return Answered {
-                manager: self,
-                answer: Err(refusal),
-            };
-        }
-        let inner = done.inner;
-        let manager = handed(inner);
-        Answered {
-            manager,
-            answer: Ok(done.length),
-        }
+        let mut inner = self.inner;
+        let answer = rewrite::rewrite_into(&mut inner, out);
+        self.settled(inner, answer)
     }
 
-    // So many bytes of the last append landed, fewer than all: back to the state before that commit. The landed bytes stay in the
-    // manifest.
+    // Of the last append only `landed` bytes landed: back to the state before that commit. They stay in the manifest.
     pub fn report(self, book: PinBook, landed: usize) -> Reported
         ensures { ReportSays self book landed result }
     {
         if self.bad() {
-            return Answered {
-                manager: self,
-                answer: Err(Refusal::BadManager),
-            };
+            return self.refused(Refusal::BadManager);
         }
         let epoch = self.inner.epoch;
         if book.bad(epoch) {
-            return Answered {
-                manager: self,
-                answer: Err(Refusal::BadPinBook),
-            };
+            return self.refused(Refusal::BadPinBook);
         }
-        if self.append <= landed {
-            return Answered {
-                manager: self,
-                answer: Err(Refusal::NotReportable),
-            };
-        }
-        if book.is_pinned(epoch) {
-            return Answered {
-                manager: self,
-                answer: Err(Refusal::NotReportable),
-            };
+        if self.append <= landed || book.is_pinned(epoch) {
+            return self.refused(Refusal::NotReportable);
         }
         let mut inner = self.kept;
-        let length = inner.manifest + landed;
-        inner.manifest = length;
-        let manager = handed(inner);
-        Answered {
-            manager,
-            answer: Ok(TakenBack {
+        inner.manifest += landed;
+        self.settled(
+            inner,
+            Ok(TakenBack {
                 epoch: inner.epoch,
-                manifest: length,
+                manifest: inner.manifest,
             }),
-        }
+        )
     }
 
+    // As `checkpoint`: a closure for the middle would have to tell what it leaves in the slices, and be no plainer.
     pub fn vacuum(self, book: PinBook, tables: &mut [u32], rowsets: &mut [u32]) -> Vacuumed
         ensures { VacuumSays self book tables.old rowsets.old result tables.new rowsets.new }
     {
         if self.bad() {
-            return Answered {
-                manager: self,
-                answer: Err(Refusal::BadManager),
-            };
+            return self.refused(Refusal::BadManager);
         }
-        let inner = self.inner;
-        let done = vacuum::vacuum(inner, book, tables, rowsets);
-        let verdict = done.verdict;
-        if let Err(refusal) = verdict {
-            return Answered {
-                manager: self,
-                answer: Err(refusal),
-            };
-        }
-        let inner = done.inner;
-        let manager = handed(inner);
-        Answered {
-            manager,
-            answer: Ok(done.count),
-        }
+        let mut inner = self.inner;
+        let answer = vacuum::vacuum(&mut inner, &book, tables, rowsets);
+        self.settled(inner, answer)
     }
 
+    // The slices are as C lends them, one by one.
     pub fn show_tables(
         self,
         book: PinBook,
@@ -419,12 +364,11 @@ impl VersionManager {
     ) -> Result<usize, Refusal>
         ensures { ShowTablesSays self book epoch ids.old shapes.old lengths.old names.old result ids.new shapes.new lengths.new names.new }
     {
-        if self.bad() {
-            return Err(Refusal::BadManager);
-        }
-        show::show_tables(&self.inner, &book, epoch, ids, shapes, lengths, names)
+        let state = self.judge()?;
+        show::show_tables(state, &book, epoch, ids, shapes, lengths, names)
     }
 
+    // The slices are as C lends them, one by one.
     pub fn show_pairs(
         self,
         book: PinBook,
@@ -434,12 +378,11 @@ impl VersionManager {
     ) -> Result<usize, Refusal>
         ensures { ShowPairsSays self book epoch tables.old rowsets.old result tables.new rowsets.new }
     {
-        if self.bad() {
-            return Err(Refusal::BadManager);
-        }
-        show::show_pairs(&self.inner, &book, epoch, tables, rowsets)
+        let state = self.judge()?;
+        show::show_pairs(state, &book, epoch, tables, rowsets)
     }
 
+    // The slices are as C lends them, one by one.
     pub fn show_vectors(
         self,
         book: PinBook,
@@ -450,32 +393,20 @@ impl VersionManager {
     ) -> Result<usize, Refusal>
         ensures { ShowVectorsSays self book epoch tables.old rowsets.old vectors.old result tables.new rowsets.new vectors.new }
     {
-        if self.bad() {
-            return Err(Refusal::BadManager);
-        }
-        show::show_vectors(&self.inner, &book, epoch, tables, rowsets, vectors)
+        let state = self.judge()?;
+        show::show_vectors(state, &book, epoch, tables, rowsets, vectors)
     }
 
+    // As `checkpoint`: a closure for the middle would have to tell what it leaves of the state, and be no plainer. `held` is what the lock is to be.
     fn relock(self, table: TableNo, held: bool) -> Locked
         ensures { RelockSays self table held result }
     {
         if self.bad() {
-            return Answered {
-                manager: self,
-                answer: Err(Refusal::BadManager),
-            };
+            return self.refused(Refusal::BadManager);
         }
         let mut inner = self.inner;
-        match transaction_manager::relock(&mut inner, table, held) {
-            Err(refusal) => Answered {
-                manager: self,
-                answer: Err(refusal),
-            },
-            Ok(()) => Answered {
-                manager: handed(inner),
-                answer: Ok(()),
-            },
-        }
+        let answer = transaction_manager::relock(&mut inner, table, held);
+        self.settled(inner, answer)
     }
 
     pub fn lock(self, table: TableNo) -> Locked
@@ -492,6 +423,7 @@ impl VersionManager {
 
     // Which of a table's rowsets a compaction is to take: a size is lent for each of them, and those taken are written to the front of
     // `out`.
+    // The slices are as C lends them, one by one.
     pub fn select(
         self,
         table: TableNo,
@@ -501,81 +433,46 @@ impl VersionManager {
     ) -> Result<usize, Refusal>
         ensures { SelectSays self table target sizes.now out.old result out.new }
     {
-        if self.bad() {
-            return Err(Refusal::BadManager);
-        }
-        let inner = self.inner;
-        compactor::select(inner, table, target, sizes, out)
+        let state = self.judge()?;
+        compactor::select(state, table, target, sizes, out)
     }
 
     // A table with the next id: judged first, and then committed as one line.
     pub fn create(self, shape: u32, name: Name, out: &mut [u8]) -> Created
         ensures { CreateSays self shape (name_of name) out.old result out.new }
     {
-        if self.bad() {
-            return Answered {
-                manager: self,
-                answer: Err(Refusal::BadManager),
-            };
-        }
-        let inner = self.inner;
-        let id = inner.next.table;
-        let room = out.len();
-        let mut lines = buffer();
-        let made = table::create(inner, shape, name, room, &mut lines);
-        let verdict = made.verdict;
-        if let Err(refusal) = verdict {
-            return Answered {
-                manager: self,
-                answer: Err(refusal),
-            };
-        }
-        let n = made.length;
-        let done = self.commit_lines(&lines[..n], out);
-        let manager = done.manager;
-        let answer = done.answer;
-        match answer {
-            Ok(append) => Answered {
-                manager,
-                answer: Ok(NewTable {
-                    table: id,
-                    epoch: append.epoch,
-                    length: append.length,
-                }),
-            },
-            Err(refusal) => Answered {
-                manager,
-                answer: Err(refusal),
-            },
+        let Ok(state) = self.judge() else {
+            return self.refused(Refusal::BadManager);
+        };
+        let mut lines = [0; LONGEST_LINE];
+        let made = table::create(state, shape, name, out.len(), &mut lines);
+        let table = self.inner.next.table;
+        let Answered { manager, answer } = self.append_made(made, &lines, out);
+        Answered {
+            manager,
+            answer: answer.map(|a| NewTable {
+                table,
+                epoch: a.epoch,
+                length: a.length,
+            }),
         }
     }
 
     // The table, and all its vectors and rowsets, deleted by one commit; it answers as that does.
+    // Judged, made, appended, as in `compact`: a closure for the middle would have to tell what it leaves in `lines`, and be no plainer.
     pub fn drop(self, table: TableNo, out: &mut [u8]) -> Committed
         ensures { DropSays self table.0 out.old result out.new }
     {
-        if self.bad() {
-            return Answered {
-                manager: self,
-                answer: Err(Refusal::BadManager),
-            };
-        }
-        let inner = self.inner;
-        let room = out.len();
+        let Ok(state) = self.judge() else {
+            return self.refused(Refusal::BadManager);
+        };
         let mut lines = commit::typed::buffer();
-        let made = table::drop(inner, table, room, &mut lines);
-        let verdict = made.verdict;
-        if let Err(refusal) = verdict {
-            return Answered {
-                manager: self,
-                answer: Err(refusal),
-            };
-        }
-        let n = made.length;
-        self.commit_lines(&lines[..n], out)
+        let made = table::drop(state, table, out.len(), &mut lines);
+        self.append_made(made, &lines, out)
     }
 
     // The taken rowsets, lent as rising ids, and their vectors deleted and the new rowset added, by one commit; it answers as that does.
+    // Judged, made, appended, as in `drop`: a closure for the middle would be no plainer.
     pub fn compact(
         self,
         table: TableNo,
@@ -585,24 +482,11 @@ impl VersionManager {
     ) -> Committed
         ensures { CompactSays self table.0 (new_of new) taken.now out.old result out.new }
     {
-        if self.bad() {
-            return Answered {
-                manager: self,
-                answer: Err(Refusal::BadManager),
-            };
-        }
-        let inner = self.inner;
-        let room = out.len();
+        let Ok(state) = self.judge() else {
+            return self.refused(Refusal::BadManager);
+        };
         let mut lines = commit::typed::buffer();
-        let made = compaction::compact(inner, table, new, taken, room, &mut lines);
-        let verdict = made.verdict;
-        if let Err(refusal) = verdict {
-            return Answered {
-                manager: self,
-                answer: Err(refusal),
-            };
-        }
-        let n = made.length;
-        self.commit_lines(&lines[..n], out)
+        let made = compaction::compact(state, table, new, taken, out.len(), &mut lines);
+        self.append_made(made, &lines, out)
     }
 }

@@ -7,10 +7,10 @@ use borrow.Author.Tests.{eq-eqb, ne_eqb}
 use lib.Dec.{eqb}
 use lib.ListN.{length}
 use Rattle.lists.specs.Keyed.{keep}
-use Rattle.columns.specs.Rows.{rows, column}
-use Rattle.snapshot.specs.Entries.{gone_at}
+use Rattle.lists.proofs.Keyed.{length-arranged}
+use Rattle.snapshot.specs.Entries.{gone_by, by_deletion}
+use Rattle.snapshot.specs.Views.{rowsets_of}
 use Rattle.std.specs.Prelude.{Ok}
-use Rattle.vacuum.proofs.Laws.{counted-list}
 use Rattle.pinning.specs.Says.{current, unpin_verdict}
 use Rattle.pinning.proofs.Says.{two-passed, unpin-early, unpin-24, unpin-passes, unpinnable, unpin-refuses, unpin-accepts}
 use Rattle.pinning.proofs.Laws.{unpinned-good}
@@ -56,7 +56,7 @@ bound-bound-requires c =
 
 pub returns : goal.returns
 returns c =
-    let i = c.args.manager.inner in
+    let l = rowsets_of c.args.manager.inner.rowsets in
     let due = rw c.pins_at-pins.ensures at (is-due _ c.args.epoch (current c.args.manager) c.if-left-ne0.false c.if-epoch-current.false) in
-    let ready = c.counted-ready.ensures ∙ ap (λ (n : ℕ). length (keep (gone_at n) (rows (column i.rowsets.deleted) i.rowsets.count))) c.bound-bound.ensures ∙ counted-list _ i in
+    let ready = c.counted-ready.ensures ∙ ap (λ (n : ℕ). length (keep (gone_by n) l)) c.bound-bound.ensures ∙ sym (length-arranged by_deletion (keep (gone_by _) l)) in
     unpin-accepts c.args.manager c.args.book.now c.args.epoch _ _ (accepted (goal.at.returns c).Else-pins-eq0) due ready (rw c.pins_at-pins.ensures at c.recount.ensures)

@@ -1,63 +1,28 @@
 -- `version_manager::VersionManager::drop` meets its contract.
-use mathlib.Core.Path.{refl, sym, ◌∙◌}
+use mathlib.Core.Path.{subst}
 use native.Mathlib.Omega.{arith}
-use lib.ListN.{length, length-take}
-use Rattle.lists.proofs.Places.{known}
-use Rattle.version_manager.proofs.Managers.{inner-passes}
-use Rattle.table.specs.Drop.{dropped_by}
-use Rattle.version_state.specs.Widths.{Narrow}
+use lib.ListN.{length}
+use Rattle.ids.specs.Verdicts.{judged}
+use Rattle.table.specs.Drop.{dropped_by, drop_rules}
+use Rattle.table.specs.Says.{MadeIs}
 use Rattle.table.proofs.Laws.{made-laws}
+use Rattle.version_state.specs.declared.VersionManagerInner.{VersionManagerInner}
+use Rattle.version_state.specs.State.{state_of}
+use Rattle.version_state.specs.Widths.{Narrow}
 use Rattle.version_manager.specs.Managers.{held_by}
-use Rattle.version_manager.proofs.Made.{made-within, made_ends, made-refused, made-accepted}
+use Rattle.version_manager.proofs.Made.{made-room, made-says}
 use Rattle.version_manager.proofs.VersionManager.drop.Goals as goal
 
-pub bad-requires : goal.bad-requires
-bad-requires c = search known
-
-pub returns-then-bad : goal.returns-then-bad
-returns-then-bad c = let b = sym c.bad.ensures ∙ c.if-bad.true in rw b (record { answer = refl; manager = refl; bytes = refl })
-
-pub buffer-lines-requires : goal.buffer-lines-requires
-buffer-lines-requires c = search known
-
-pub slice_bounds-drop-end : goal.slice_bounds-drop-end
-slice_bounds-drop-end c = sym c.buffer-lines.ensures
-
 pub drop-made-requires : goal.drop-made-requires
-drop-made-requires c = (inner-passes c.args.self (sym c.bad.ensures ∙ c.if-bad.false), omega (arith, c.buffer-lines.ensures))
+drop-made-requires c = omega (arith, c.buffer-lines.ensures)
 
-pub enum_known-verdict : goal.enum_known-verdict
-enum_known-verdict c = search known
-
-pub returns-in-Err : goal.returns-in-Err
-returns-in-Err c =
-    let b = sym c.bad.ensures ∙ c.if-bad.false in
-    rw b (made-refused _ _ _ _ _ _ _ _ _ (sym c.drop-made.ensures.verdict ∙ c.in-Err.is) refl refl refl)
-
-pub enum_told-1 : goal.enum_told-1
-enum_told-1 c = search known
-
-pub slice_bounds-lines-end : goal.slice_bounds-lines-end
-slice_bounds-lines-end c =
-    let a = c.args in
-    made-within (dropped_by (held_by c.args.self) c.args.table.0) _ _ _ (c.drop-made.ensures.written c.in_default.is)
-
-pub slice_bounds-commit_lines-end : goal.slice_bounds-commit_lines-end
-slice_bounds-commit_lines-end c =
-    let a = c.args in
-    rw length-take (omega (arith, made-within (dropped_by (held_by c.args.self) c.args.table.0) _ _ _ (c.drop-made.ensures.written c.in_default.is)))
-
-pub commit_lines-requires : goal.commit_lines-requires
-commit_lines-requires c = search known
-
-pub shape_of-out : goal.shape_of-out
-shape_of-out c = search known
+pub append_made-requires-clause-within : goal.append_made-requires-clause-within
+append_made-requires-clause-within c = made-room _ _ _ _ _ c.drop-made.ensures
 
 pub returns : goal.returns
 returns c =
-    let a = c.args in
-    let b = sym c.bad.ensures ∙ c.if-bad.false in
-    let v = sym c.drop-made.ensures.verdict ∙ c.in_default.is in
+    let j = rw c.in-Ok.is at c.judge.ensures in
+    let b = j.0 in
     let wide : Narrow (held_by c.args.self) = record { table = omega (arith, c.well_formed.0.1.1.0.1.1.1.0); rowset = omega (arith, c.well_formed.0.1.1.0.1.1.1.0); vector = omega (arith, c.well_formed.0.1.1.0.1.1.1.0) } in
-    let done = made_ends (dropped_by (held_by c.args.self) c.args.table.0) _ _ _ (c.drop-made.ensures.written c.in_default.is) c.args.self c.args.out.now _ _ b (made-laws.drop c.args.self.inner c.args.table.0 (length c.args.out.now) (inner-passes c.args.self b) wide v) c.commit_lines.ensures in
-    rw b (made-accepted _ (dropped_by (held_by c.args.self) c.args.table.0) _ c.args.self c.args.out.now _ _ c.commit_lines.result v done.0 done)
+    let made = subst (λ (i : VersionManagerInner). MadeIs (judged (drop_rules (state_of i) c.args.table.0 (length c.args.out.now))) (dropped_by (state_of i) c.args.table.0) c.buffer-lines.result c.drop-made.result c.drop-made.new.lines) j.2 c.drop-made.ensures in
+    rw b (made-says (dropped_by (held_by c.args.self) c.args.table.0) _ _ c.args.self _ _ _ b _ _ made (made-laws.drop c.args.self.inner c.args.table.0 (length c.args.out.now) j.1 wide) c.append_made.ensures)

@@ -1,42 +1,29 @@
 -- `version_manager::VersionManager::vacuum` meets its contract.
-use mathlib.Core.Path.{refl, sym, ◌∙◌}
-use Rattle.lists.proofs.Places.{known}
+use mathlib.Core.Path.{refl, sym, ap, ◌∙◌}
+use lib.ListN.{length}
+use Rattle.ids.specs.Verdicts.{judged}
+use Rattle.vacuum.specs.LetGo.{vacuumed}
+use Rattle.vacuum.specs.Says.{bound_of, list_of, vacuum_rules}
+use Rattle.version_manager.specs.Managers.{held_by}
+use Rattle.version_manager.specs.Vacuum.{vacuum_told}
 use Rattle.version_manager.proofs.Managers.{inner-passes}
-use Rattle.version_manager.proofs.Calls.{vacuum-no, vacuum-yes}
+use Rattle.version_manager.proofs.Calls.{settled-says, told-number}
 use Rattle.version_manager.proofs.VersionManager.vacuum.Goals as goal
 
-pub bad-requires : goal.bad-requires
-bad-requires c = search known
-
-pub returns-then-bad : goal.returns-then-bad
-returns-then-bad c = let b = sym c.bad.ensures ∙ c.if-bad.true in record { answer = rw b; tables = rw b; rowsets = rw b; manager = rw b refl }
-
-pub vacuum-done-requires : goal.vacuum-done-requires
-vacuum-done-requires c = inner-passes c.args.self (sym c.bad.ensures ∙ c.if-bad.false)
-
-pub enum_known-verdict : goal.enum_known-verdict
-enum_known-verdict c = search known
-
-pub shape_of-tables-in-Err : goal.shape_of-tables-in-Err
-shape_of-tables-in-Err c = search known
-
-pub shape_of-rowsets-in-Err : goal.shape_of-rowsets-in-Err
-shape_of-rowsets-in-Err c = search known
-
-pub returns-in-Err : goal.returns-in-Err
-returns-in-Err c = vacuum-no c.args.self _ _ _ _ _ _ (sym c.bad.ensures ∙ c.if-bad.false) c.vacuum-done.ensures _ _ c.in-Err.is refl refl
-
-pub enum_told-1 : goal.enum_told-1
-enum_told-1 c = search known
-
-pub handed-manager-requires : goal.handed-manager-requires
-handed-manager-requires c = search known
-
-pub shape_of-tables : goal.shape_of-tables
-shape_of-tables c = search known
-
-pub shape_of-rowsets : goal.shape_of-rowsets
-shape_of-rowsets c = search known
+pub vacuum-answer-requires : goal.vacuum-answer-requires
+vacuum-answer-requires c = inner-passes c.args.self (sym c.bad.ensures ∙ c.if-bad.false)
 
 pub returns : goal.returns
-returns c = vacuum-yes c.args.self _ _ _ _ _ _ (sym c.bad.ensures ∙ c.if-bad.false) c.vacuum-done.ensures _ c.in_default.is c.handed-manager.ensures refl
+returns c =
+    let s = held_by c.args.self in
+    let b = c.args.book in
+    let v = judged (vacuum_rules s b (length c.args.tables.now) (length c.args.rowsets.now)) in
+    let i = c.vacuum-answer.ensures in
+    let w = settled-says c.args.self v (length (list_of s b)) (vacuumed (bound_of s b) s) _ _ c.settled.result i.answer i.inner c.settled.ensures in
+    let g = sym c.bad.ensures ∙ c.if-bad.false in
+    record {
+      answer = rw g (ap vacuum_told w.0 ∙ told-number vacuum_told (λ n. refl) (λ k. refl) v _);
+      tables = rw g i.tables;
+      rowsets = rw g i.rowsets;
+      manager = rw g w.1;
+    }
