@@ -49,6 +49,7 @@ use Rattle.plain_record.proofs.CommitShows.{later-pairs, later-vectors, shows-on
 use Rattle.plain_record.proofs.CommitState.{commit-epoch, commit-sets, commit-waits, commit-next}
 use Rattle.plain_record.proofs.Stands.{inv-stays}
 use Rattle.plain_record.proofs.CommitFile.{append-taken, filed_after, filed-cut, torn-after}
+use Rattle.compaction.proofs.Whole.{few-new}
 
 -- what the manager shows from now on is the record's last sets
 pub now-at : (w : World) (r : Record) → Inv w r → (d : ℕ) → w.manager.inner.epoch ≤ d → plain_at d (held_by w.manager) ≡ r.whole.now
@@ -226,10 +227,6 @@ module _ (w : World) (t : Told) (l : List (List ℕ)) (v : World) (n : ℕ) (out
       (ap (value 1) q, ap (λ (z : Sets). drop_operations n z.pairs z.vectors) (sym (now-at w r i w.manager.inner.epoch (omega arith))), made-laws.drop w.manager.inner n (length out) (passes w r i) d.narrow (rw i.sound at a))))
 
 -- A compaction.
-pub few-new : (n : NewRowset) → length (new_of n) ≤ 1
-few-new None = omega arith
-few-new (Some r) = omega arith
-
 module _ (w : World) (t : Told) (l : List (List ℕ)) (v : World) (n : ℕ) (o : NewRowset) (taken out : List ℕ) (missing : ℕ) (r : Record) (i : Inv w r) where
   pub compact-keeps : DidCompact port w t l v n o taken out missing → Inv v (turn (as_commit (λ id s. compact_operations n (new_of o) taken s.vectors) missing) (is_accepted t) (value 0 t) r)
   compact-keeps d =

@@ -1,6 +1,6 @@
 -- Which vacuum lists a deletion: while it waits, the first that meets no pin before its epoch, and afterwards none. Assumes nothing.
 use mathlib.Core.Path.{◌≡◌, refl, sym, ap, ◌∙◌}
-use mathlib.Core.Bool.{Bool, true, false, cond, not, ◌&&◌, ◌||◌}
+use mathlib.Core.Bool.{Bool, true, false, cond, not, ◌&&◌, ◌||◌, or-true, and_assoc}
 use mathlib.Core.List.{List, [], ◌∷◌}
 use mathlib.Core.Logic.{◌⊎◌, inl, inr, ⊎_elim}
 use Prim.Native.Nat.{ℕ, ◌+◌, ◌<◌, ◌≤◌}
@@ -9,7 +9,7 @@ use lib.Dec.{eqb}
 use borrow.Author.Tests.{eq-eqb, ne_eqb, eqb-true, not-true}
 use Rattle.lists.specs.Order.{same}
 use Rattle.lists.specs.Keyed.{keep, any_of, placed}
-use Rattle.lists.proofs.Tests.{by_cases, clash, both, join, neither}
+use Rattle.lists.proofs.Tests.{by_cases, clash, both, join, neither, or_across}
 use Rattle.lists.proofs.Order.{same_refl, same_true}
 use Rattle.lists.proofs.Keyed.{All, all_map, all_append, all_placed, all_keep, any_of-placed, none-any_of}
 use Rattle.manifest.specs.Operations.{Operation}
@@ -56,17 +56,12 @@ all-await : (P : Waiting → Type 0) (ws l : List Waiting) → All P ws → All 
 all-await P [] l p q = q
 all-await P (w ∷ ws) l p q = all-await P ws (placed by_epoch_and_pair w l) p.1 (all_placed by_epoch_and_pair P w l p.0 q)
 
-or-move : (a b c : Bool) → b || (a || c) ≡ (a || b) || c
-or-move true true c = refl
-or-move true false c = refl
-or-move false b c = refl
-
 any_of-await : (p : Waiting → Bool) (ws l : List Waiting) → any_of p (await ws l) ≡ any_of p ws || any_of p l
 any_of-await p [] l = refl
 any_of-await p (w ∷ ws) l =
     any_of-await p ws (placed by_epoch_and_pair w l)
     ∙ ap (λ (b : Bool). any_of p ws || b) (any_of-placed by_epoch_and_pair p w l)
-    ∙ or-move (p w) (any_of p ws) (any_of p l)
+    ∙ or_across (p w) (any_of p ws) (any_of p l)
 
 -- the deletions of a commit have its place and the epoch that it makes
 abbrev Of : ℕ → ℕ → Waiting → Type 0
@@ -333,15 +328,11 @@ module _ (d : Waiting) where
       neither-way false true = refl
       neither-way false false = refl
 
-  and-move : (x y z : Bool) → x && (y && z) ≡ (x && y) && z
-  and-move true y z = refl
-  and-move false y z = refl
-
   -- an event lists it if it waits and the event frees it, in the record and by its own list
   module _ (r : Record) (e : Event) (t : Tagged d r) (s : Seen r e) where
     frees-and : vacuums e && (not (blocked (guards_in r.whole) d.epoch) && waits_in d r) ≡ frees d e && waits_in d r
     frees-and =
-        and-move (vacuums e) (not (blocked (guards_in r.whole) d.epoch)) (waits_in d r)
+        sym (and_assoc (vacuums e) (not (blocked (guards_in r.whole) d.epoch)) (waits_in d r))
         ∙ ap (λ (g : Guards). (vacuums e && not (blocked g d.epoch)) && waits_in d r) (sym s.guards)
 
     removes-is : removes d r e ≡ frees d e && waits_in d r
@@ -440,10 +431,6 @@ is-itself d = rw (eq-eqb d.commit d.commit refl, eq-eqb d.operation d.operation 
 all_there : (ws : List Waiting) → All (λ d. any_of (is_it d) ws ≡ true) ws
 all_there [] = tt
 all_there (w ∷ ws) = (rw (is-itself w), all_map ws (λ d h. rw h (or-true (is_it d w))) (all_there ws))
-  where
-    or-true : (b : Bool) → b || true ≡ true
-    or-true true = refl
-    or-true false = refl
 
 all_both : (P Q : Waiting → Type 0) (l : List Waiting) → All P l → All Q l → All (λ d. P d × Q d) l
 all_both P Q [] p q = tt

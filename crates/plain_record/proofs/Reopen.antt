@@ -12,7 +12,7 @@ use Rattle.std.specs.Prelude.{Ok}
 use Rattle.lists.specs.Keyed.{arranged}
 use Rattle.lists.specs.Written.{over}
 use Rattle.lists.proofs.Tests.{by_cases}
-use Rattle.lists.proofs.Keyed.{All}
+use Rattle.lists.proofs.Keyed.{All, all_both}
 use Rattle.ids.specs.Answers.{Told, told}
 use Rattle.snapshot.specs.Entries.{Entry, by_deletion}
 use Rattle.version_state.specs.State.{State, state_of, with_epoch, pairs_at, vectors_at}
@@ -38,7 +38,7 @@ use Rattle.plain_record.proofs.Invariant.{plain_table, Torn, Inv}
 use Rattle.plain_record.proofs.CommitIds.{Rise, next-rise}
 use Rattle.plain_record.proofs.CommitFile.{append-taken}
 use Rattle.plain_record.proofs.Stands.{inv-stays}
-use Rattle.plain_record.proofs.Standing.{Standing, all_shown, none-waits, all_both}
+use Rattle.plain_record.proofs.Standing.{Standing, all_shown, none-waits}
 
 -- an empty book passes 28
 pub empty-book : (e : ℕ) (b : PinBook) → Keeps b [] → bad_book e b ≡ false

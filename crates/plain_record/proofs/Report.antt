@@ -1,6 +1,6 @@
 -- A report keeps what holds between calls: it hands back the state before the last commit. It is refused by 31 alone. Assumes nothing.
 use mathlib.Core.Path.{◌≡◌, refl, sym, ap, subst, ◌∙◌}
-use mathlib.Core.Bool.{Bool, true, false, cond, not, ◌&&◌, ◌||◌}
+use mathlib.Core.Bool.{Bool, true, false, cond, not, ◌&&◌, ◌||◌, and-false}
 use mathlib.Core.List.{List, [], ◌∷◌, ◌++◌}
 use Prim.Native.Nat.{ℕ, ◌+◌}
 use native.Mathlib.Omega.{arith}
@@ -74,10 +74,6 @@ stands-reported m b a p (former q) n k book pins few free =
 may-is : (m : VersionManager) (b : PinBook) (a : Append) (p : Plain) (f : Former) (n : ℕ) → Recalled m b a p f
     → ltb n (length a.bytes) && (is_former f && not (pinned (epoch_of p) p.pinned)) ≡ not (leb m.append n || pinned (epoch_of p) p.pinned)
 may-is m b a p gone n k = rw (le-leb m.append n (omega (arith, k))) (and-false (ltb n (length a.bytes)))
-  where
-    and-false : (x : Bool) → x && false ≡ false
-    and-false true = refl
-    and-false false = refl
 may-is m b a p (former q) n k =
     by_cases (leb m.append n)
     (λ t. rw (t, k.long, le-ltb n m.append (leb-true m.append n t)))

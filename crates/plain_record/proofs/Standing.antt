@@ -32,8 +32,3 @@ none-waits (x ∷ l) a =
     by_cases (waits x)
     (λ t. clash a.0.stands (rw t))
     (λ t. rw t (none-waits l a.1))
-
--- two facts of all
-pub all_both : {P Q R : Entry → Type 0} (l : List Entry) → ((x : Entry) → P x → Q x → R x) → All P l → All Q l → All R l
-all_both [] f p q = tt
-all_both (x ∷ l) f p q = (f x p.0 q.0, all_both l f p.1 q.1)

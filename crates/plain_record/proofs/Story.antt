@@ -9,7 +9,7 @@ use lib.ListN.{length}
 use borrow.Author.Tests.{eq-eqb}
 use Rattle.lists.specs.Order.{same}
 use Rattle.lists.specs.Keyed.{keep, all_of, any_of}
-use Rattle.lists.proofs.Tests.{by_cases, clash, both}
+use Rattle.lists.proofs.Tests.{by_cases, clash, both, not_or}
 use Rattle.lists.proofs.Keyed.{all_any, keep-keep, keep_same, keep_all}
 use Rattle.manifest.specs.Operations.{Operation, add_rowset, delete_rowset}
 use Rattle.std.specs.Prelude.{Some, None}
@@ -58,16 +58,12 @@ pairs-stay : (ks : List (List ℕ)) (s : Sets) → (apply_all (map delete_vector
 pairs-stay [] s = refl
 pairs-stay (k ∷ ks) s = pairs-stay ks _
 
-not-or : (a b : Bool) → not a && not b ≡ not (a || b)
-not-or true b = refl
-not-or false b = refl
-
 pairs-taken : (t : ℕ) (rs : List ℕ) (s : Sets) → (apply_all (map (delete_rowset t) rs) s).pairs ≡ keep (λ k. not (any_of (same k) (pairs_with t rs))) s.pairs
 pairs-taken t [] s = sym (keep_all (λ k. true) s.pairs (all_any s.pairs (λ k. refl)))
 pairs-taken t (r ∷ rs) s =
     pairs-taken t rs _
     ∙ keep-keep (λ k. not (any_of (same k) (pairs_with t rs))) (λ k. not (same k (t ∷ r ∷ []))) s.pairs
-    ∙ keep_same _ (λ k. not (any_of (same k) (pairs_with t (r ∷ rs)))) s.pairs (all_any s.pairs (λ k. not-or (same k (t ∷ r ∷ [])) (any_of (same k) (pairs_with t rs))))
+    ∙ keep_same _ (λ k. not (any_of (same k) (pairs_with t (r ∷ rs)))) s.pairs (all_any s.pairs (λ k. not_or (same k (t ∷ r ∷ [])) (any_of (same k) (pairs_with t rs))))
 
 pairs-merged : (t : ℕ) (n : NewRowset) (rs : List ℕ) (s : Sets) → (apply_all (compact_operations t (new_of n) rs s.vectors) s).pairs ≡ merged t (new_of n) rs s.pairs
 pairs-merged t n rs s =

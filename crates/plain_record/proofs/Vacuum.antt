@@ -72,10 +72,6 @@ module _ (g : Guards) where
   unfolding gone_at
   gone-free x h = rw (free-is g x.deleted h)
 
-  not-not : (b : Bool) → not (not b) ≡ b
-  not-not true = refl
-  not-not false = refl
-
   stays-held : (x : Entry) → x.deleted ≤ g.current → stays_by (bound g) x && waits x ≡ waits x && held g (by_deletion x)
   stays-held x h =
       rw (gone-free x h) (by_cases (waits x)

@@ -1,5 +1,5 @@
-// The claim's `port` names propositions. Each call here has one of them as its contract, so that an entry point that says less, or a
-// field that says something else, is refused by the check.
+// The calls of the claim, with the parameters of the C interface. Each has one proposition of `port` as its contract, so that an entry point that
+// says less, or a field that says something else, is refused by the check.
 ghost use Rattle.std.specs.Prelude.{length};
 ghost use Rattle.ids.specs.Names.{name_of};
 ghost use Rattle.manifest.specs.Operations.{batch_of};

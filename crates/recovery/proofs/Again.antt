@@ -9,7 +9,7 @@ use lib.ListN.{length, take, length-append, length-map}
 use borrow.Author.Tests.{le-ltb}
 use Rattle.std.specs.Prelude.{Ok}
 use Rattle.lists.specs.Keyed.{keep, all_of, is_at, has}
-use Rattle.lists.proofs.Keyed.{All, all_map, all_any, all-mapped, all_of-all, any_of-map, keep_all}
+use Rattle.lists.proofs.Keyed.{All, all_map, all_any, all-mapped, all_of-all, any_of-map, keep_all, all_both}
 use Rattle.columns.specs.Rows.{plain}
 use Rattle.manifest.specs.Operations.{Operation, Line, well_formed}
 use Rattle.manifest.specs.Split.{lines}
@@ -26,13 +26,14 @@ use Rattle.version_state.specs.Sound.{has_table, has_rowset, bad_inner}
 use Rattle.rewrite.specs.Rewritten.{create_of, add_of, add_vector_of, rewrite_of, written_of, rewritten_of, longest_rewritten}
 use Rattle.rewrite.proofs.Room.{rewritten-fits}
 use Rattle.replay.specs.Replay.{none, carried, reopened, at_start, stands, settled, over_limit, lines_read, tableless, without_orphans, replay_of}
+use Rattle.replay.proofs.Turns.{said_read, said-read}
 use Rattle.recovery.specs.Rewritable.{Rewritable, made_of, names_differ}
 use Rattle.recovery.specs.Holds.{Holds}
 use Rattle.recovery.proofs.Framed.{frame-lines}
-use Rattle.recovery.proofs.Reading.{said_read, said-read, whole_append}
+use Rattle.recovery.proofs.Reading.{whole_append}
 use Rattle.recovery.proofs.Owned.{all_of-map}
 use Rattle.recovery.proofs.SoundReading.{Whole, whole-held, whole-replayed}
-use Rattle.recovery.proofs.SoundSets.{all-with, Passes, passes-rewritable, differ-unlocked, manager-passes}
+use Rattle.recovery.proofs.SoundSets.{Passes, passes-rewritable, differ-unlocked, manager-passes}
 use Rattle.recovery.proofs.Sound.{standing, pairs-shown, vectors-shown, whole-passes}
 use Rattle.recovery.proofs.AgainBuilt.{Leads, rewrite-leads}
 use Rattle.operations.specs.Effect.{applied_all}
@@ -161,13 +162,13 @@ module _ (s : State) (w : Whole s) where
   pairs-again =
       ap (λ (l : List Entry). map (added_at reopened) (map by_ids l)) (pairs-shown s w)
       ∙ map-map (added_at reopened) by_ids s.pairs
-      ∙ map_same _ s.pairs (all-with s.pairs (λ x a h. entry-same x a.added (standing x h)) w.rests.kept.pairs w.rests.pairs)
+      ∙ map_same _ s.pairs (all_both s.pairs (λ x a h. entry-same x a.added (standing x h)) w.rests.kept.pairs w.rests.pairs)
 
   vectors-again : map (added_at reopened) (shown s.epoch s.vectors) ≡ s.vectors
   vectors-again =
       ap (λ (l : List Entry). map (added_at reopened) (map by_ids l)) (vectors-shown s w)
       ∙ map-map (added_at reopened) by_ids s.vectors
-      ∙ map_same _ s.vectors (all-with s.vectors (λ x a h. entry-same x a.added (standing x h)) w.rests.kept.vectors w.rests.vectors)
+      ∙ map_same _ s.vectors (all_both s.vectors (λ x a h. entry-same x a.added (standing x h)) w.rests.kept.vectors w.rests.vectors)
 
   made_again : made_of (next_of s) (sets_of s) ≡ s
   made_again =

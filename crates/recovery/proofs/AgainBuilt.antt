@@ -11,7 +11,7 @@ use Rattle.lists.specs.Order.{less, same}
 use Rattle.lists.specs.Keyed.{has, put}
 use Rattle.lists.proofs.Tests.{by_cases, clash, both}
 use Rattle.lists.proofs.Order.{less-same, same-sym}
-use Rattle.lists.proofs.Keyed.{All, all_map, all_any, all_append, all-mapped, all_of-all, any_of-none, none-any_of, put_last, Ascending, ascend-to}
+use Rattle.lists.proofs.Keyed.{All, all_map, all_any, all_append, all-mapped, all_of-all, any_of-none, none-any_of, put_last, Ascending, ascend-to, all_both}
 use Rattle.lists.proofs.Views.{map-append}
 use Rattle.columns.specs.Rows.{plain}
 use Rattle.manifest.specs.Operations.{Operation, next_ids}
@@ -26,7 +26,7 @@ use Rattle.replay.specs.Replay.{reopened, conflicts}
 use Rattle.recovery.specs.Rewritable.{Rewritable, made_of, names_differ, ids_below}
 use Rattle.recovery.proofs.Reading.{conflict_free}
 use Rattle.recovery.proofs.SoundState.{Pairwise, Other, two, three}
-use Rattle.recovery.proofs.SoundSets.{all-with, ids-two, ids-three}
+use Rattle.recovery.proofs.SoundSets.{ids-two, ids-three}
 
 -- operations that nowhere conflict lead from s to t
 abbrev pub Leads : List Operation → State → State → Type 0
@@ -45,7 +45,7 @@ module _ {A : Type 0} (f : A → Operation) (at : List A → State) (R : A → A
   leads-on [] done a p q = (refl, ap at (sym (append-nil done)))
   leads-on (x ∷ l) done a p q =
       let e = step done x a.0 q.0 in
-      let b : All (λ z. All (λ y. R y z) (done ++ (x ∷ []))) l = all-with l (λ z h r. all_append (λ y. R y z) done (x ∷ []) h (r, tt)) a.1 p.0 in
+      let b : All (λ z. All (λ y. R y z) (done ++ (x ∷ []))) l = all_both l (λ z h r. all_append (λ y. R y z) done (x ∷ []) h (r, tt)) a.1 p.0 in
       let r = leads-on l (done ++ (x ∷ [])) b p.1 q.1 in
       let g : at ((done ++ (x ∷ [])) ++ l) ≡ at (done ++ (x ∷ l)) = ap at (append_assoc done (x ∷ []) l) in
       (rw (e.0, e.1) r.0, ap (applied_all reopened (map f l)) e.1 ∙ r.1 ∙ g)
@@ -59,7 +59,7 @@ ascending-pairs key (x ∷ l) h = (h.0, ascending-pairs key l h.1)
 
 pairwise-both : {A : Type 0} (R S : A → A → Type 0) (l : List A) → Pairwise R l → Pairwise S l → Pairwise (λ x y. R x y × S x y) l
 pairwise-both R S [] p q = tt
-pairwise-both R S (x ∷ l) p q = (all-with l (λ y a b. (a, b)) p.0 q.0, pairwise-both R S l p.1 q.1)
+pairwise-both R S (x ∷ l) p q = (all_both l (λ y a b. (a, b)) p.0 q.0, pairwise-both R S l p.1 q.1)
 
 names-other : (l : List TableEntry) → names_differ l ≡ true → Pairwise Other l
 names-other [] h = tt

@@ -26,10 +26,11 @@ use Rattle.commit.specs.Commit.{append_of, commit_of}
 use Rattle.commit.proofs.Sounds.{Accepts, accepts}
 use Rattle.rewrite.specs.Rewritten.{written_of}
 use Rattle.replay.specs.Replay.{none, Carried, carried, reopened, at_start, lines_read, finished, lines_replayed, replay_of}
+use Rattle.replay.proofs.Turns.{said_read}
 use Rattle.recovery.specs.Rewritable.{Rewritable, made_of}
 use Rattle.recovery.specs.Holds.{Holds, followed, Appended, first, rewritten, checkpointed, committed, short, other}
 use Rattle.recovery.specs.Laws.{Replaces}
-use Rattle.recovery.proofs.Reading.{said_read, whole_append}
+use Rattle.recovery.proofs.Reading.{whole_append}
 use Rattle.recovery.proofs.Framed.{frame-lines}
 use Rattle.recovery.proofs.Short.{read-over, marked-read, cut-read}
 use Rattle.recovery.proofs.Replays.{holds_read, sets-settled}

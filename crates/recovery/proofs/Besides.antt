@@ -4,27 +4,25 @@ use mathlib.Core.Bool.{true, false}
 use mathlib.Core.List.{List, [], ◌∷◌, map}
 use Prim.Native.Nat.{ℕ, ◌+◌, ◌≤◌}
 use native.Mathlib.Omega.{arith}
-use lib.ListN.{length}
-use borrow.Author.Tests.{le-leb, ltb-true, ne_eqb, not-false}
+use borrow.Author.Tests.{ltb-true, ne_eqb, not-false}
 use Rattle.std.specs.Prelude.{Result, Ok, Err}
 use Rattle.lists.specs.Order.{same}
 use Rattle.lists.specs.Keyed.{all_of, has, is_at}
 use Rattle.lists.proofs.Tests.{join}
-use Rattle.lists.proofs.Keyed.{All, all_map, all_of-all, none-any_of, any_of-map, keep_same}
-use Rattle.columns.specs.Rows.{rows}
-use Rattle.columns.proofs.Rows.{rows-length}
+use Rattle.lists.proofs.Keyed.{All, all_map, all_of-all, none-any_of, any_of-map}
+use Rattle.columns.proofs.Rows.{few-rows}
 use Rattle.ids.specs.declared.refusal.Refusal.{Refusal}
 use Rattle.ids.specs.Verdicts.{judged}
 use Rattle.ids.specs.Results.{and_then}
 use Rattle.ids.proofs.Verdicts.{none-judged}
 use Rattle.manifest.specs.Operations.{Operation, well_formed}
 use Rattle.manifest.specs.Edits.{Edit, leaves, adds, deletes, Table, edits_of}
-use Rattle.snapshot.specs.Entries.{Entry, gone_at, shown_at, shown_by, shown, by_ids}
+use Rattle.snapshot.specs.Entries.{Entry, shown, by_ids}
 use Rattle.snapshot.specs.Tables.{TableEntry, by_table, name_taken}
 use Rattle.version_state.specs.declared.VersionManagerInner.{VersionManagerInner}
 use Rattle.version_state.specs.State.{State, state_of, pairs_at, vectors_at}
 use Rattle.version_state.specs.Sets.{Sets, sets, unlocked, sets_of}
-use Rattle.version_state.proofs.Within.{Within, within_of}
+use Rattle.version_state.proofs.Within.{Within, within_of, shown-next}
 use Rattle.version_state.proofs.Facts.{Ordered, Sound}
 use Rattle.operations.specs.Effect.{applied, applied_all}
 use Rattle.operations.specs.Judge.{op_rules}
@@ -113,13 +111,8 @@ beside-steps e i (o ∷ os) t w v p b h = go (step_of i e o t) refl h (λ u c. b
     go (Err r) a h ih = absurd (halt h)
 
 -- Before the first of them: an epoch that nothing reaches shows what the one before it shows.
-next-shown : (e : ℕ) (ns : List ℕ) (x : Entry) → Within e ns x → shown_by (e + 1) x ≡ shown_by e x
-unfolding shown_at gone_at
-next-shown e ns x w =
-    rw (le-leb x.added (e + 1) (omega (arith, w.added)), le-leb x.added e w.added, le-leb x.deleted (e + 1) (omega (arith, w.deleted)), le-leb x.deleted e w.deleted)
-
 next-shows : (e : ℕ) (ns : List ℕ) (l : List Entry) → All (Within e ns) l → shown (e + 1) l ≡ shown e l
-next-shows e ns l a = ap (map by_ids) (keep_same (shown_by (e + 1)) (shown_by e) l (all_map l (next-shown e ns) a))
+next-shows e ns l a = ap (map by_ids) (shown-next e ns l a)
 
 next-sets : (m : VersionManagerInner) → Sound m → sets_at (m.epoch + 1) (state_of m) ≡ sets_of (state_of m)
 next-sets m s =
@@ -128,9 +121,6 @@ next-sets m s =
     let v = all_map t.vectors (within_of m.epoch _) (all_of-all _ t.vectors s.vectors) in
     ap (λ (l : List (List ℕ)). sets (map unlocked t.tables) l (vectors_at (m.epoch + 1) t)) (next-shows m.epoch _ t.pairs p)
     ∙ ap (λ (l : List (List ℕ)). sets (map unlocked t.tables) (pairs_at m.epoch t) l) (next-shows m.epoch _ t.vectors v)
-
-few-rows : {A : Type 0} (f : ℕ → A) (n k : ℕ) → n ≤ k → length (rows f n) ≤ k
-few-rows f n k h = omega (arith, rows-length f n, h)
 
 pub few-start : (m : VersionManagerInner) → Sound m → Short (state_of m)
 few-start m s =

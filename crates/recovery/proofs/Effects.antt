@@ -1,18 +1,16 @@
 -- What an operation does to sets, whatever the epochs, and that it does this at the epoch of a commit and of a replay alike. Assumes nothing.
 use mathlib.Core.Path.{◌≡◌, refl, sym, ap, ◌∙◌}
-use mathlib.Core.Bool.{Bool, true, false, not, ◌&&◌}
+use mathlib.Core.Bool.{true}
 use mathlib.Core.List.{List, map}
 use Prim.Native.Nat.{ℕ, ◌≤◌}
-use native.Mathlib.Omega.{arith}
-use lib.Dec.{leb, eqb}
-use borrow.Author.Tests.{le-leb, ne_eqb}
 use Rattle.lists.specs.Keyed.{keep, put, without, changed, ascending}
 use Rattle.lists.proofs.Keyed.{Ascending, ascend-to}
 use Rattle.lists.proofs.Kept.{keep-put, keep-changed}
 use Rattle.manifest.specs.Operations.{Operation}
 use Rattle.manifest.specs.Edits.{Edit, leaves, adds, deletes, Table, edits_of}
-use Rattle.snapshot.specs.Entries.{Entry, added_at, deleted_at, gone_at, shown_at, shown_by, shown, by_ids}
+use Rattle.snapshot.specs.Entries.{Entry, added_at, deleted_at, shown_by, shown, by_ids}
 use Rattle.snapshot.specs.Tables.{TableEntry, by_table}
+use Rattle.snapshot.proofs.Entries.{shows-new, hides-deleted}
 use Rattle.version_state.specs.State.{State, pairs_at, vectors_at}
 use Rattle.version_state.specs.Sets.{Sets, sets, unlocked}
 use Rattle.version_state.proofs.Facts.{Ordered}
@@ -30,18 +28,6 @@ itself k = k
 abbrev pub on_sets : Operation → Sets → Sets
 on_sets o z =
     sets (edited by_table as_entry (edits_of o).tables z.tables) (edited itself itself (edits_of o).pairs z.pairs) (edited itself itself (edits_of o).vectors z.vectors)
-
-shows-new : (e : ℕ) (k : List ℕ) → shown_by e (added_at e k) ≡ true
-unfolding shown_at gone_at
-shows-new e k = rw (le-leb e e (omega arith))
-
-hides-deleted : (e : ℕ) (x : Entry) → 1 ≤ e → shown_by e (deleted_at e x) ≡ false
-unfolding shown_at gone_at
-hides-deleted e x h = go (leb x.added e)
-  where
-    go : (b : Bool) → b && not (not (eqb e 0) && leb e e) ≡ false
-    go true = rw (ne_eqb e 0 (omega arith), le-leb e e (omega arith))
-    go false = refl
 
 shown-put : (e : ℕ) (k : List ℕ) (l : List Entry) → Ascending by_ids l → shown e (put by_ids (added_at e k) l) ≡ put itself k (shown e l)
 shown-put e k l a =

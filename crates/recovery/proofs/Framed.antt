@@ -11,7 +11,7 @@ use Rattle.manifest.specs.Operations.{Operation, Line, begin, end, operation, we
 use Rattle.manifest.specs.Lines.{line_of, text_of, line_text}
 use Rattle.manifest.specs.Split.{lines, joined}
 use Rattle.manifest.proofs.Split.{lines-joined, lines-torn}
-use Rattle.manifest.proofs.Lines.{all-one-line, read_back}
+use Rattle.manifest.proofs.Lines.{all-one-line, read_back, parse-all}
 use Rattle.frames.specs.Frames.{frame_of}
 
 -- what the lines of a frame say
@@ -40,9 +40,6 @@ map-take f zero l = refl
 map-take f (suc k) [] = refl
 map-take f (suc k) (x ∷ l) = ap (λ (m : List _). f x ∷ m) (map-take f k l)
 
-texts-back : (ls : List Line) → all_of well_line ls ≡ true → map line_of (map line_text ls) ≡ ls
-texts-back ls w = ap (map line_of) (sym (lines-joined (map line_text ls) (all-one-line ls w))) ∙ read_back ls w
-
 length-said : (os : List Operation) → length (map line_text (said os)) ≡ length os + 2
 length-said os =
     let a = length-map (said os) line_text in
@@ -64,5 +61,5 @@ torn-lines os k w h =
       ap (λ (s : List ℕ). map line_of (lines (take k s))) e
           ∙ ap (map line_of) r.2
           ∙ map-take line_of j ls
-          ∙ ap (take j) (texts-back (said os) (well-said os w)),
+          ∙ ap (take j) (parse-all (said os) (well-said os w)),
     )

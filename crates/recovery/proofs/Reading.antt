@@ -11,29 +11,18 @@ use Rattle.std.specs.Prelude.{Result, Ok, Err}
 use Rattle.ids.specs.Limits.{most_operations}
 use Rattle.ids.specs.declared.refusal.Refusal.{Refusal}
 use Rattle.ids.specs.Results.{and_then}
+use Rattle.ids.proofs.Results.{then_same}
 use Rattle.lists.proofs.Tests.{by_cases, clash}
 use Rattle.manifest.specs.Operations.{Operation, Line, begin, end, operation}
 use Rattle.manifest.specs.Lines.{line_of}
 use Rattle.version_state.specs.State.{State}
 use Rattle.operations.specs.Effect.{applied, applied_all}
 use Rattle.replay.specs.Replay.{Frame, none, opened, Carried, carried, reopened, conflicts, framed, settled, over_limit, line_read, lines_read}
-
--- what lines say, one after another
-abbrev pub said_read : List Line → Carried → Result Carried Refusal
-said_read [] c = Ok c
-said_read (l ∷ ls) c = and_then (line_read l c) (said_read ls)
-
-then_same : {A B : Type 0} (x : Result A Refusal) (f g : A → Result B Refusal) → ((a : A) → f a ≡ g a) → and_then x f ≡ and_then x g
-then_same (Err k) f g h = refl
-then_same (Ok a) f g h = h a
+use Rattle.replay.proofs.Turns.{said_read}
 
 then-then : {A B C : Type 0} (x : Result A Refusal) (f : A → Result B Refusal) (g : B → Result C Refusal) → and_then (and_then x f) g ≡ and_then x (λ a. and_then (f a) g)
 then-then (Err k) f g = refl
 then-then (Ok a) f g = refl
-
-pub said-read : (ls : List (List ℕ)) (c : Carried) → lines_read ls c ≡ said_read (map line_of ls) c
-said-read [] c = refl
-said-read (l ∷ ls) c = then_same (line_read (line_of l) c) (lines_read ls) (said_read (map line_of ls)) (said-read ls)
 
 -- (1) lines after lines
 pub said-append : (a b : List Line) (c : Carried) → said_read (a ++ b) c ≡ and_then (said_read a c) (said_read b)

@@ -23,8 +23,9 @@ use Rattle.version_state.specs.State.{State}
 use Rattle.operations.specs.Effect.{applied}
 use Rattle.commit.specs.Commit.{append_of}
 use Rattle.replay.specs.Replay.{Frame, none, opened, Carried, carried, reopened, at_start, conflicts, framed, settled, over_limit, limited, ended, noted, line_read, lines_read, finished, lines_replayed}
+use Rattle.replay.proofs.Turns.{said_read, said-read}
 use Rattle.recovery.specs.Laws.{Alike}
-use Rattle.recovery.proofs.Reading.{said_read, said-read, said-append, read-append, torn-append}
+use Rattle.recovery.proofs.Reading.{said-append, read-append, torn-append}
 use Rattle.recovery.proofs.Framed.{torn-lines}
 
 -- what the complete lines of the text say that follows `so`, the start of a line

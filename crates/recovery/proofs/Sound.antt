@@ -11,8 +11,8 @@ use Rattle.std.specs.Prelude.{Ok}
 use Rattle.lists.specs.Order.{same}
 use Rattle.lists.specs.Keyed.{keep, all_of, has}
 use Rattle.lists.proofs.Tests.{by_cases, clash, both}
-use Rattle.lists.proofs.Order.{same_true, same-sym}
-use Rattle.lists.proofs.Keyed.{All, all_map, all_of-all, all-all_of, none-any_of, keep_all, kept-all}
+use Rattle.lists.proofs.Order.{same-sym}
+use Rattle.lists.proofs.Keyed.{All, all_map, all_of-all, all-all_of, none-any_of, keep_all, kept-all, all_both}
 use Rattle.ids.specs.Ids.{largest32}
 use Rattle.text.specs.Name.{is_name}
 use Rattle.snapshot.specs.Entries.{Entry, by_ids, gone_at, shown_at, shown_by, below_next, within}
@@ -23,23 +23,16 @@ use Rattle.version_state.specs.State.{State, with_epoch, Hands}
 use Rattle.version_state.specs.Sound.{left_behind, bad_inner}
 use Rattle.version_state.proofs.Within.{of-within}
 use Rattle.version_state.proofs.Facts.{Ordered, of-sound}
+use Rattle.commit.proofs.Sounds.{has_all}
 use Rattle.replay.specs.Replay.{reopened, stands, replay_of}
 use Rattle.recovery.specs.Rewritable.{names_differ, ids_below}
 use Rattle.recovery.proofs.SoundState.{Pairwise, Other, Added, two, three}
 use Rattle.recovery.proofs.SoundReading.{Whole, whole-replayed}
-use Rattle.recovery.proofs.SoundSets.{all-with, Passes}
+use Rattle.recovery.proofs.SoundSets.{Passes}
 
 all_three : {A : Type 0} {P Q R S : A → Type 0} (l : List A) → ((x : A) → P x → Q x → R x → S x) → All P l → All Q l → All R l → All S l
 all_three [] f p q r = tt
 all_three (x ∷ l) f p q r = (f x p.0 q.0 r.0, all_three l f p.1 q.1 r.1)
-
--- what holds of every key of a list holds of a key that it has
-has_all : {A : Type 0} (key : A → List ℕ) (P : List ℕ → Type 0) (k : List ℕ) (l : List A) → All (λ x. P (key x)) l → has key k l ≡ true → P k
-has_all key P k [] a h = clash h refl
-has_all key P k (x ∷ l) a h =
-    by_cases (same (key x) k)
-    (λ e. subst P (same_true (key x) k e) a.0)
-    (λ e. has_all key P k l a.1 (rw e at h))
 
 others-differ : (l : List TableEntry) → Pairwise Other l → names_differ l ≡ true
 others-differ [] h = refl
@@ -54,7 +47,7 @@ unfolding shown_at gone_at
 now-shown x a d = rw (a, d)
 
 all_shown : (f : List ℕ → List ℕ) (i n : ℕ) (l : List Entry) → All (Added f i n) l → All (λ x. stands x ≡ true) l → keep (shown_by reopened) l ≡ l
-all_shown f i n l a b = keep_all (shown_by reopened) l (all-with l (λ x w h. now-shown x w.added (standing x h)) a b)
+all_shown f i n l a b = keep_all (shown_by reopened) l (all_both l (λ x w h. now-shown x w.added (standing x h)) a b)
 
 -- the ids k of a pair, and of a vector, below the next ones
 abbrev LowPair : State → List ℕ → Type 0
@@ -66,7 +59,7 @@ LowVector s k = (get_or k 0 0 < s.next_table) × (get_or k 1 0 < s.next_rowset) 
 module _ (s : State) (w : Whole s) where
   low-pairs : All (λ x. LowPair s (by_ids x)) s.pairs
   low-pairs =
-      all-with s.pairs (λ x a h.
+      all_both s.pairs (λ x a h.
       let b = has_all by_table (λ k. get_or k 0 0 < s.next_table) (take 1 (by_ids x)) s.tables (all_map s.tables (λ t m. m.below) w.rests.kept.tables) h in
       (subst (λ (k : List ℕ). get_or k 0 0 < s.next_table) (ap (take 1) a.ids) b, a.below))
       w.rests.kept.pairs (all_of-all (λ p. has by_table (take 1 (by_ids p)) s.tables) s.pairs (not-false _ w.tables))
@@ -78,7 +71,7 @@ module _ (s : State) (w : Whole s) where
 
   low-vectors : All (λ x. LowVector s (by_ids x)) s.vectors
   low-vectors =
-      all-with s.vectors (λ x a h.
+      all_both s.vectors (λ x a h.
       let b = subst (LowPair s) (ap (take 2) a.ids) (has_all by_ids (LowPair s) (take 2 (by_ids x)) s.pairs low-pairs h) in
       (b.0, b.1, a.below))
       w.rests.kept.vectors owned
@@ -106,8 +99,8 @@ module _ (s : State) (w : Whole s) where
         names = all-all_of _ s.tables (all_map s.tables (λ t g. g.name) k.tables);
         differ = others-differ s.tables k.names;
         below = all-all_of _ s.tables (all_map s.tables (λ t g. lt-ltb t.table s.next_table g.below) k.tables);
-        pairs = all-with s.pairs (λ x a b. ap (ids_below (s.next_table ∷ s.next_rowset ∷ [])) a.ids ∙ rw (lt-ltb _ _ b.0, lt-ltb _ _ b.1)) k.pairs low-pairs;
-        vectors = all-with s.vectors (λ x a b. ap (ids_below (s.next_table ∷ s.next_rowset ∷ s.next_vector ∷ [])) a.ids ∙ rw (lt-ltb _ _ b.0, lt-ltb _ _ b.1, lt-ltb _ _ b.2)) k.vectors low-vectors;
+        pairs = all_both s.pairs (λ x a b. ap (ids_below (s.next_table ∷ s.next_rowset ∷ [])) a.ids ∙ rw (lt-ltb _ _ b.0, lt-ltb _ _ b.1)) k.pairs low-pairs;
+        vectors = all_both s.vectors (λ x a b. ap (ids_below (s.next_table ∷ s.next_rowset ∷ s.next_vector ∷ [])) a.ids ∙ rw (lt-ltb _ _ b.0, lt-ltb _ _ b.1, lt-ltb _ _ b.2)) k.vectors low-vectors;
         whole = complete;
       }
 

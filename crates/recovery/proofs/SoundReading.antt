@@ -19,6 +19,7 @@ use Rattle.manifest.specs.Split.{lines}
 use Rattle.manifest.proofs.Lines.{text-parse}
 use Rattle.ids.specs.Limits.{most_operations, most_tables, most_held, longest_manifest}
 use Rattle.ids.specs.Results.{and_then}
+use Rattle.ids.proofs.Results.{not-given, same-given}
 use Rattle.snapshot.specs.Entries.{Entry, by_ids}
 use Rattle.version_state.specs.State.{State, start, with_pairs, with_vectors, with_epoch}
 use Rattle.operations.specs.Effect.{applied}
@@ -67,12 +68,6 @@ kept-vectors q s k =
     }
 
 -- Results taken apart.
-not-given : {A : Type 0} {k : Refusal} {a : A} → Err k ≡ Ok a → ⊥
-not-given h = let z : ◌≡◌ {A = ℕ} 0 1 = cc in omega arith
-
-same-given : {A : Type 0} {a b : A} → ◌≡◌ {A = Result A Refusal} (Ok a) (Ok b) → a ≡ b
-same-given h = cc
-
 then-given : {A B : Type 0} (x : Result A Refusal) (f : A → Result B Refusal) (b : B) → and_then x f ≡ Ok b → (a : A) × (x ≡ Ok a) × (f a ≡ Ok b)
 then-given (Err k) f b h = absurd (not-given h)
 then-given (Ok a) f b h = (a, refl, h)

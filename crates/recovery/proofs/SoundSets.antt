@@ -10,7 +10,7 @@ use borrow.Author.Tests.{ltb-true, lt-ltb, le-leb, ne_eqb, not-false}
 use Rattle.lists.specs.Order.{same}
 use Rattle.lists.specs.Keyed.{keep, all_of, ascending}
 use Rattle.lists.proofs.Tests.{clash, both, join}
-use Rattle.lists.proofs.Keyed.{All, all_map, all_append, all_keep, all-mapped, all_of-all, all-all_of, any_of-map, length-keep, ascend-to, ascend-from, ascending-keep}
+use Rattle.lists.proofs.Keyed.{All, all_map, all_append, all_keep, all-mapped, all_of-all, all-all_of, any_of-map, length-keep, ascend-to, ascend-from, ascending-keep, all_both}
 use Rattle.ids.specs.Ids.{largest32, largest64, is_id32, is_id64}
 use Rattle.ids.specs.Limits.{most_held}
 use Rattle.text.specs.Name.{is_name}
@@ -33,10 +33,6 @@ use Rattle.recovery.specs.Rewritable.{Rewritable, names_differ, ids_below}
 use Rattle.recovery.proofs.SoundState.{two, three}
 use Rattle.recovery.proofs.Besides.{few-start}
 use Rattle.recovery.proofs.Owned.{all_of-map, housed-of, owned-of}
-
-pub all-with : {A : Type 0} {P Q R : A → Type 0} (l : List A) → ((x : A) → P x → Q x → R x) → All P l → All Q l → All R l
-all-with [] f p q = tt
-all-with (x ∷ l) f p q = (f x p.0 q.0, all-with l f p.1 q.1)
 
 -- the ids of a pair, and of a vector
 pub ids-two : (n m : ℕ) (k : List ℕ) → ids_below (n ∷ m ∷ []) k ≡ true → (k ≡ two k) × (get_or k 0 0 < n) × (get_or k 1 0 < m)
@@ -110,8 +106,8 @@ module _ (s : State) (p : Passes s) where
       let below = all_of-all _ s.tables p.below in
       all-mapped (λ o. well_formed o ≡ true) create_of (map unlocked s.tables)
       (all-mapped (λ t. well_formed (create_of t) ≡ true) unlocked s.tables
-      (all-with s.tables (λ t b w. join (low-32 _ _ (ltb-true t.table s.next_table b) n) w) below
-      (all-with s.tables (λ t a b. join a b) shapes names)))
+      (all_both s.tables (λ t b w. join (low-32 _ _ (ltb-true t.table s.next_table b) n) w) below
+      (all_both s.tables (λ t a b. join a b) shapes names)))
 
   well-pairs : All (λ o. well_formed o ≡ true) (map add_of (shown now s.pairs))
   well-pairs =
@@ -172,7 +168,7 @@ manager-passes m g w d =
       names = s.names;
       differ = d;
       below = s.below;
-      pairs = all-with t.pairs (λ x a b. join a (within_of t.epoch _ x b).ids) two (all_of-all _ t.pairs s.pairs);
-      vectors = all-with t.vectors (λ x a b. join a (within_of t.epoch _ x b).ids) three (all_of-all _ t.vectors s.vectors);
+      pairs = all_both t.pairs (λ x a b. join a (within_of t.epoch _ x b).ids) two (all_of-all _ t.pairs s.pairs);
+      vectors = all_both t.vectors (λ x a b. join a (within_of t.epoch _ x b).ids) three (all_of-all _ t.vectors s.vectors);
       whole = s.whole;
     }

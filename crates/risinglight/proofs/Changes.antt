@@ -4,6 +4,7 @@ use mathlib.Core.Bool.{Bool, false, not, ◌&&◌, ◌||◌}
 use mathlib.Core.List.{List, [], ◌∷◌, ◌++◌, append-nil, append_assoc}
 use Prim.Native.Nat.{ℕ}
 use lib.ListN.{get_or}
+use Rattle.lists.proofs.Tests.{or_across}
 use Rattle.lists.specs.Order.{same}
 use Rattle.lists.specs.Keyed.{has}
 use Rattle.lists.proofs.Keyed.{has-put}
@@ -13,7 +14,7 @@ use Rattle.plain_record.specs.Sets.{Sets, itself, apply, apply_all}
 use Rattle.risinglight.specs.Maps.{ok, unwrap_or, contains, get}
 use Rattle.risinglight.specs.Snapshot.{Snapshot, snapshot_add_rowset, snapshot_add_dv, has_rowset, has_dv}
 use Rattle.risinglight.specs.VersionManager.{Changing, pooled, changing, change, changes}
-use Rattle.risinglight.proofs.Maps.{has-without, instead, shuffle}
+use Rattle.risinglight.proofs.Maps.{has-without, instead}
 use Rattle.risinglight.proofs.Snapshots.{added-rowset, deleted-rowset, added-dv, deleted-dv}
 use Rattle.risinglight.proofs.Fitting.{FindsAt, FindsAll}
 
@@ -151,6 +152,6 @@ changed (o ∷ os) c x s f =
       runs = rw a.runs b.runs;
       shows = b.shows;
       deletions = b.deletions ∙ ap (λ l. l ++ deleted_all os) a.deletions ∙ append_assoc c.deletions (deleted_by (edits_of o).pairs) (deleted_all os);
-      rowsets = λ k. b.rowsets k ∙ ap (λ y. adds_any of_pairs os k || y) (a.rowsets k) ∙ shuffle (of_pairs o k) (adds_any of_pairs os k) (has itself k c.rowsets);
-      dvs = λ k. b.dvs k ∙ ap (λ y. adds_any of_vectors os k || y) (a.dvs k) ∙ shuffle (of_vectors o k) (adds_any of_vectors os k) (has itself k c.dvs);
+      rowsets = λ k. b.rowsets k ∙ ap (λ y. adds_any of_pairs os k || y) (a.rowsets k) ∙ or_across (of_pairs o k) (adds_any of_pairs os k) (has itself k c.rowsets);
+      dvs = λ k. b.dvs k ∙ ap (λ y. adds_any of_vectors os k || y) (a.dvs k) ∙ or_across (of_vectors o k) (adds_any of_vectors os k) (has itself k c.dvs);
     }

@@ -6,9 +6,9 @@ use Prim.Native.Nat.{ℕ, ◌+◌, ◌<◌}
 use native.Mathlib.Omega.{arith}
 use lib.Dec.{ltb}
 use lib.ListN.{length}
-use borrow.Author.Tests.{ltb-true, lt-ltb}
+use borrow.Author.Tests.{lt-ltb}
 use Rattle.std.specs.Prelude.{Err}
-use Rattle.lists.proofs.Keyed.{All, all_map, all_of-all, all-all_of}
+use Rattle.lists.proofs.Keyed.{all_of-all, all-all_of}
 use Rattle.ids.specs.declared.refusal.Refusal.TheVariants.{WrongCount}
 use Rattle.ids.specs.Verdicts.{judged}
 use Rattle.delete_vector.specs.Encoding.{varint_by, varint, uint_field, delimited}
@@ -18,16 +18,13 @@ use Rattle.delete_vector.specs.Mask.{masked}
 use Rattle.delete_vector.specs.Laws.{are_rows}
 use Rattle.delete_vector.specs.Says.{most_records, read_rules}
 use Rattle.delete_vector.proofs.InMemory.{memory-all}
-use Rattle.delete_vector.proofs.Together.{laws-hold}
+use Rattle.delete_vector.proofs.Together.{laws-hold, rows_all}
 use Rattle.risinglight.specs.Maps.{Outcome, fails, ok, and_then}
 use Rattle.risinglight.specs.DeleteVector.{new, «open», apply_to}
 use Rattle.risinglight.specs.DeleteVectors.{ReaderDiffers, Examples, is_set, DeleteVectorLaws}
 use Rattle.risinglight.proofs.DeleteVectorLoops.{never, loops}
 use Rattle.risinglight.proofs.DeleteVectorBytes.{all-encoded, all-decoded}
 use Rattle.risinglight.proofs.DeleteVectorRows.{new-memory, mask-applied}
-
-rows_all : (rows : List ℕ) → are_rows rows ≡ true → All (λ row. row < row_limit) rows
-rows_all rows h = all_map rows (λ row. ltb-true row row_limit) (all_of-all (λ row. ltb row row_limit) rows h)
 
 opened : (rows : List ℕ) → are_rows rows ≡ true → «open» (records_of rows) ≡ ok (in_memory rows)
 opened rows h =

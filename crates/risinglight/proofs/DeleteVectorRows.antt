@@ -1,6 +1,6 @@
 -- Delete vectors: rows in memory, and the masks that they clear. Assumes nothing.
 use mathlib.Core.Path.{◌≡◌, refl, sym, ap, ◌∙◌}
-use mathlib.Core.Bool.{Bool, true, false, ◌&&◌, ◌||◌, true≢false}
+use mathlib.Core.Bool.{Bool, true, false, ◌&&◌, ◌||◌, true≢false, or_self_left}
 use mathlib.Core.List.{List, [], ◌∷◌, map}
 use Prim.Native.Nat.{ℕ, ◌+◌, ◌%◌, ◌<◌, ◌≤◌}
 use native.Mathlib.Omega.{arith}
@@ -61,15 +61,11 @@ sort-same : (row : ℕ) (l : List ℕ) → is_in (sort_unstable l) row ≡ is_in
 sort-same row [] = refl
 sort-same row (x ∷ l) = in-same x row (sort_unstable l) ∙ ap (λ (b : Bool). (eqb x row && true) || b) (sort-same row l)
 
-again : (a b : Bool) → a || b ≡ a || (a || b)
-again true b = refl
-again false b = refl
-
 after_same : (x row : ℕ) (l : List ℕ) → is_in (x ∷ dedup_after x l) row ≡ is_in (x ∷ l) row
 after_same x row [] = refl
 after_same x row (y ∷ l) =
     by_cases (eqb y x)
-    (λ e. rw (e, eqb-true y x e) (after_same x row l ∙ again (eqb x row && true) (is_in l row)))
+    (λ e. rw (e, eqb-true y x e) (after_same x row l ∙ sym (or_self_left (eqb x row && true) (is_in l row))))
     (λ e. rw e (ap (λ (b : Bool). (eqb x row && true) || b) (after_same y row l)))
 
 dedup_same : (row : ℕ) (l : List ℕ) → is_in (dedup l) row ≡ is_in l row

@@ -8,7 +8,7 @@ use lib.Dec.{eqb}
 use borrow.Author.Tests.{eqb-true}
 use Rattle.lists.specs.Order.{same}
 use Rattle.lists.specs.Keyed.{keep, any_of, has, without}
-use Rattle.lists.proofs.Tests.{by_cases, clash}
+use Rattle.lists.proofs.Tests.{by_cases, clash, or_across}
 use Rattle.lists.proofs.Order.{same_true}
 use Rattle.risinglight.specs.Maps.{unwrap_or, contains, with_number, without_number, Binding, get, insert, remove}
 use Rattle.risinglight.specs.Snapshot.{settled}
@@ -33,14 +33,11 @@ has-without key k j l =
     (λ x e f. ap (λ c. same (key x) c) (same_true j k e) ∙ f)
     l
 
-numbers : (x y : ℕ) → eqb x y ≡ true → x ≡ y
-numbers x y e = eqb-true x y e
-
 pub contains-without : (x y : ℕ) (s : List ℕ) → contains x (without_number y s) ≡ not (eqb y x) && contains x s
 contains-without x y s =
     taken (λ z. eqb z x) (λ z. eqb z y) (eqb y x)
-    (λ z e. ap (λ c. eqb c x) (numbers z y e))
-    (λ z e f. ap (λ c. eqb z c) (numbers y x e) ∙ f)
+    (λ z e. ap (λ c. eqb c x) (eqb-true z y e))
+    (λ z e f. ap (λ c. eqb z c) (eqb-true y x e) ∙ f)
     s
 
 pub contains-with : (x y : ℕ) (s : List ℕ) → contains x (with_number y s) ≡ eqb y x || contains x s
@@ -52,11 +49,11 @@ module _ {X : Type 0} where
   get-remove k j (b ∷ m) =
       by_cases (eqb b.key j)
       (λ e.
-      let q : eqb b.key k ≡ eqb j k = ap (λ c. eqb c k) (numbers b.key j e) in
+      let q : eqb b.key k ≡ eqb j k = ap (λ c. eqb c k) (eqb-true b.key j e) in
       rw (e, q) (get-remove k j m ∙ by_cases (eqb j k) (λ f. rw f) (λ f. rw f)))
       (λ e. by_cases (eqb j k)
       (λ f.
-      let q : eqb b.key k ≡ false = ap (λ c. eqb b.key c) (sym (numbers j k f)) ∙ e in
+      let q : eqb b.key k ≡ false = ap (λ c. eqb b.key c) (sym (eqb-true j k f)) ∙ e in
       rw (e, f, q) (get-remove k j m ∙ rw f))
       (λ f. rw (e, f) (ap (λ o. cond (eqb b.key k) (some b.value) o) (get-remove k j m ∙ rw f))))
 
@@ -71,12 +68,3 @@ get-settled k j (x ∷ l) m = rw (get-insert k j (x ∷ l) m) (by_cases (eqb j k
 -- x in the place of what had its key
 pub instead : {A : Type 0} (key : A → List ℕ) (k : List ℕ) (x : A) (l : List A) → has key k (x ∷ without key (key x) l) ≡ same (key x) k || has key k l
 instead key k x l = by_cases (same (key x) k) (λ e. rw e) (λ e. rw e (has-without key k (key x) l ∙ rw e))
-
-pub shuffle : (a b c : Bool) → b || (a || c) ≡ (a || b) || c
-shuffle true true c = refl
-shuffle true false c = refl
-shuffle false b c = refl
-
-pub or-none : (b : Bool) → b || false ≡ b
-or-none true = refl
-or-none false = refl

@@ -1,6 +1,6 @@
 -- The pools beside what is held, and the next ids on both sides. Assumes nothing.
 use mathlib.Core.Path.{◌≡◌, refl, sym, ap, subst, ◌∙◌}
-use mathlib.Core.Bool.{Bool, true, false, cond, not, ◌&&◌, ◌||◌}
+use mathlib.Core.Bool.{Bool, true, false, cond, not, ◌&&◌, ◌||◌, and-false, and_assoc}
 use mathlib.Core.List.{List, [], ◌∷◌, ◌++◌, map}
 use Prim.Native.Nat.{ℕ, ◌+◌, ◌≤◌, ◌<◌, max}
 use native.Mathlib.Omega.{arith}
@@ -10,7 +10,7 @@ use borrow.Author.Tests.{leb-false, ltb-true}
 use Rattle.std.specs.Prelude.{Ok}
 use Rattle.lists.specs.Order.{same}
 use Rattle.lists.specs.Keyed.{keep, all_of, is_at, has, without, arranged}
-use Rattle.lists.proofs.Tests.{by_cases, clash, both, join}
+use Rattle.lists.proofs.Tests.{by_cases, clash, both, join, or_across}
 use Rattle.lists.proofs.Order.{same_true}
 use Rattle.lists.proofs.Keyed.{All, Ascending, after-absent, has-put}
 use Rattle.ids.specs.Verdicts.{judged}
@@ -28,7 +28,7 @@ use Rattle.plain_record.specs.Claim.{below_next}
 use Rattle.plain_record.proofs.CommitSets.{steps_on}
 use Rattle.risinglight.specs.Storage.{NextId, raise, raised, Rowset, pair_of, open_rowset, rowsets_to_open, Dv, triple_of, open_dv, dvs_to_open, table_changeset, changeset}
 use Rattle.risinglight.specs.VersionManager.{released}
-use Rattle.risinglight.proofs.Maps.{has-without, shuffle}
+use Rattle.risinglight.proofs.Maps.{has-without}
 use Rattle.risinglight.proofs.Changes.{adds_it, adds_any, of_pairs, of_vectors}
 use Rattle.risinglight.proofs.Files.{any-arranged}
 
@@ -57,7 +57,7 @@ module _ (e : ℕ) where
     held_on z i o os s h a =
         ap (λ l. adds_any adding os k || has by_ids k l) (step o s)
         ∙ ap (λ b. adds_any adding os k || b) (has-marked e (f o) k (g s))
-        ∙ shuffle (adding o k) (adds_any adding os k) (has by_ids k (g s))
+        ∙ or_across (adding o k) (adds_any adding os k) (has by_ids k (g s))
         ∙ h
 
     held_after : (os : List Operation) (s t : State) → steps_of 0 e os s ≡ Ok t → has by_ids k (g t) ≡ adds_any adding os k || has by_ids k (g s)
@@ -127,14 +127,10 @@ kept-apart q k (x ∷ l) a =
     (λ t.
     let absent : has by_ids k l ≡ false = subst (λ (j : List ℕ). has by_ids j l ≡ false) (same_true (by_ids x) k t) (after-absent by_ids (by_ids x) l a.0) in
     by_cases (q x)
-    (λ f. rw (f, t) (i ∙ rw absent (and_none (not (has by_ids k (keep q l))))))
+    (λ f. rw (f, t) (i ∙ rw absent (and-false (not (has by_ids k (keep q l))))))
     (λ f. rw (f, t, none_kept q k l absent)))
     (λ t. by_cases (q x) (λ f. rw (f, t) i) (λ f. rw (f, t) i))
   where
-    and_none : (b : Bool) → b && false ≡ false
-    and_none true = refl
-    and_none false = refl
-
     none_kept : (q : Entry → Bool) (k : List ℕ) (l : List Entry) → has by_ids k l ≡ false → has by_ids k (keep q l) ≡ false
     none_kept q k [] h = refl
     none_kept q k (y ∷ l) h =
@@ -168,13 +164,9 @@ ids-append P [] ps = refl
 ids-append P (o ∷ os) ps =
     all-append-of P (ids_by (edits_of o)) (ids_of (os ++ ps))
     ∙ ap (λ b. all_of P (ids_by (edits_of o)) && b) (ids-append P os ps)
-    ∙ and_assoc (all_of P (ids_by (edits_of o))) (all_of P (ids_of os)) (all_of P (ids_of ps))
+    ∙ sym (and_assoc (all_of P (ids_by (edits_of o))) (all_of P (ids_of os)) (all_of P (ids_of ps)))
     ∙ ap (λ b. b && all_of P (ids_of ps)) (sym (all-append-of P (ids_by (edits_of o)) (ids_of os)))
   where
-    and_assoc : (a b c : Bool) → a && (b && c) ≡ (a && b) && c
-    and_assoc true b c = refl
-    and_assoc false b c = refl
-
     all-append-of : (P : Id → Bool) (l m : List Id) → all_of P (l ++ m) ≡ all_of P l && all_of P m
     all-append-of P [] m = refl
     all-append-of P (x ∷ l) m = by_cases (P x) (λ e. rw e (all-append-of P l m)) (λ e. rw e)

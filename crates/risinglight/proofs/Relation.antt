@@ -1,6 +1,6 @@
 -- What holds between two calls of the Rust's state beside the plain record, and what each of its calls does to it. Assumes nothing.
 use mathlib.Core.Path.{◌≡◌, refl, sym, ap, subst, ◌∙◌}
-use mathlib.Core.Bool.{Bool, true, false, cond, not, ◌&&◌, ◌||◌}
+use mathlib.Core.Bool.{Bool, true, false, cond, not, ◌&&◌, ◌||◌, not-not}
 use mathlib.Core.List.{List, [], ◌∷◌, ◌++◌, map}
 use mathlib.Core.Option.{Option, none, some}
 use Prim.Native.Nat.{ℕ, zero, suc, ◌+◌, ◌-◌, ◌≤◌, min}
@@ -10,7 +10,7 @@ use lib.ListN.{length, take, get_or, length-append}
 use lib.Seq.{take_all}
 use borrow.Author.Tests.{eq-eqb, ne_eqb, eqb-true, eqb-false, leb-true, leb-false}
 use Rattle.lists.specs.Keyed.{keep, has, arranged}
-use Rattle.lists.proofs.Tests.{by_cases}
+use Rattle.lists.proofs.Tests.{by_cases, positive}
 use Rattle.lists.proofs.Keyed.{all_keep, all_map, keep_same, keep-map}
 use Rattle.manifest.specs.Operations.{Operation}
 use Rattle.manifest.specs.Edits.{Table}
@@ -269,10 +269,6 @@ module _ (g : Engine) (r : Record) (k : Rel g r) where
             (beside-counts g.running p c (recounted (place_on e) (n - 1) p.pinned) k.whole
             (λ d. get-insert d e (n - 1) running.ref_cnt ∙ recounts e (n - 1) d p.pinned (some (n - 1)) running.ref_cnt k.whole.counts (sym (counted-some (n - 1) (positive (n - 1) (eqb-false (n - 1) 0 t))))));
       })
-    where
-      positive : (n : ℕ) → (n ≡ 0 → ⊥) → 1 ≤ n
-      positive zero h = absurd (h refl)
-      positive (suc n) h = omega arith
 
   -- A vacuum.
   module _ (pinning : Pinning r.whole.pinned) where
@@ -289,10 +285,6 @@ module _ (g : Engine) (r : Record) (k : Rel g r) where
     applied x h =
         applies running r.whole.pinned (get_or x 0 0) pinning k.whole.counts h
         ∙ ap (λ (e : ℕ). not (blocked (guards_by e r.whole.pinned) (get_or x 0 0))) k.whole.epoch
-
-    not-not : (b : Bool) → not (not b) ≡ b
-    not-not true = refl
-    not-not false = refl
 
     now-free : deletions_in (keep (can_apply running) dels) ≡ keep free (deletions_in dels)
     now-free =

@@ -1,12 +1,12 @@
 -- A start: it does not fail on what was written, shows it, and writes it anew. Assumes nothing.
 use mathlib.Core.Path.{◌≡◌, refl, sym, ap, ◌∙◌}
-use mathlib.Core.Bool.{Bool, true, false, ◌&&◌, ◌||◌}
+use mathlib.Core.Bool.{Bool, true, false, ◌&&◌, ◌||◌, or-false}
 use mathlib.Core.List.{List, [], ◌∷◌, ◌++◌, map}
 use Prim.Native.Nat.{ℕ}
 use Rattle.lists.specs.Order.{same}
 use Rattle.lists.specs.Keyed.{all_of, is_at, has, without, arranged}
 use lib.Dec.{eqb}
-use Rattle.lists.proofs.Tests.{by_cases, clash, both, join}
+use Rattle.lists.proofs.Tests.{by_cases, clash, both, join, or_across}
 use Rattle.lists.proofs.Order.{same_refl}
 use Rattle.lists.proofs.Keyed.{All, all_map, all_any, all_append, all-mapped, all-all_of, kept-all}
 use Rattle.manifest.specs.Operations.{Operation, create_table, drop_table, add_rowset, delete_rowset, add_vector, delete_vector, next_ids}
@@ -19,7 +19,7 @@ use Rattle.risinglight.specs.VersionManager.{fresh, Changing, changing, committe
 use Rattle.risinglight.specs.Storage.{apply_table, apply_tables, Rowset, pair_of, open_rowset, rowsets_to_open, Dv, triple_of, open_dv, dvs_to_open, through, is_of_table, table_changeset, changeset, next_id, raised, Storage, storage, bootstrap}
 use Rattle.risinglight.proofs.Fitting.{Finds, FindsAll}
 use Rattle.risinglight.proofs.Changes.{Shows, deleted_by, deleted_all, adds_any, of_pairs, of_vectors, changed}
-use Rattle.risinglight.proofs.Maps.{instead, shuffle, or-none}
+use Rattle.risinglight.proofs.Maps.{instead}
 use Rattle.risinglight.proofs.Files.{any-arranged, tables-append, through-append, frame-replayed, Boots, Filed, rowsets-alike, dvs-alike}
 
 -- the operations that open rowsets, and those that open vectors
@@ -108,7 +108,7 @@ through-opened key f to h k (x ∷ xs) l =
     through-opened key f to h k xs (f (to x) l)
     ∙ ap (λ (m : List _). has key k xs || has key k m) (h x l)
     ∙ ap (λ b. has key k xs || b) (instead key k x l)
-    ∙ shuffle (same (key x) k) (has key k xs) (has key k l)
+    ∙ or_across (same (key x) k) (has key k xs) (has key k l)
 
 -- What goes into the pools.
 adds-append : (f : Operation → List ℕ → Bool) (os ps : List Operation) (k : List ℕ) → adds_any f (os ++ ps) k ≡ adds_any f os k || adds_any f ps k
@@ -170,7 +170,7 @@ module _ (rs : List Rowset) (vs : List Dv) (ops : List Operation) where
       ∙ ap (rowsets_to_open ts) (through-stays open_rowset (map opens_dv vs) (rowsets_to_open (map opens rs) []) (all-mapped (λ o. (m : List Rowset) → open_rowset o m ≡ m) opens_dv vs (all_any vs (λ x m. refl))))
       ∙ through-stays open_rowset ts (rowsets_to_open (map opens rs) []) (all_map ts (λ o h. h.rowsets) (all-of-table ops)))
       ∙ through-opened pair_of open_rowset opens (λ x l. refl) k rs []
-      ∙ or-none (has pair_of k rs)
+      ∙ or-false (has pair_of k rs)
 
   dvs-of : (k : List ℕ) → has triple_of k (dvs_to_open cs []) ≡ has triple_of k vs
   dvs-of k =
@@ -180,7 +180,7 @@ module _ (rs : List Rowset) (vs : List Dv) (ops : List Operation) where
       ∙ through-append open_dv (map opens_dv vs) ts []
       ∙ through-stays open_dv ts (dvs_to_open (map opens_dv vs) []) (all_map ts (λ o h. h.dvs) (all-of-table ops)))
       ∙ through-opened triple_of open_dv opens_dv (λ x l. refl) k vs []
-      ∙ or-none (has triple_of k vs)
+      ∙ or-false (has triple_of k vs)
 
   pools-rowsets : (k : List ℕ) → adds_any of_pairs cs k ≡ has pair_of k rs
   pools-rowsets k =
@@ -189,7 +189,7 @@ module _ (rs : List Rowset) (vs : List Dv) (ops : List Operation) where
       (adds-append of_pairs (map opens_dv vs) ts k
       ∙ ap (λ b. b || adds_any of_pairs ts k) (adds_none of_pairs k (map opens_dv vs) (all-mapped (λ o. of_pairs o k ≡ false) opens_dv vs (all_any vs (λ x. refl))))
       ∙ adds_none of_pairs k ts (all_map ts (λ o h. h.adds k) (all-of-table ops)))
-      ∙ or-none (adds_any of_pairs (map opens rs) k)
+      ∙ or-false (adds_any of_pairs (map opens rs) k)
       ∙ adds-opened k rs
 
   pools-dvs : (t r v : ℕ) → has triple_of (t ∷ r ∷ v ∷ []) vs ≡ true → adds_any of_vectors cs (t ∷ v ∷ []) ≡ true
@@ -272,8 +272,8 @@ module _ (f : List Value) (x : Sets) (b : Boots (replay f) x) (w : Whole x) wher
             };
         deletions = c.deletions ∙ none-deleted written (deletionless rows dvs ops);
         next = refl;
-        rowsets = λ k. b.rowsets k ∙ sym (c.rowsets k ∙ or-none (adds_any of_pairs written k) ∙ pools-rowsets rows dvs ops k);
-        dvs = λ t r v h. c.dvs (t ∷ v ∷ []) ∙ or-none (adds_any of_vectors written (t ∷ v ∷ [])) ∙ pools-dvs rows dvs ops t r v (sym (b.dvs (t ∷ r ∷ v ∷ [])) ∙ h);
+        rowsets = λ k. b.rowsets k ∙ sym (c.rowsets k ∙ or-false (adds_any of_pairs written k) ∙ pools-rowsets rows dvs ops k);
+        dvs = λ t r v h. c.dvs (t ∷ v ∷ []) ∙ or-false (adds_any of_vectors written (t ∷ v ∷ [])) ∙ pools-dvs rows dvs ops t r v (sym (b.dvs (t ∷ r ∷ v ∷ [])) ∙ h);
         written = ap (λ (s : Replaying). s.ops) (frame-replayed written []);
         filed = record { ops = written; read = frame-replayed written []; boots = boots };
       }

@@ -1,6 +1,6 @@
 -- One accepted call: what the Rust does, and that both sides stand beside one another again. Assumes nothing.
 use mathlib.Core.Path.{◌≡◌, refl, sym, ap, subst, ◌∙◌}
-use mathlib.Core.Bool.{Bool, true, false, cond, not, ◌&&◌}
+use mathlib.Core.Bool.{Bool, true, false, cond, not, ◌&&◌, not-not}
 use mathlib.Core.List.{List, [], ◌∷◌, map}
 use Prim.Native.Nat.{ℕ, zero, suc, ◌+◌, ◌-◌, ◌≤◌}
 use native.Mathlib.Omega.{arith}
@@ -10,7 +10,7 @@ use borrow.Author.Tests.{eqb-false, not-false}
 use Rattle.std.specs.Prelude.{Result, Ok, Err}
 use Rattle.std.specs.Result.{result_and}
 use Rattle.lists.specs.Keyed.{has, is_at, arranged}
-use Rattle.lists.proofs.Tests.{clash}
+use Rattle.lists.proofs.Tests.{clash, positive}
 use Rattle.lists.proofs.Keyed.{All, any_of-map, ascend-to}
 use Rattle.ids.specs.declared.refusal.Refusal.{Refusal}
 use Rattle.ids.specs.Answers.{told}
@@ -63,7 +63,8 @@ use Rattle.plain_record.specs.Claim.{AnswerBy, is_report}
 use Rattle.plain_record.proofs.Invariant.{plain_sets, Inv, passes}
 use Rattle.plain_record.proofs.Stands.{stands_of}
 use Rattle.plain_record.proofs.Stands as stands
-use Rattle.plain_record.proofs.Commit.{now-at, few-new}
+use Rattle.plain_record.proofs.Commit.{now-at}
+use Rattle.compaction.proofs.Whole.{few-new}
 use Rattle.plain_record.proofs.Pin.{with-pin}
 use Rattle.plain_record.proofs.Unpin.{without-pin}
 use Rattle.plain_record.proofs.Vacuum.{vacuum-pairs}
@@ -180,20 +181,12 @@ module _ (cut : ℕ) (g : Engine) (r : Record) (k : Rel g r) (e : Event) (i : In
   now-is : plain_sets m ≡ r.whole.now
   now-is = now-at w r i w.manager.inner.epoch (omega arith)
 
-  positive : (n : ℕ) → (n ≡ 0 → ⊥) → 1 ≤ n
-  positive zero h = absurd (h refl)
-  positive (suc n) h = omega arith
-
   due : (n : ℕ) → is_due w.manager n w.book ≡ eqb (pins_at (place_on n) r.whole.pinned - 1) 0 && not (eqb n (epoch_of r.whole))
   due n =
       ap (λ (b : Bool). not b && not (eqb n w.manager.inner.epoch)) (pinned-after n (pins_at (place_on n) (pins_of w.book) - 1) (pins_of w.book))
-      ∙ ap (λ (b : Bool). b && not (eqb n w.manager.inner.epoch)) (twice (eqb (pins_at (place_on n) (pins_of w.book) - 1) 0))
+      ∙ ap (λ (b : Bool). b && not (eqb n w.manager.inner.epoch)) (not-not (eqb (pins_at (place_on n) (pins_of w.book) - 1) 0))
       ∙ ap (λ (l : List PinEntry). eqb (pins_at (place_on n) l - 1) 0 && not (eqb n w.manager.inner.epoch)) i.pins
       ∙ ap (λ (d : ℕ). eqb (pins_at (place_on n) r.whole.pinned - 1) 0 && not (eqb n d)) i.epoch
-    where
-      twice : (b : Bool) → not (not b) ≡ b
-      twice true = refl
-      twice false = refl
 
   -- other pins
   pool-pins : (v : Inner) (l : List PinEntry) → v.rowsets ≡ g.running.version.rowsets → v.dvs ≡ g.running.version.dvs → held_after ≡ m

@@ -1,5 +1,5 @@
-// The Rust's own behaviour as functions on values, and the second theorem: the port agrees with it. Nothing here is code that runs; the
-// functions pin what is claimed to the check.
+// RisingLight's own behaviour as functions on values, and the second theorem: the port agrees with it. Nothing here is code that runs; the functions
+// pin what is claimed to the check.
 #![tactic(auto)]
 
 ghost use Rattle.plain_record.specs.Run.{port};
@@ -9,7 +9,7 @@ ghost use Rattle.risinglight.specs.Groupings.{GroupingLaws};
 ghost use Rattle.risinglight.specs.DeleteVectors.{DeleteVectorLaws};
 ghost use Rattle.risinglight.specs.Differences.{Differences};
 
-// Every accepted call of a list is one that the Rust does too, with the same answer.
+// Every accepted call of a list is one that RisingLight does too, with the same answer.
 pub fn agrees()
     ensures { Agreement port }
 {}
