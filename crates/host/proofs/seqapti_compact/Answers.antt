@@ -6,7 +6,8 @@ use Rattle.host.proofs.seqapti_compact.Goals as goal
 pub returns : goal.returns
 returns c =
     record {
-      answer = c.compact-done.result.answer;
-      says = compacted-with _ _ _ (new_in c.args.has_new c.args.new) c.args.taken.now _ c.compact-done.result _ c.new_rowset-new.ensures c.compact-done.ensures;
-      told = c.committed-answer.ensures;
+      answered = c.compact.result;
+      says = compacted-with _ _ _ (new_in c.args.has_new c.args.new) c.args.taken.now _ c.compact.result _ c.new_rowset-new.ensures c.compact.ensures;
+      manager = c.from.ensures.0;
+      told = c.from.ensures.1;
     }

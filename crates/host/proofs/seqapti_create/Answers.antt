@@ -5,7 +5,8 @@ use Rattle.host.proofs.seqapti_create.Goals as goal
 pub returns : goal.returns
 returns c =
     record {
-      answer = c.create-done.result.answer;
-      says = created-named _ _ _ _ c.create-done.result _ _ c.name-name.ensures c.create-done.ensures;
-      told = c.created-answer.ensures;
+      answered = c.create.result;
+      says = created-named _ _ _ _ c.create.result _ _ c.name-name.ensures c.create.ensures;
+      manager = c.from.ensures.0;
+      told = c.from.ensures.1;
     }

@@ -1,5 +1,5 @@
 -- The loop of `host::arguments::handles`.
-use Rattle.std.proofs.Common.{◌-◌, ◌≡◌, length, ◌≤◌, map, take}
+use Rattle.std.proofs.Common.{◌≡◌, length, map, take}
 use Rattle.transaction.specs.Groups.{handle_of}
 use Rattle.transaction.specs.Says.{most_handles}
 use Rattle.host.specs.Arguments.{handle_in}
@@ -7,10 +7,6 @@ use Rattle.host.proofs.arguments.handles.Given as goal
 
 abbrev pub invariant-loop-i : goal.invariant-loop-i
 invariant-loop-i l = record {
-  in_range : l.i ≤ l.n;
   full : length l.items ≡ most_handles;
   handled : take l.i (map handle_of l.items) ≡ take l.i (map handle_in l.numbers);
 }
-
-abbrev pub decreases-loop-i : goal.decreases-loop-i
-decreases-loop-i l = l.n - l.i
