@@ -1,68 +1,64 @@
 // What is printed of a grouping.
 use crate::output::Output;
-use crate::say;
-use ids::refusal::Refusal;
+use crate::say::Digits;
+use std::fmt;
+use std::fmt::Display;
 use std::io::Write;
 use version_manager::NewVectors;
 
-// The first so many, as far as there are any, and what comes after them.
+// The first `n`, or all where there are fewer, and the rest.
 fn front<T>(s: &[T], n: u32) -> (&[T], &[T]) {
     let n = s.len().min(n as usize);
     s.split_at(n)
 }
 
 // A vector's rows in memory.
-fn memory(rows: &[u32], output: &mut Output) {
-    for (i, row) in rows.iter().enumerate() {
-        if 0 < i {
-            say::put(b'+', output);
+#[derive(Clone, Copy)]
+struct Rows<'a> {
+    rows: &'a [u32],
+}
+
+impl Display for Rows<'_> {
+    fn fmt<W: fmt::Write>(&self, f: &mut fmt::Formatter<W>) -> fmt::Result {
+        for (i, row) in self.rows.iter().enumerate() {
+            if 0 < i {
+                write!(f, "+")?;
+            }
+            write!(f, "{row}")?;
         }
-        say::number(*row, output);
+        Ok(())
     }
 }
 
-// The vectors' files lie one after another, and so do their rows in memory.
-fn vectors(
-    count: usize,
-    first: u64,
-    rowsets: &[u32],
-    lengths: &[u32],
-    counts: &[u32],
-    files: &[u8],
-    rows: &[u32],
-    output: &mut Output,
-) {
-    let mut id = first;
-    let mut files = files;
-    let mut rows = rows;
-    for ((rowset, length), n) in rowsets.iter().zip(lengths).zip(counts).take(count) {
-        let (file, next_files) = front(files, *length);
-        let (memory_rows, next_rows) = front(rows, *n);
-        let _ = write!(output, ",{id}:{rowset}:");
-        say::digits(file, output);
-        say::put(b':', output);
-        memory(memory_rows, output);
-        id = id.wrapping_add(1);
-        files = next_files;
-        rows = next_rows;
-    }
-    say::put(b'\n', output);
+// What a grouping writes: of each vector its rowset, the length of its file and its count of rows in memory; then all files one after
+// another, and all rows in memory one after another.
+#[derive(Clone, Copy)]
+pub struct Grouping<'a> {
+    pub rowsets: &'a [u32],
+    pub lengths: &'a [u32],
+    pub counts: &'a [u32],
+    pub files: &'a [u8],
+    pub rows: &'a [u32],
 }
 
-pub fn grouped(
-    answer: Result<NewVectors, Refusal>,
-    rowsets: &[u32],
-    lengths: &[u32],
-    counts: &[u32],
-    files: &[u8],
-    rows: &[u32],
-    output: &mut Output,
-) {
-    match answer {
-        Ok(NewVectors { count: n, first }) => {
-            say::first(b"grouped", n as u64, output);
-            vectors(n, first.0, rowsets, lengths, counts, files, rows, output);
+impl Grouping<'_> {
+    pub fn say(&self, made: NewVectors, output: &mut Output) {
+        let count = made.count;
+        let _ = write!(output, "grouped,{count}");
+        let mut id = made.first.0;
+        let mut files = self.files;
+        let mut rows = self.rows;
+        let heads = self.rowsets.iter().zip(self.lengths).zip(self.counts);
+        for ((rowset, length), n) in heads.take(count) {
+            let (bytes, next_files) = front(files, *length);
+            let (memory, next_rows) = front(rows, *n);
+            let file = Digits { width: 2, bytes };
+            let memory = Rows { rows: memory };
+            let _ = write!(output, ",{id}:{rowset}:{file}:{memory}");
+            id = id.wrapping_add(1);
+            files = next_files;
+            rows = next_rows;
         }
-        Err(why) => say::refusal(why, output),
+        let _ = output.write_all(b"\n");
     }
 }

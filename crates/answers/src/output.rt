@@ -1,59 +1,44 @@
 // Standard output, gathered in a buffer that is written when it is full or flushed. After a write that failed nothing more is written, so
 // that what was written is the beginning of the answers.
-ghost use Rattle.std.specs.Prelude.{◌≡◌, ◌≤◌, false, length};
+ghost use Rattle.std.specs.Prelude.{◌≡◌, ◌≤◌, IsNone, IsSome, OnErr, OnOk, Some, length};
 
-use std::fmt::Display;
 use std::io;
-use std::io::{Stdout, Write};
+use std::io::{ErrorKind, Stdout, Write};
 
 // How many bytes the buffer holds.
 const ROOM: usize = 65536;
 
-// No `BufWriter`: that asks for memory, which may run out, and tries again after a write that failed, its drop too.
+// The text and its count by hand: there is no heap, and an `ArrayVec` writes blanks over all of it when it is cleared. No `BufWriter` either: after a
+// failed write it tries again, even when it is dropped.
 #[derive(Drop)]
 pub struct Output {
-    to: Stdout,
+    // None once a write has failed.
+    to: Option<Stdout>,
     text: [u8; ROOM],
     // How many bytes of the text wait.
     count: usize,
-    failed: bool,
     ghost within: { count ≤ 65536 },
 }
 
-pub fn empty(to: Stdout) -> Output
-    ensures room { 65536 ≡ length result.text }
-    ensures nothing { result.count ≡ 0 }
-    ensures not_failed { result.failed ≡ false }
-{
-    Output {
-        to,
-        text: [0; ROOM],
-        count: 0,
-        failed: false,
+impl Output {
+    pub fn new(to: Stdout) -> Output
+        ensures room { 65536 ≡ length result.text }
+        ensures nothing { result.count ≡ 0 }
+        ensures open { result.to ≡ Some to }
+    {
+        Output {
+            to: Some(to),
+            text: [0; ROOM],
+            count: 0,
+        }
     }
 }
 
-pub fn failed(output: &Output) -> bool
-    ensures { result ≡ output.now.failed }
-{
-    output.failed
-}
-
-pub fn flush(output: &mut Output)
-    ensures { output.new.count ≡ 0 }
-{
-    let n = output.count;
-    output.count = 0;
-    if !output.failed {
-        output.failed = output.to.write_all(&output.text[..n]).is_err();
-    }
-}
-
-// For `write!`. It takes all, also after a write that failed.
+// For `write!`. After a failed write it still takes bytes, and drops them; `flush` says that one has failed.
 impl Write for Output {
     fn write(&mut self, buf: &[u8]) -> io::Result<usize> {
         if self.count == ROOM {
-            flush(self);
+            let _ = self.flush();
         }
         let at = self.count;
         let n = buf.len().min(ROOM - at);
@@ -62,20 +47,20 @@ impl Write for Output {
         Ok(n)
     }
 
-    fn flush(&mut self) -> io::Result<()> {
-        flush(self);
-        Ok(())
+    fn flush(&mut self) -> io::Result<()>
+        ensures empty { self.new.count ≡ 0 }
+        ensures ok { OnOk result ((self.new.to ≡ self.old.to) × IsSome self.new.to) }
+        ensures err { OnErr result (IsNone self.new.to) }
+    {
+        let n = self.count;
+        self.count = 0;
+        let Some(mut to) = self.to else {
+            return Err(io::Error::from(ErrorKind::WriteZero));
+        };
+        let written = to.write_all(&self.text[..n]);
+        if written.is_err() {
+            self.to = None;
+        }
+        written
     }
-}
-
-pub fn say(s: &[u8], output: &mut Output) {
-    let _ = output.write_all(s);
-}
-
-pub fn put(b: u8, output: &mut Output) {
-    say(&[b], output);
-}
-
-pub fn number(n: impl Display + Drop, output: &mut Output) {
-    let _ = write!(output, "{n}");
 }

@@ -1,97 +1,54 @@
 // Calls on delete vectors: no manager.
-ghost use Rattle.std.specs.Prelude.{◌≤◌, IfSome, length};
-
-use crate::output::Output;
+use crate::call::Call;
 use crate::say;
+use crate::say::{Digits, NO_CALL};
 use delete_vector::MOST_RECORDS;
 use ids::RowNo;
-use script::words::Words;
-
-fn encode_into(rows: &[u32], out: &mut [u8], output: &mut Output) {
-    match delete_vector::write_all(rows, out) {
-        Ok(n) => {
-            say::say(b"encoded,", output);
-            let n = n.min(out.len());
-            say::hex(&out[..n], output);
-        }
-        Err(why) => say::refusal(why, output),
-    }
-}
-
-fn encode_rows(s: &[u8], rows: &mut [u32], out: &mut [u8], output: &mut Output) {
-    match script::numbers(s, rows) {
-        Some(n) => {
-            let n = n.min(rows.len());
-            encode_into(&rows[..n], out, output);
-        }
-        None => say::no_call(output),
-    }
-}
+use ids::refusal::Refusal;
+use std::io::Write;
 
 // One more row than a vector may have, so that too many are seen.
-pub fn encode(s: &[u8], room: usize, output: &mut Output) {
-    let mut rows = [0u32; 4097];
-    let mut out = [0u8; 28672];
-    let n = room.min(28672);
-    encode_rows(s, &mut rows, &mut out[..n], output);
-}
+const MOST_ROWS: usize = MOST_RECORDS + 1;
 
-fn decode_into(file: &[u8], rows: &mut [u32], output: &mut Output) {
-    match delete_vector::read_all(file, rows) {
-        Ok(n) => {
-            say::first(b"decoded", n as u64, output);
-            say::rows(rows, n, output);
-        }
-        Err(why) => say::refusal(why, output),
+// A record has at most 7 bytes.
+const FILE_BYTES: usize = 7 * MOST_RECORDS;
+
+impl Call<'_> {
+    pub fn encode(self) -> Result<(), Refusal> {
+        let mut rows = [0u32; MOST_ROWS];
+        let mut out = [0u8; FILE_BYTES];
+        let count = self.numbers(&mut rows)?;
+        let room = self.room.min(FILE_BYTES);
+        let n = delete_vector::write_all(&rows[..count], &mut out[..room])?;
+        let file = Digits {
+            width: 2,
+            bytes: &out[..n.min(FILE_BYTES)],
+        };
+        let _ = writeln!(self.output, "encoded,{file}");
+        Ok(())
     }
-}
 
-fn decode_run(file: &[u8], room: usize, output: &mut Output) {
-    let mut rows = [0u32; MOST_RECORDS];
-    let room = room.min(MOST_RECORDS);
-    decode_into(file, &mut rows[..room], output);
-}
-
-fn read_file(s: &[u8], scratch: &mut [u8]) -> Option<usize>
-    ensures { IfSome result (λ n. n ≤ length scratch.new) }
-{
-    script::hex(s.strip_prefix(b" ")?, scratch)
-}
-
-pub fn decode(s: &[u8], room: usize, scratch: &mut [u8], output: &mut Output) {
-    match read_file(s, scratch) {
-        Some(n) => decode_run(&scratch[..n], room, output),
-        None => say::no_call(output),
+    pub fn decode(self, scratch: &mut [u8]) -> Result<(), Refusal> {
+        let digits = self.rest.strip_prefix(b" ").ok_or(NO_CALL)?;
+        let n = script::hex(digits, scratch).ok_or(NO_CALL)?;
+        let mut rows = [0u32; MOST_RECORDS];
+        let room = self.room.min(MOST_RECORDS);
+        let n = delete_vector::read_all(&scratch[..n], &mut rows[..room])?;
+        say::list("decoded", n, rows.iter(), self.output);
+        Ok(())
     }
-}
 
-fn mask_into(rows: &[u32], bits: &mut [u8], offset: u32, output: &mut Output) {
-    match delete_vector::apply_to(rows, bits, RowNo(offset)) {
-        Ok(()) => {
-            say::say(b"masked,", output);
-            say::bits(bits, output);
-        }
-        Err(why) => say::refusal(why, output),
-    }
-}
-
-// The offset, and how many bits and rows are read into what is lent for them.
-fn read_mask(s: &[u8], bits: &mut [u8], rows: &mut [u32]) -> Option<(u32, usize, usize)>
-    ensures { IfSome result (λ m. (m.1 ≤ length bits.new) × (m.2 ≤ length rows.new)) }
-{
-    let mut words = Words(s);
-    let offset = script::number(words.next()?)?;
-    let wide = script::bits(words.next()?, bits)?;
-    let count = script::numbers(words.0, rows)?;
-    Some((offset, wide, count.min(rows.len())))
-}
-
-pub fn mask(s: &[u8], scratch: &mut [u8], output: &mut Output) {
-    let mut rows = [0u32; 4097];
-    match read_mask(s, scratch, &mut rows) {
-        Some((offset, wide, count)) => {
-            mask_into(&rows[..count], &mut scratch[..wide], offset, output);
-        }
-        None => say::no_call(output),
+    pub fn mask(mut self, scratch: &mut [u8]) -> Result<(), Refusal> {
+        let mut rows = [0u32; MOST_ROWS];
+        let offset = RowNo(self.number()?);
+        let wide = script::bits(self.word()?, scratch).ok_or(NO_CALL)?;
+        let count = self.numbers(&mut rows)?;
+        delete_vector::apply_to(&rows[..count], &mut scratch[..wide], offset)?;
+        let bits = Digits {
+            width: 1,
+            bytes: &scratch[..wide],
+        };
+        let _ = writeln!(self.output, "masked,{bits}");
+        Ok(())
     }
 }

@@ -1,136 +1,101 @@
 // Calls that append to the file.
-use crate::compactions;
-use crate::compactions::MOST_TAKEN;
-use crate::world::{Host, World};
+use crate::world::{File, Host, World};
+use answers::call::Call;
 use answers::output::Output;
-use answers::say;
-use ids::name::Name;
+use answers::say::NO_CALL;
+use ids::limits::MOST_OPERATIONS;
+use ids::refusal::Refusal;
 use ids::{RowsetNo, TableNo};
 use script::batches;
-use script::words::{Appended, Words};
-use version_manager::{Committed, Created, VersionManager};
+use std::io::Write;
+use version_manager::{Appended, Committed, NewTable, TakenBack};
 
-// What a call leaves: the length of its append is 0 where it is refused, and never else.
-#[derive(Drop)]
-struct Append {
-    manager: VersionManager,
-    length: usize,
-}
+// One more rowset than a compaction may take, so that too many are seen.
+const MOST_TAKEN: usize = MOST_OPERATIONS + 1;
 
-fn no_call(manager: VersionManager, output: &mut Output) -> Append {
-    say::no_call(output);
-    Append { manager, length: 0 }
-}
-
-// A commit's answer by the call's own word.
-fn committed(done: Committed, word: &[u8], output: &mut Output) -> Append {
-    let answer = done.answer;
-    let length = say::committed(word, answer, output);
-    let manager = done.manager;
-    Append { manager, length }
-}
-
-fn commit(manager: VersionManager, s: &[u8], out: &mut [u8], output: &mut Output) -> Append {
-    committed(manager.commit(batches::batch(s), out), b"committed", output)
-}
-
-fn created(done: Created, output: &mut Output) -> Append {
-    let answer = done.answer;
-    let length = say::created(answer, output);
-    let manager = done.manager;
-    Append { manager, length }
-}
-
-fn read_create(s: &[u8]) -> Option<(u32, Name)> {
-    let mut words = Words(s);
-    let shape = script::number(words.next()?)?;
-    Some((shape, script::name(words.0)))
-}
-
-fn create(manager: VersionManager, s: &[u8], out: &mut [u8], output: &mut Output) -> Append {
-    match read_create(s) {
-        Some((shape, name)) => created(manager.create(shape, name, out), output),
-        None => no_call(manager, output),
+// A dash stands for no new rowset.
+fn read_new(s: &[u8]) -> Option<Option<RowsetNo>> {
+    match s {
+        b"-" => Some(None),
+        _ => Some(Some(RowsetNo(script::number(s)?))),
     }
 }
 
-fn drop(manager: VersionManager, s: &[u8], out: &mut [u8], output: &mut Output) -> Append {
-    match script::one(s) {
-        Some(n) => committed(manager.drop(TableNo(n), out), b"dropped", output),
-        None => no_call(manager, output),
-    }
-}
-
-// Of the rowsets that are lent the first so many are taken.
-fn compacted(
-    manager: VersionManager,
-    table: TableNo,
-    new: Option<RowsetNo>,
-    taken: &[u32],
-    n: usize,
-    out: &mut [u8],
-    output: &mut Output,
-) -> Append {
-    let n = n.min(taken.len());
-    committed(
-        manager.compact(table, new, &taken[..n], out),
-        b"compacted",
-        output,
-    )
-}
-
-fn compact_lent(
-    manager: VersionManager,
-    s: &[u8],
-    taken: &mut [u32],
-    out: &mut [u8],
-    output: &mut Output,
-) -> Append {
-    match compactions::read(s, taken) {
-        Some((table, new, n)) => compacted(manager, table, new, taken, n, out, output),
-        None => no_call(manager, output),
-    }
-}
-
-fn compact(manager: VersionManager, s: &[u8], out: &mut [u8], output: &mut Output) -> Append {
-    let mut taken = [0u32; MOST_TAKEN];
-    compact_lent(manager, s, &mut taken, out, output)
-}
-
-fn call(
-    manager: VersionManager,
-    word: Appended,
-    s: &[u8],
-    out: &mut [u8],
-    output: &mut Output,
-) -> Append {
-    match word {
-        Appended::Commit => commit(manager, s, out, output),
-        Appended::Create => create(manager, s, out, output),
-        Appended::Drop => drop(manager, s, out, output),
-        Appended::Compact => compact(manager, s, out, output),
-    }
-}
-
-// The append is written to the file's end.
-pub fn appended(
-    world: World,
-    word: Appended,
-    s: &[u8],
-    room: usize,
-    file: &mut [u8],
-    output: &mut Output,
-) -> World {
-    let manager = world.manager;
-    let len = world.host.len;
+// What is lent behind the file, as far as the room goes.
+fn behind(file: &mut File, len: usize, room: usize) -> &mut [u8] {
     let start = len.min(file.len());
-    let end = start + room.min(file.len() - start);
-    let done = call(manager, word, s, &mut file[start..end], output);
-    let n = done.length;
-    if n == 0 {
-        return world;
+    let n = room.min(file.len() - start);
+    &mut file[start..start + n]
+}
+
+impl World<'_> {
+    // `n` bytes are appended.
+    fn appended(&mut self, n: usize) {
+        let most = self.file.len();
+        let start = self.host.len.min(most);
+        self.host = Host::appended(start, n, most);
     }
-    world
-        .with_manager(done.manager)
-        .with_host(Host::appended(start, n, end))
+
+    // A commit is answered by the call's own word.
+    fn committed(
+        &mut self,
+        word: &str,
+        done: Committed,
+        output: &mut Output,
+    ) -> Result<(), Refusal> {
+        let Appended { epoch, length } = self.taken(done)?;
+        self.appended(length);
+        let _ = writeln!(output, "{word},{epoch},{length}");
+        Ok(())
+    }
+
+    pub fn commit(&mut self, call: Call) -> Result<(), Refusal> {
+        let out = behind(self.file, self.host.len, call.room);
+        let done = self.manager.commit(batches::batch(call.rest), out);
+        self.committed("committed", done, call.output)
+    }
+
+    pub fn create(&mut self, mut call: Call) -> Result<(), Refusal> {
+        let shape = call.number()?;
+        let name = script::name(call.rest);
+        let out = behind(self.file, self.host.len, call.room);
+        let done = self.manager.create(shape, name, out);
+        let NewTable {
+            table,
+            epoch,
+            length,
+        } = self.taken(done)?;
+        self.appended(length);
+        let id = table.0;
+        let _ = writeln!(call.output, "created,{id},{epoch},{length}");
+        Ok(())
+    }
+
+    pub fn drop(&mut self, call: Call) -> Result<(), Refusal> {
+        let table = TableNo(call.one()?);
+        let out = behind(self.file, self.host.len, call.room);
+        let done = self.manager.drop(table, out);
+        self.committed("dropped", done, call.output)
+    }
+
+    pub fn compact(&mut self, mut call: Call) -> Result<(), Refusal> {
+        let mut taken = [0u32; MOST_TAKEN];
+        let table = TableNo(call.number()?);
+        let new = read_new(call.word()?).ok_or(NO_CALL)?;
+        let count = call.numbers(&mut taken)?;
+        let out = behind(self.file, self.host.len, call.room);
+        let done = self.manager.compact(table, new, &taken[..count], out);
+        self.committed("compacted", done, call.output)
+    }
+
+    // The file keeps the bytes that landed, and the append is not cut any more.
+    pub fn report(&mut self, call: Call) -> Result<(), Refusal> {
+        let landed = call.one()?;
+        let done = self.manager.report(self.book, landed);
+        let TakenBack { epoch, manifest } = self.taken(done)?;
+        self.host.cut(landed);
+        self.host = Host::whole(self.host.len);
+        let _ = writeln!(call.output, "reported,{epoch},{manifest}");
+        Ok(())
+    }
 }

@@ -1,129 +1,108 @@
-// Calls that hand a manager back.
-use crate::group;
+// Calls that alter the manager or the pin book, and touch nothing else.
 use crate::world::World;
-use answers::output::Output;
+use answers::call::Call;
+use answers::groups::Grouping;
 use answers::say;
+use answers::say::NO_CALL;
 use ids::TableNo;
 use ids::limits::MOST_HELD;
 use ids::refusal::Refusal;
-use pins::PinBook;
-use script::words::Managed;
+use pinning::Readiness;
+use script::handles;
+use std::io::Write;
+use transaction::MOST_HANDLES;
 use version_manager::{Locked, VersionManager};
 
-pub fn fresh(world: World, s: &[u8], output: &mut Output) -> World {
-    if !say::alone(s, output) {
-        return world;
+// A record has at most 7 bytes.
+const FILE_BYTES: usize = 7 * MOST_HANDLES;
+
+impl World<'_> {
+    pub fn draw(&mut self, call: Call) -> Result<(), Refusal> {
+        let id = match call.rest {
+            b" rowset" => {
+                let done = self.manager.draw_rowset();
+                u64::from(self.taken(done)?.0)
+            }
+            b" vector" => {
+                let done = self.manager.draw_vector();
+                self.taken(done)?.0
+            }
+            _ => return Err(NO_CALL),
+        };
+        let _ = writeln!(call.output, "drawn,{id}");
+        Ok(())
     }
-    say::say(b"fresh\n", output);
-    World::fresh()
-}
 
-fn draw_rowset(manager: VersionManager, output: &mut Output) -> VersionManager {
-    let drawn = manager.draw_rowset();
-    let answer = drawn.answer;
-    say::rowset(answer, output);
-    drawn.manager
-}
-
-fn draw_vector(manager: VersionManager, output: &mut Output) -> VersionManager {
-    let drawn = manager.draw_vector();
-    let answer = drawn.answer;
-    say::vector(answer, output);
-    drawn.manager
-}
-
-fn draw(manager: VersionManager, s: &[u8], output: &mut Output) -> VersionManager {
-    match s {
-        b" rowset" => draw_rowset(manager, output),
-        b" vector" => draw_vector(manager, output),
-        _ => {
-            say::no_call(output);
-            manager
-        }
+    pub fn vacuum(&mut self, call: Call) -> Result<(), Refusal> {
+        call.alone()?;
+        let mut tables = [0u32; MOST_HELD];
+        let mut rowsets = [0u32; MOST_HELD];
+        let n = call.room.min(MOST_HELD);
+        let done = self
+            .manager
+            .vacuum(self.book, &mut tables[..n], &mut rowsets[..n]);
+        let n = self.taken(done)?;
+        say::list("vacuumed", n, tables.iter().zip(&rowsets), call.output);
+        Ok(())
     }
-}
 
-fn vacuumed(answer: Result<usize, Refusal>, tables: &[u32], rowsets: &[u32], output: &mut Output) {
-    match answer {
-        Ok(n) => {
-            say::first(b"vacuumed", n as u64, output);
-            say::pairs(tables, rowsets, n, output);
-        }
-        Err(why) => say::refusal(why, output),
+    // No type says that a closure can be called, so each function that takes one asks for it; a type for that would be no plainer.
+    pub fn with_lock<F: FnOnce(VersionManager, TableNo) -> Locked + Drop>(
+        &mut self,
+        call: Call,
+        step: F,
+        word: &str,
+    ) -> Result<(), Refusal>
+        requires { F.IsAlwaysCallable step }
+    {
+        let table = TableNo(call.one()?);
+        let done = step(self.manager, table);
+        self.taken(done)?;
+        let _ = writeln!(call.output, "{word}");
+        Ok(())
     }
-}
 
-fn vacuum_into(
-    manager: VersionManager,
-    book: PinBook,
-    tables: &mut [u32],
-    rowsets: &mut [u32],
-    output: &mut Output,
-) -> VersionManager {
-    let done = manager.vacuum(book, tables, rowsets);
-    let answer = done.answer;
-    vacuumed(answer, tables, rowsets, output);
-    done.manager
-}
-
-fn vacuum(
-    manager: VersionManager,
-    book: PinBook,
-    s: &[u8],
-    room: usize,
-    output: &mut Output,
-) -> VersionManager {
-    if !say::alone(s, output) {
-        return manager;
+    pub fn group(&mut self, call: Call) -> Result<(), Refusal> {
+        let handles = handles::handles(call.rest).ok_or(NO_CALL)?;
+        let mut rowsets = [0u32; MOST_HANDLES];
+        let mut lengths = [0u32; MOST_HANDLES];
+        let mut counts = [0u32; MOST_HANDLES];
+        let mut files = [0u8; FILE_BYTES];
+        let mut rows = [0u32; MOST_HANDLES];
+        let n = call.room.min(MOST_HANDLES);
+        let bytes = call.room.min(FILE_BYTES);
+        let done = self.manager.group(
+            handles,
+            &mut rowsets[..n],
+            &mut lengths[..n],
+            &mut counts[..n],
+            &mut files[..bytes],
+            &mut rows[..n],
+        );
+        let made = self.taken(done)?;
+        let grouping = Grouping {
+            rowsets: &rowsets,
+            lengths: &lengths,
+            counts: &counts,
+            files: &files,
+            rows: &rows,
+        };
+        grouping.say(made, call.output);
+        Ok(())
     }
-    let mut tables = [0u32; MOST_HELD];
-    let mut rowsets = [0u32; MOST_HELD];
-    let n = room.min(MOST_HELD);
-    vacuum_into(manager, book, &mut tables[..n], &mut rowsets[..n], output)
-}
 
-fn relock<F: FnOnce(VersionManager, TableNo) -> Locked + Drop>(
-    manager: VersionManager,
-    s: &[u8],
-    step: F,
-    word: &[u8],
-    output: &mut Output,
-) -> VersionManager
-    requires { F.IsAlwaysCallable step }
-{
-    match script::one(s) {
-        Some(n) => {
-            let done = step(manager, TableNo(n));
-            let answer = done.answer;
-            say::accepted(word, answer, output);
-            done.manager
-        }
-        None => {
-            say::no_call(output);
-            manager
-        }
+    pub fn pin(&mut self, call: Call) -> Result<(), Refusal> {
+        call.alone()?;
+        let epoch = pinning::pin(self.manager, &mut self.book)?;
+        let _ = writeln!(call.output, "pinned,{epoch}");
+        Ok(())
     }
-}
 
-pub fn managed(
-    manager: VersionManager,
-    book: PinBook,
-    word: Managed,
-    s: &[u8],
-    room: usize,
-    output: &mut Output,
-) -> VersionManager {
-    match word {
-        Managed::Draw => draw(manager, s, output),
-        Managed::Vacuum => vacuum(manager, book, s, room, output),
-        Managed::Lock => relock(manager, s, |m, table| m.lock(table), b"locked\n", output),
-        Managed::Unlock => relock(
-            manager,
-            s,
-            |m, table| m.unlock(table),
-            b"unlocked\n",
-            output,
-        ),
-        Managed::Group => group::group(manager, s, room, output),
+    pub fn unpin(&mut self, call: Call) -> Result<(), Refusal> {
+        let epoch = call.one()?;
+        let Readiness { due, ready } = pinning::unpin(self.manager, &mut self.book, epoch)?;
+        let due = u8::from(due);
+        let _ = writeln!(call.output, "unpinned,{due},{ready}");
+        Ok(())
     }
 }

@@ -1,12 +1,12 @@
 // What stands between two lines: the manager, the pin book, and what the program knows as their host.
+use ids::refusal::Refusal;
 use pins::PinBook;
-use version_manager::VersionManager;
+use version_manager::{Answered, VersionManager};
 
 // Room that is more than any output is lent.
 pub const ENOUGH: usize = usize::MAX;
 
-// The buffers by their arrays: of a slice each function that is lent it has to prove that its length stays. A line, and the file or the one
-// that it replaced.
+// Arrays and not slices: with a slice each function would have to prove that its length stays. One for a line, one for a file.
 pub type Line = [u8; 1048577];
 
 pub type File = [u8; 1114112];
@@ -24,14 +24,19 @@ pub struct Host {
     pub room: usize,
 }
 
-#[derive(Clone, Copy)]
-pub struct World {
+#[derive(Drop)]
+pub struct World<'a> {
     pub manager: VersionManager,
     pub book: PinBook,
     pub host: Host,
+    pub file: &'a mut File,
+    // The file that was replaced.
+    pub old: &'a mut File,
+    // For what a line says in digits or text.
+    pub scratch: &'a mut Line,
 }
 
-// So many places on from `start`, and not past `end`.
+// `n` past `start`, but not past `end`.
 fn place(start: usize, n: usize, end: usize) -> usize {
     start + n.min(end.saturating_sub(start))
 }
@@ -51,87 +56,31 @@ impl Host {
     // Such a file, with the one that it replaced kept.
     pub fn replaced(old: usize, len: usize) -> Host {
         Host {
-            len,
-            start: len,
-            end: len,
             old: Some(old),
-            room: ENOUGH,
+            ..Host::whole(len)
         }
     }
 
-    // So many bytes are appended at `start`, where the buffer goes on to `most`.
+    // `n` bytes are appended at `start`, in a buffer of `most` bytes.
     pub fn appended(start: usize, n: usize, most: usize) -> Host {
         let end = place(start, n, most);
         Host {
-            len: end,
             start,
-            end,
-            old: None,
-            room: ENOUGH,
+            ..Host::whole(end)
         }
     }
 
-    // Of the last append only so many bytes are there.
-    pub fn cut(self, n: usize) -> Host {
-        let len = place(self.start, n, self.end);
-        let mut host = self;
-        host.len = len;
-        host
-    }
-
-    // So many bytes of the last append are there, and it is not cut any more.
-    pub fn reported(self, n: usize) -> Host {
-        let cut = self.cut(n);
-        Host::whole(cut.len)
-    }
-
-    pub fn with_room(self, room: usize) -> Host {
-        let mut host = self;
-        host.room = room;
-        host
+    // Of the last append only the first `n` bytes are there.
+    pub fn cut(&mut self, n: usize) {
+        self.len = place(self.start, n, self.end);
     }
 }
 
-impl World {
-    pub fn fresh() -> World {
-        let opened = VersionManager::fresh();
-        let manager = opened.manager;
-        let book = opened.book;
-        let host = Host::whole(0);
-        World {
-            manager,
-            book,
-            host,
-        }
-    }
-
-    pub fn with_manager(self, manager: VersionManager) -> World {
-        let mut world = self;
-        world.manager = manager;
-        world
-    }
-
-    pub fn with_book(self, book: PinBook) -> World {
-        let mut world = self;
-        world.book = book;
-        world
-    }
-
-    pub fn with_host(self, host: Host) -> World {
-        let mut world = self;
-        world.host = host;
-        world
-    }
-
-    pub fn with_written(self, manager: VersionManager, host: Host) -> World {
-        let mut world = self;
-        world.manager = manager;
-        world.host = host;
-        world
-    }
-
-    pub fn with_room(self, room: usize) -> World {
-        let host = self.host;
-        self.with_host(host.with_room(room))
+impl World<'_> {
+    // The manager that an accepted call hands back takes the place of the old one.
+    pub fn taken<T>(&mut self, done: Answered<T>) -> Result<T, Refusal> {
+        let value = done.answer?;
+        self.manager = done.manager;
+        Ok(value)
     }
 }

@@ -35,12 +35,12 @@ fn show(rt: &impl Print, classes: &ByteClasses, s: &[u8]) -> io::Result<()> {
     }
 }
 
+// A function over lines for both programs would take the table and what is shown, and be no plainer.
 fn show_all(rt: &impl Print, s: &[u8]) -> io::Result<()> {
     let classes = ByteClasses::new();
-    for line in s.split_inclusive(|b| *b == b'\n') {
-        if let Some(line) = line.strip_suffix(b"\n") {
-            show(rt, &classes, line)?;
-        }
+    let lines = s.split_inclusive(|b| *b == b'\n');
+    for line in lines.filter_map(|line| line.strip_suffix(b"\n")) {
+        show(rt, &classes, line)?;
     }
     Ok(())
 }
@@ -48,35 +48,31 @@ fn show_all(rt: &impl Print, s: &[u8]) -> io::Result<()> {
 // A create with the first `len` of as many bytes `a` as a name may have.
 fn create(table: u32, len: usize) -> EpochOp {
     let name = Name {
-        bytes: [97u8; LONGEST_NAME],
+        bytes: [b'a'; LONGEST_NAME],
         len,
     };
-    EpochOp::CreateTable(TableNo(table), 4294967295, name)
+    EpochOp::CreateTable(TableNo(table), u32::MAX, name)
 }
 
 fn show_changes(rt: &impl Print) -> io::Result<()> {
-    show_change(rt, create(4294967294, LONGEST_NAME))?;
-    show_change(rt, create(4294967294, LONGEST_NAME + 1))?;
-    show_change(rt, create(4294967294, 0))?;
-    show_change(rt, create(4294967295, 1))?;
-    show_change(rt, EpochOp::DropTable(TableNo(4294967295)))?;
-    show_change(rt, EpochOp::AddRowSet(TableNo(0), RowsetNo(4294967295)))?;
-    show_change(rt, EpochOp::DeleteRowSet(TableNo(4294967295), RowsetNo(0)))?;
+    show_change(rt, create(u32::MAX - 1, LONGEST_NAME))?;
+    show_change(rt, create(u32::MAX - 1, LONGEST_NAME + 1))?;
+    show_change(rt, create(u32::MAX - 1, 0))?;
+    show_change(rt, create(u32::MAX, 1))?;
+    show_change(rt, EpochOp::DropTable(TableNo(u32::MAX)))?;
+    show_change(rt, EpochOp::AddRowSet(TableNo(0), RowsetNo(u32::MAX)))?;
+    show_change(rt, EpochOp::DeleteRowSet(TableNo(u32::MAX), RowsetNo(0)))?;
     show_change(
         rt,
-        EpochOp::AddDV(TableNo(1), RowsetNo(2), VectorNo(18446744073709551615)),
+        EpochOp::AddDV(TableNo(1), RowsetNo(2), VectorNo(u64::MAX)),
     )?;
     show_change(
         rt,
-        EpochOp::DeleteDV(TableNo(1), RowsetNo(4294967295), VectorNo(3)),
+        EpochOp::DeleteDV(TableNo(1), RowsetNo(u32::MAX), VectorNo(3)),
     )?;
     show_change(
         rt,
-        EpochOp::NextIds(
-            TableNo(4294967295),
-            RowsetNo(4294967295),
-            VectorNo(18446744073709551615),
-        ),
+        EpochOp::NextIds(TableNo(u32::MAX), RowsetNo(u32::MAX), VectorNo(u64::MAX)),
     )
 }
 
@@ -87,8 +83,5 @@ fn run(rt: &impl Print, s: &[u8]) -> io::Result<()> {
 
 fn main(rt: HostRuntime) -> Status {
     let mut buffer = [0u8; 4096];
-    match status::read_all(&mut rt.stdin(), &mut buffer) {
-        Ok(n) => status::printed(&rt, run(&rt, &buffer[..n])),
-        Err(_) => status::unreadable(&rt),
-    }
+    status::answered(&rt, &mut rt.stdin(), &mut buffer, |s| run(&rt, s))
 }

@@ -29,6 +29,7 @@ fn reopen(rt: &(impl Print + Eprint), src: &[u8], out: &mut [u8]) -> Status {
     }
 }
 
+// Not `status::answered`: a manifest that is refused has an exit status of its own, so that it would be no plainer.
 fn main(rt: HostRuntime) -> Status {
     // One byte more than a manifest may have: of a longer one enough is read to be refused.
     let mut src = [0u8; LONGEST_MANIFEST + 1];

@@ -21,9 +21,10 @@ pub fn cut_word(s: &[u8]) -> (&[u8], &[u8])
     s.split_at(end)
 }
 
-// The place after the last newline before a place, or 0.
-pub fn last_line(s: &[u8], to: usize) -> usize {
-    let s = &s[..to.min(s.len())];
+// The place after the last newline, or 0.
+pub fn last_line(s: &[u8]) -> usize
+    ensures { result ≤ length s.now }
+{
     s.iter().rposition(|b| *b == b'\n').map_or(0, |i| i + 1)
 }
 
@@ -53,7 +54,7 @@ where
     number(s.strip_prefix(b" ")?)
 }
 
-// All after a blank as a table's name. Where that is too long it is no name, and the empty one is none either.
+// All after a blank, as a table's name; the empty name, which is refused, where it is too long.
 pub fn name(s: &[u8]) -> Name {
     match s {
         [_, name @ ..] if name.len() <= LONGEST_NAME => Name::of(name),
@@ -61,8 +62,8 @@ pub fn name(s: &[u8]) -> Name {
     }
 }
 
-// Puts a number at its place. The last place stands for all that come after it too: it holds the last of them where they rise, and else
-// what is no id. So of more ids than a call takes it can still be seen whether they all are ids that rise.
+// Puts `n` at place `k`. Numbers past the end share the last place: it has the newest while they rise, and else the largest value, which is no id. So
+// a call that gets too many ids still sees whether they rise.
 fn put(out: &mut [u32], k: usize, n: u32) {
     if k < out.len() {
         out[k] = n;
@@ -71,14 +72,8 @@ fn put(out: &mut [u32], k: usize, n: u32) {
     }
 }
 
-// Puts a size at its place, unless there are more sizes than places.
-fn put_size(out: &mut [u64], k: usize, size: u64) {
-    if k < out.len() {
-        out[k] = size;
-    }
-}
-
-// A blank before each word, and every word a number, which is put where it belongs: how many there are.
+// A blank before each word, and every word a number, which is put where it belongs: how many there are. No type says that a closure can be called, so
+// each function that takes one asks for it; a type for that would be no plainer.
 fn each<T: TryFrom<u64>, F: FnMut(usize, T)>(s: &[u8], mut put: F) -> Option<usize>
 where
     T::Error: Drop,
@@ -96,9 +91,13 @@ pub fn numbers(s: &[u8], out: &mut [u32]) -> Option<usize> {
     each(s, |k, n| put(out, k, n))
 }
 
-// 64-bit numbers.
+// 64-bit numbers. Those that come after the last place are counted and not kept.
 pub fn sizes(s: &[u8], out: &mut [u64]) -> Option<usize> {
-    each(s, |k, n| put_size(out, k, n))
+    each(s, |k, n| {
+        if let Some(place) = out.get_mut(k) {
+            *place = n;
+        }
+    })
 }
 
 // The byte that two hex digits say.
@@ -108,10 +107,20 @@ fn hex_byte(high: u8, low: u8) -> Option<u8> {
     u8::try_from(16 * high + low).ok()
 }
 
-// Two hex digits a byte.
-fn hex_run(s: &[u8], out: &mut [u8]) -> Option<usize>
+// A run as it is written: at least one byte, and a dash where it is empty.
+fn run(s: &[u8]) -> Option<&[u8]> {
+    match s {
+        b"" => None,
+        b"-" => Some(b""),
+        _ => Some(s),
+    }
+}
+
+// A run of bytes, two hex digits each.
+pub fn hex(s: &[u8], out: &mut [u8]) -> Option<usize>
     ensures { IfSome result (λ n. n ≤ length out.new) }
 {
+    let s = run(s)?;
     if s.len() % 2 != 0 {
         return None;
     }
@@ -122,44 +131,19 @@ fn hex_run(s: &[u8], out: &mut [u8]) -> Option<usize>
     Some(n)
 }
 
-// A run of bytes in hex digits, or a dash for none.
-pub fn hex(s: &[u8], out: &mut [u8]) -> Option<usize>
-    ensures { IfSome result (λ n. n ≤ length out.new) }
-{
-    match s {
-        b"" => None,
-        b"-" => Some(0),
-        _ => hex_run(s, out),
-    }
-}
-
 fn bit(digit: u8) -> Option<u8> {
-    match digit {
-        b'0' => Some(0),
-        b'1' => Some(1),
-        _ => None,
-    }
+    u8::try_from(char::from(digit).to_digit(2)?).ok()
 }
 
-// 0 and 1 by their digits.
-fn bit_run(s: &[u8], out: &mut [u8]) -> Option<usize>
+// A run of bits, one byte a bit.
+pub fn bits(s: &[u8], out: &mut [u8]) -> Option<usize>
     ensures { IfSome result (λ n. n ≤ length out.new) }
 {
+    let s = run(s)?;
     for (place, digit) in out.get_mut(..s.len())?.iter_mut().zip(s) {
         *place = bit(*digit)?;
     }
     Some(s.len())
-}
-
-// A run of bits, one byte a bit, or a dash for none.
-pub fn bits(s: &[u8], out: &mut [u8]) -> Option<usize>
-    ensures { IfSome result (λ n. n ≤ length out.new) }
-{
-    match s {
-        b"" => None,
-        b"-" => Some(0),
-        _ => bit_run(s, out),
-    }
 }
 
 // The byte that a text begins with, of which `\n` and `\xHH` stand for one each, and what comes after it.
@@ -174,11 +158,12 @@ fn first_byte(s: &[u8]) -> Option<(u8, &[u8])>
     }
 }
 
-fn text_run(s: &[u8], out: &mut [u8]) -> Option<usize>
+// The bytes that a text with `\n` and `\xHH` in it stands for.
+// A turn takes one, two or four bytes, or refuses them all: an iterator would be no plainer.
+pub fn written(s: &[u8], out: &mut [u8]) -> Option<usize>
     ensures { IfSome result (λ n. n ≤ length out.new) }
 {
-    // No iterator: a turn takes one, two or four bytes, or refuses them all.
-    let mut rest = s;
+    let mut rest = run(s)?;
     let mut k: usize = 0;
     while !rest.is_empty() {
         let (b, after) = first_byte(rest)?;
@@ -189,37 +174,12 @@ fn text_run(s: &[u8], out: &mut [u8]) -> Option<usize>
     Some(k)
 }
 
-// The bytes that a text with `\n` and `\xHH` in it stands for, or a dash for none.
-pub fn written(s: &[u8], out: &mut [u8]) -> Option<usize>
-    ensures { IfSome result (λ n. n ≤ length out.new) }
-{
-    match s {
-        b"" => None,
-        b"-" => Some(0),
-        _ => text_run(s, out),
-    }
-}
-
-// What stands from one place to another is moved to the front; how much that is.
+// Moves `s[from..to]` to the front; answers its length.
 pub fn shift(s: &mut [u8], from: usize, to: usize) -> usize {
     let to = to.min(s.len());
     let from = from.min(to);
     s.copy_within(from..to, 0);
     to - from
-}
-
-// Bytes that fill the buffer become a remark's first; how many are there then.
-pub fn shortened(s: &mut [u8], have: usize) -> usize {
-    if have < s.len() {
-        return have;
-    }
-    match s.first_mut() {
-        Some(b) => {
-            *b = b'#';
-            1
-        }
-        None => 0,
-    }
 }
 
 // The front of one buffer becomes a copy of another, as far as it goes.

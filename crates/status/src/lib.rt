@@ -1,10 +1,10 @@
 // How a program ended, as its exit status, and input and output that may fail.
 #![tactic(auto)]
 
-ghost use Rattle.std.specs.Prelude.{◌≡◌, ◌≤◌, IfOk, OnErr, OnOk, length};
+ghost use Rattle.std.specs.Prelude.{◌≡◌, ◌≢◌, ◌≤◌, IfOk, OnErr, OnOk, length};
 ghost use Rattle.std.specs.Process.{exit_status};
 ghost use Rattle.status.specs.Code.{code};
-ghost use Rattle.status.specs.declared.Status.TheVariants.{Done, Failed};
+ghost use Rattle.status.specs.declared.Status.TheVariants.{Done, Refused, Failed};
 
 use std::io;
 use std::io::{ErrorKind, Read};
@@ -27,6 +27,7 @@ impl Termination for Status {
     }
 }
 
+// A function for each text, so that all programs print the same: with the text as a parameter it would be no plainer.
 pub fn unreadable(rt: &impl Eprint) -> Status
     ensures { result ≡ Failed }
 {
@@ -34,6 +35,7 @@ pub fn unreadable(rt: &impl Eprint) -> Status
     Status::Failed
 }
 
+// As above: with the text as a parameter it would be no plainer.
 pub fn unwritable(rt: &impl Eprint) -> Status
     ensures { result ≡ Failed }
 {
@@ -52,7 +54,8 @@ pub fn printed(rt: &impl Eprint, all: io::Result<()>) -> Status
     }
 }
 
-// One read into the buffer behind what fills it: how much of it is filled then.
+// Reads once into the buffer, after its first `filled` bytes; answers how many are filled then. The whole buffer is lent, since the answer counts
+// what was there: its rest alone would be no plainer.
 pub fn read(from: &mut impl Read, buf: &mut [u8], filled: usize) -> io::Result<usize>
     ensures { IfOk result (λ n. n ≤ length buf.new) }
 {
@@ -68,6 +71,7 @@ pub fn read_all(from: &mut impl Read, buf: &mut [u8]) -> io::Result<usize>
     ensures { IfOk result (λ n. n ≤ length buf.new) }
 {
     let mut filled: usize = 0;
+    // No `read_to_end`, which asks for memory, and there is no heap, nor `read_exact`, which does not say how much there was.
     while filled < buf.len() {
         let n = read(from, buf, filled)?;
         if n <= filled {
@@ -76,4 +80,21 @@ pub fn read_all(from: &mut impl Read, buf: &mut [u8]) -> io::Result<usize>
         filled = n;
     }
     Ok(filled)
+}
+
+// What a program that refuses nothing answers to its input, as much of it as the buffer holds.
+// That a closure can be called is asked for, as no type says so, and one of its own would be no plainer.
+pub fn answered<F: FnOnce(&[u8]) -> io::Result<()> + Drop>(
+    rt: &impl Eprint,
+    from: &mut impl Read,
+    buf: &mut [u8],
+    run: F,
+) -> Status
+    requires { F.IsAlwaysCallable run }
+    ensures { result ≢ Refused }
+{
+    match read_all(from, buf) {
+        Ok(n) => printed(rt, run(&buf[..n])),
+        Err(_) => unreadable(rt),
+    }
 }

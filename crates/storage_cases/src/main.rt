@@ -12,141 +12,117 @@ use text::ByteClasses;
 
 mod answers;
 
-#[derive(Clone, Copy)]
-enum Kind {
-    Plain,
-    Torn,
+// The case that is being read, and its manifest.
+#[derive(Drop)]
+struct Reading<'a> {
+    // None before the first one.
+    case: Option<Case>,
+    // The manifest's bytes, as many as were read.
+    src: &'a mut [u8],
+    read: usize,
 }
 
-// The case that is being read.
+// Two kinds of case, and no answer beside a refusal, so that a Result would be no plainer.
 #[derive(Clone, Copy)]
-struct Case {
-    // None before the first one.
-    kind: Option<Kind>,
-    // How many bytes its manifest has, and had when the append began.
-    count: usize,
-    before: usize,
-    room: usize,
+enum Case {
+    // A reopen, lent so many bytes of output.
+    Plain(usize),
+    // A torn append: how many bytes the manifest had when it began.
+    Torn(usize),
+}
+
+fn number(s: &[u8]) -> usize {
+    ByteClasses::new()
+        .read_number(s, 0, LONGEST_REWRITTEN as u64)
+        .map_or(0, |(n, _)| n as usize)
 }
 
 // The number after `@`, where there is one.
 fn room(s: &[u8]) -> usize {
-    match s.iter().position(|b| *b == b'@') {
-        Some(i) => number(s, i + 1),
-        None => LONGEST_REWRITTEN,
-    }
+    s.split(|b| *b == b'@')
+        .nth(1)
+        .map_or(LONGEST_REWRITTEN, number)
 }
 
-fn number(s: &[u8], at: usize) -> usize {
-    match ByteClasses::new().read_number(s, at, LONGEST_REWRITTEN as u64) {
-        Some((n, _)) => n as usize,
-        None => 0,
-    }
-}
-
-// What does not fit is left out.
-fn put(src: &mut [u8], at: usize, s: &[u8]) -> usize {
-    match src.get_mut(at..) {
-        Some(rest) => {
+impl Reading<'_> {
+    // What does not fit is left out.
+    fn put(&mut self, s: &[u8]) {
+        if let Some(rest) = self.src.get_mut(self.read..) {
             let n = s.len().min(rest.len());
             rest[..n].copy_from_slice(&s[..n]);
-            at + n
-        }
-        None => at,
-    }
-}
-
-fn put_line(src: &mut [u8], at: usize, s: &[u8]) -> usize {
-    match s.iter().position(|b| *b == b'~') {
-        Some(end) => put(src, at, &s[..end]),
-        None => {
-            let at = put(src, at, s);
-            put(src, at, b"\n")
+            self.read += n;
         }
     }
-}
 
-fn put_lines(src: &mut [u8], at: usize, s: &[u8], times: u64) -> usize {
-    let mut at = at;
-    for _ in 0..times {
-        at = put_line(src, at, s);
-    }
-    at
-}
-
-// `*N,line`.
-fn repeated(src: &mut [u8], at: usize, s: &[u8]) -> usize {
-    match ByteClasses::new().read_number(s, 1, 65537) {
-        Some((n, i)) if i < s.len() => put_lines(src, at, &s[i + 1..], n),
-        _ => at,
-    }
-}
-
-fn finish(rt: &impl Print, case: Case, src: &[u8]) -> io::Result<()> {
-    let n = case.count.min(src.len());
-    match case.kind {
-        Some(Kind::Plain) => answers::plain(rt, &src[..n], case.room),
-        Some(Kind::Torn) => answers::torn(rt, &src[..n], case.before),
-        None => Ok(()),
-    }
-}
-
-fn begin(rt: &impl Print, kind: Kind, s: &[u8]) -> io::Result<Case> {
-    answers::say(rt, s)?;
-    answers::say(rt, b": ")?;
-    Ok(Case {
-        kind: Some(kind),
-        count: 0,
-        before: 0,
-        room: room(s),
-    })
-}
-
-fn line(rt: &impl Print, case: Case, s: &[u8], src: &mut [u8]) -> io::Result<Case> {
-    match s {
-        b"#" | b"%" => Ok(Case {
-            before: case.count,
-            ..case
-        }),
-        [b'#', label @ ..] => {
-            finish(rt, case, src)?;
-            begin(rt, Kind::Plain, label)
+    fn put_line(&mut self, s: &[u8]) {
+        match s.iter().position(|b| *b == b'~') {
+            Some(end) => self.put(&s[..end]),
+            None => {
+                self.put(s);
+                self.put(b"\n");
+            }
         }
-        [b'%', label @ ..] => {
-            finish(rt, case, src)?;
-            begin(rt, Kind::Torn, label)
+    }
+
+    // `N,line`.
+    fn repeat(&mut self, s: &[u8]) {
+        if let Some((times, i)) = ByteClasses::new().read_number(s, 0, 65537)
+            && let Some((_, s)) = s[i.min(s.len())..].split_first()
+        {
+            for _ in 0..times {
+                self.put_line(s);
+            }
         }
-        [b'*', ..] => Ok(Case {
-            count: repeated(src, case.count, s),
-            ..case
-        }),
-        _ => Ok(Case {
-            count: put_line(src, case.count, s),
-            ..case
-        }),
+    }
+
+    fn finish(&self, rt: &impl Print) -> io::Result<()> {
+        let src = &self.src[..self.read.min(self.src.len())];
+        match self.case {
+            Some(Case::Plain(room)) => answers::plain(rt, src, room),
+            Some(Case::Torn(before)) => answers::torn(rt, src, before),
+            None => Ok(()),
+        }
+    }
+
+    fn begin(&mut self, rt: &impl Print, case: Case, label: &[u8]) -> io::Result<()> {
+        self.finish(rt)?;
+        self.case = Some(case);
+        self.read = 0;
+        rt.write_all(label)?;
+        print!(rt; ": ")
+    }
+
+    fn line(&mut self, rt: &impl Print, s: &[u8]) -> io::Result<()> {
+        match s {
+            b"#" | b"%" => {
+                if let Some(Case::Torn(before)) = &mut self.case {
+                    *before = self.read;
+                }
+            }
+            [b'#', label @ ..] => self.begin(rt, Case::Plain(room(label)), label)?,
+            [b'%', label @ ..] => self.begin(rt, Case::Torn(0), label)?,
+            [b'*', s @ ..] => self.repeat(s),
+            _ => self.put_line(s),
+        }
+        Ok(())
     }
 }
 
 fn run(rt: &impl Print, s: &[u8], src: &mut [u8]) -> io::Result<()> {
-    let mut case = Case {
-        kind: None,
-        count: 0,
-        before: 0,
-        room: 0,
+    let mut reading = Reading {
+        case: None,
+        src,
+        read: 0,
     };
-    for s in s.split_inclusive(|b| *b == b'\n') {
-        if let Some(s) = s.strip_suffix(b"\n") {
-            case = line(rt, case, s, src)?;
-        }
+    let lines = s.split_inclusive(|b| *b == b'\n');
+    for line in lines.filter_map(|line| line.strip_suffix(b"\n")) {
+        reading.line(rt, line)?;
     }
-    finish(rt, case, src)
+    reading.finish(rt)
 }
 
 fn main(rt: HostRuntime) -> Status {
     let mut buffer = [0u8; 131072];
     let mut src = [0u8; 65540];
-    match status::read_all(&mut rt.stdin(), &mut buffer) {
-        Ok(n) => status::printed(&rt, run(&rt, &buffer[..n], &mut src)),
-        Err(_) => status::unreadable(&rt),
-    }
+    status::answered(&rt, &mut rt.stdin(), &mut buffer, |s| run(&rt, s, &mut src))
 }

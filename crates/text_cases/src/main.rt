@@ -39,20 +39,17 @@ fn show(rt: &impl Print, classes: &ByteClasses, s: &[u8]) -> io::Result<()> {
     }
 }
 
+// A function over lines for both programs would take the table and what is shown, and be no plainer.
 fn show_all(rt: &impl Print, s: &[u8]) -> io::Result<()> {
     let classes = ByteClasses::new();
-    for line in s.split_inclusive(|b| *b == b'\n') {
-        if let Some(line) = line.strip_suffix(b"\n") {
-            show(rt, &classes, line)?;
-        }
+    let lines = s.split_inclusive(|b| *b == b'\n');
+    for line in lines.filter_map(|line| line.strip_suffix(b"\n")) {
+        show(rt, &classes, line)?;
     }
     Ok(())
 }
 
 fn main(rt: HostRuntime) -> Status {
     let mut buffer = [0u8; 4096];
-    match status::read_all(&mut rt.stdin(), &mut buffer) {
-        Ok(n) => status::printed(&rt, show_all(&rt, &buffer[..n])),
-        Err(_) => status::unreadable(&rt),
-    }
+    status::answered(&rt, &mut rt.stdin(), &mut buffer, |s| show_all(&rt, s))
 }

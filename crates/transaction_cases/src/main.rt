@@ -13,32 +13,40 @@ use version_manager::{NewVectors, VersionManager};
 // The most bytes that files of all handles have.
 const MOST_BYTES: usize = 28672;
 
-fn say(rt: &impl Print, s: &str) -> io::Result<()> {
-    print!(rt; "{s}")
+// What is lent: numbers, or bytes, which are printed in hexadecimal. The lines differ in the format, which cannot be a parameter.
+trait Item: Copy {
+    // In a slice of at most `FEW` each item is printed.
+    const FEW: usize;
+
+    fn show(self, rt: &impl Print) -> io::Result<()>;
+
+    fn wide(self) -> u64;
 }
 
-fn number(rt: &impl Print, word: &str, n: u64) -> io::Result<()> {
-    print!(rt; "{word}{n}")
-}
+// The format differs, so a shared `show` would be no plainer.
+impl Item for u32 {
+    const FEW: usize = 8;
 
-fn refused(rt: &impl Print, why: Refusal) -> io::Result<()> {
-    number(rt, " refused ", u64::from(why.number()))?;
-    number(rt, " place ", why.place() as u64)
-}
+    fn show(self, rt: &impl Print) -> io::Result<()> {
+        print!(rt; " {self}")
+    }
 
-fn answer(rt: &impl Print, answer: Result<NewVectors, Refusal>) -> io::Result<()> {
-    match answer {
-        Ok(NewVectors { count, first }) => {
-            number(rt, " vectors ", count as u64)?;
-            number(rt, " first ", first.0)
-        }
-        Err(why) => refused(rt, why),
+    fn wide(self) -> u64 {
+        u64::from(self)
     }
 }
 
-fn next_of(rt: &impl Print, manager: &VersionManager) -> io::Result<()> {
-    number(rt, "; next ", manager.inner.next.vector.0)?;
-    say(rt, "\n")
+// As above: a shared `show` would be no plainer.
+impl Item for u8 {
+    const FEW: usize = 24;
+
+    fn show(self, rt: &impl Print) -> io::Result<()> {
+        print!(rt; " {self:02x}")
+    }
+
+    fn wide(self) -> u64 {
+        u64::from(self)
+    }
 }
 
 // One number for all that came before and one more.
@@ -46,28 +54,24 @@ fn mixed(sum: u64, x: u64) -> u64 {
     (sum % 1000003 * 31 + x % 1000003 + 1) % 1000003
 }
 
-fn numbers(rt: &impl Print, word: &str, s: &[u32]) -> io::Result<()> {
-    say(rt, word)?;
+fn items<T: Item>(rt: &impl Print, word: &str, s: &[T]) -> io::Result<()> {
+    print!(rt; " {word}")?;
     let mut sum: u64 = 0;
     for x in s {
-        if s.len() <= 8 {
-            number(rt, " ", u64::from(*x))?;
+        if s.len() <= T::FEW {
+            x.show(rt)?;
         }
-        sum = mixed(sum, u64::from(*x));
+        sum = mixed(sum, x.wide());
     }
-    number(rt, " =", sum)
+    print!(rt; " ={sum}")
 }
 
-fn bytes(rt: &impl Print, word: &str, s: &[u8]) -> io::Result<()> {
-    say(rt, word)?;
-    let mut sum: u64 = 0;
-    for x in s {
-        if s.len() <= 24 {
-            print!(rt; " {x:02x}")?;
-        }
-        sum = mixed(sum, u64::from(*x));
+// Each program prints its own words; a shared function would take all of them, and be no plainer.
+fn answer(rt: &impl Print, answer: Result<NewVectors, Refusal>) -> io::Result<()> {
+    match answer {
+        Ok(NewVectors { count, first }) => print!(rt; " vectors {count} first {}", first.0),
+        Err(why) => print!(rt; " refused {} place {}", why.number(), why.place()),
     }
-    number(rt, " =", sum)
 }
 
 // How many places are lent of each slice.
@@ -80,27 +84,8 @@ struct Room {
     rows: usize,
 }
 
-fn called(
-    rt: &impl Print,
-    manager: VersionManager,
-    handles: Handles,
-    rs: &mut [u32],
-    ls: &mut [u32],
-    cs: &mut [u32],
-    fs: &mut [u8],
-    ms: &mut [u32],
-) -> io::Result<()> {
-    let done = manager.group(handles, rs, ls, cs, fs, ms);
-    answer(rt, done.answer)?;
-    next_of(rt, &done.manager)?;
-    numbers(rt, "  rowsets", rs)?;
-    numbers(rt, " lengths", ls)?;
-    numbers(rt, " counts", cs)?;
-    bytes(rt, " files", fs)?;
-    numbers(rt, " rows", ms)?;
-    say(rt, "\n")
-}
-
+// Word by word, since the slices are of two types: one format of them all would need a type for each, and be
+// no plainer.
 fn group(
     rt: &impl Print,
     word: &str,
@@ -108,41 +93,38 @@ fn group(
     handles: Handles,
     room: Room,
 ) -> io::Result<()> {
-    say(rt, word)?;
     let mut rs = [77u32; MOST_HANDLES];
     let mut ls = [78u32; MOST_HANDLES];
     let mut cs = [79u32; MOST_HANDLES];
     let mut fs = [0xaau8; MOST_BYTES];
     let mut ms = [80u32; MOST_HANDLES];
-    let a = room.vectors.min(MOST_HANDLES);
-    let b = room.lengths.min(MOST_HANDLES);
-    let c = room.counts.min(MOST_HANDLES);
-    let d = room.bytes.min(MOST_BYTES);
-    let e = room.rows.min(MOST_HANDLES);
-    called(
-        rt,
-        manager,
-        handles,
-        &mut rs[..a],
-        &mut ls[..b],
-        &mut cs[..c],
-        &mut fs[..d],
-        &mut ms[..e],
-    )
+    let rs = &mut rs[..room.vectors.min(MOST_HANDLES)];
+    let ls = &mut ls[..room.lengths.min(MOST_HANDLES)];
+    let cs = &mut cs[..room.counts.min(MOST_HANDLES)];
+    let fs = &mut fs[..room.bytes.min(MOST_BYTES)];
+    let ms = &mut ms[..room.rows.min(MOST_HANDLES)];
+    let done = manager.group(handles, rs, ls, cs, fs, ms);
+    print!(rt; "{word}")?;
+    answer(rt, done.answer)?;
+    println!(rt; "; next {}", done.manager.inner.next.vector.0)?;
+    items(rt, " rowsets", rs)?;
+    items(rt, "lengths", ls)?;
+    items(rt, "counts", cs)?;
+    items(rt, "files", fs)?;
+    items(rt, "rows", ms)?;
+    println!(rt;)
 }
 
 // A fresh manager whose next vector id is given.
 fn drawn(next: u64) -> VersionManager {
-    let opened = VersionManager::fresh();
-    let mut manager = opened.manager;
+    let mut manager = VersionManager::fresh().manager;
     manager.inner.next.vector = VectorNo(next);
     manager
 }
 
 // One that 29 refuses: its manifest is too long.
 fn beyond() -> VersionManager {
-    let opened = VersionManager::fresh();
-    let mut manager = opened.manager;
+    let mut manager = VersionManager::fresh().manager;
     manager.inner.manifest = 65537;
     manager
 }
@@ -151,26 +133,31 @@ fn handle(rowset: u32, row: u32) -> SecondaryRowHandler {
     SecondaryRowHandler(RowsetNo(rowset), RowNo(row))
 }
 
-// Handles of rowsets and rows; the count is what the call says.
-fn listed(pairs: &[(u32, u32)], count: usize) -> Handles {
+// Handles of rowsets and rows.
+fn listed(pairs: &[(u32, u32)]) -> Handles {
     let mut items = [handle(0, 0); MOST_HANDLES];
     for (item, (rowset, row)) in items.iter_mut().zip(pairs) {
         *item = handle(*rowset, *row);
     }
-    Handles { items, count }
+    Handles {
+        items,
+        count: pairs.len(),
+    }
+}
+
+// The first of them alone.
+fn first(count: usize, handles: Handles) -> Handles {
+    Handles { count, ..handles }
 }
 
 // Handle i is of rowset i * 7919 modulo `rowsets`, and of row i * 31 modulo `rows`.
 fn spread(rowsets: u32, rows: u32, count: usize) -> Handles {
     let mut items = [handle(0, 0); MOST_HANDLES];
-    if rowsets == 0 {
-        return Handles { items, count };
-    }
-    if rows == 0 {
-        return Handles { items, count };
-    }
-    for i in 0..4096u32 {
-        items[i as usize] = handle(i * 7919 % rowsets, i * 31 % rows);
+    for (item, i) in items.iter_mut().zip(0u32..4096) {
+        *item = handle(
+            i.wrapping_mul(7919) % rowsets.max(1),
+            i.wrapping_mul(31) % rows.max(1),
+        );
     }
     Handles { items, count }
 }
@@ -192,11 +179,11 @@ fn whole() -> Room {
 // Two rowsets, out of order and with repeats: two vectors of 17 bytes and 4 rows.
 fn mixed_handles() -> Handles {
     let pairs = [(5, 3), (2, 128), (5, 0), (5, 3), (2, 1), (5, 3)];
-    listed(&pairs, 6)
+    listed(&pairs)
 }
 
 fn none() -> Handles {
-    listed(&[], 0)
+    listed(&[])
 }
 
 fn small(rt: &impl Print) -> io::Result<()> {
@@ -209,8 +196,8 @@ fn small(rt: &impl Print) -> io::Result<()> {
         none(),
         lent(1, 1, 1),
     )?;
-    let one = [(9, 4294967295)];
-    let single = listed(&one, 1);
+    let one = [(9, u32::MAX)];
+    let single = listed(&one);
     group(rt, "one:", drawn(0), single, lent(2, 8, 2))?;
     group(rt, "mixed:", drawn(40), mixed_handles(), lent(3, 20, 5))?;
     group(
@@ -220,40 +207,28 @@ fn small(rt: &impl Print) -> io::Result<()> {
         mixed_handles(),
         lent(2, 17, 4),
     )?;
-    let pairs = [(5, 3), (2, 128), (5, 0), (5, 3), (2, 1), (5, 3)];
     group(
         rt,
         "first four:",
         drawn(40),
-        listed(&pairs, 4),
+        first(4, mixed_handles()),
         lent(3, 20, 5),
     )
 }
 
 fn short(rt: &impl Print) -> io::Result<()> {
+    let exact = lent(2, 17, 4);
     let a = Room {
         vectors: 1,
-        lengths: 2,
-        counts: 2,
-        bytes: 17,
-        rows: 4,
+        ..exact
     };
     group(rt, "rowsets short:", drawn(40), mixed_handles(), a)?;
     let b = Room {
-        vectors: 2,
         lengths: 1,
-        counts: 2,
-        bytes: 17,
-        rows: 4,
+        ..exact
     };
     group(rt, "lengths short:", drawn(40), mixed_handles(), b)?;
-    let c = Room {
-        vectors: 2,
-        lengths: 2,
-        counts: 1,
-        bytes: 17,
-        rows: 4,
-    };
+    let c = Room { counts: 1, ..exact };
     group(rt, "counts short:", drawn(40), mixed_handles(), c)?;
     group(
         rt,
@@ -292,14 +267,14 @@ fn used_up(rt: &impl Print) -> io::Result<()> {
         rt,
         "last one:",
         drawn(LARGEST_64 - 1),
-        listed(&one, 1),
+        listed(&one),
         lent(1, 3, 1),
     )?;
     group(
         rt,
         "none left:",
         drawn(LARGEST_64),
-        listed(&one, 1),
+        listed(&one),
         lent(1, 3, 1),
     )
 }
@@ -307,28 +282,21 @@ fn used_up(rt: &impl Print) -> io::Result<()> {
 // 2: the largest value is no rowset; it may stand past the count, and may be a row.
 fn malformed(rt: &impl Print) -> io::Result<()> {
     let last = [(LARGEST_32 - 1, LARGEST_32), (3, 1)];
-    group(
-        rt,
-        "last rowset:",
-        drawn(0),
-        listed(&last, 2),
-        lent(2, 12, 2),
-    )?;
+    group(rt, "last rowset:", drawn(0), listed(&last), lent(2, 12, 2))?;
     let bad = [(3, 1), (LARGEST_32, 1)];
-    group(rt, "no rowset:", drawn(0), listed(&bad, 2), lent(2, 12, 2))?;
+    group(rt, "no rowset:", drawn(0), listed(&bad), lent(2, 12, 2))?;
     group(
         rt,
         "past the count:",
         drawn(0),
-        listed(&bad, 1),
+        first(1, listed(&bad)),
         lent(2, 12, 2),
     )
 }
 
-fn with_bad(handles: Handles) -> Handles {
-    let mut h = handles;
-    h.items[4095] = handle(LARGEST_32, 0);
-    h
+fn with_bad(mut handles: Handles) -> Handles {
+    handles.items[4095] = handle(LARGEST_32, 0);
+    handles
 }
 
 fn many() -> Handles {
@@ -369,14 +337,14 @@ fn large(rt: &impl Print) -> io::Result<()> {
         rt,
         "4,096 rowsets:",
         drawn(7),
-        spread(4096, 4294967295, 4096),
+        spread(4096, u32::MAX, 4096),
         whole(),
     )?;
     group(
         rt,
         "4,095 handles:",
         drawn(7),
-        spread(4096, 4294967295, 4095),
+        spread(4096, u32::MAX, 4095),
         whole(),
     )
 }

@@ -1,15 +1,16 @@
 // A manager, a pin book and a batch made by hand, from numbers.
-ghost use Rattle.std.specs.Prelude.{◌≤◌};
+ghost use Rattle.std.specs.Prelude.{◌<◌, ◌≤◌};
 
-use ids::limits::{LONGEST_NAME, MOST_HELD, MOST_OPERATIONS, MOST_TABLES, NAME_BYTES};
+use ids::limits::{LONGEST_NAME, MOST_OPERATIONS, MOST_TABLES, NAME_BYTES};
 use ids::name::Name;
 use ids::{RowsetNo, TableNo, VectorNo};
 use manifest::operation::{Batch, EpochOp};
-use pins::{Pin, PinBook};
+use pins::{MOST_PINNED, Pin, PinBook};
 use snapshot::rowsets::Rowsets;
 use snapshot::tables::Tables;
 use snapshot::vectors::Vectors;
 use std::array;
+use std::ops::Range;
 use version_manager::VersionManager;
 use version_state::{NextIds, VersionManagerInner};
 
@@ -67,148 +68,136 @@ pub fn narrow(n: u64) -> u32 {
     u32::try_from(n).unwrap_or(0)
 }
 
-fn at(numbers: &[u64], i: usize) -> u64 {
-    numbers.get(i).copied().unwrap_or(0)
+// What the next call is made of.
+#[derive(Clone, Copy)]
+pub struct Numbers {
+    pub all: [u64; ALL],
 }
 
-fn id_at(numbers: &[u64], i: usize) -> u32 {
-    narrow(at(numbers, i))
+// Those of one state.
+#[derive(Clone, Copy)]
+struct State<'a> {
+    numbers: &'a [u64],
 }
 
-// Its place is below 2.
-fn with_table(tables: Tables, numbers: &[u64], i: usize) -> Tables {
-    let mut s = tables;
-    if i < 2 {
-        let from = TABLES + 4 * i;
-        s.ids[i] = id_at(numbers, from);
-        s.names[LONGEST_NAME * i] = byte(at(numbers, from + 1));
-        s.lengths[i] = id_at(numbers, from + 2);
-        s.locked[i] = at(numbers, from + 3) == 1;
+impl State<'_> {
+    fn at(&self, i: usize) -> u64 {
+        self.numbers.get(i).copied().unwrap_or(0)
     }
-    s
-}
 
-// Past the first two each has its place for an id, and a name of so many `a` and one more.
-fn tables(numbers: &[u64]) -> Tables {
-    let s = Tables {
-        ids: [0, 1, 2, 3, 4, 5, 6, 7, 8, 9, 10, 11, 12, 13, 14, 15],
-        shapes: [7; MOST_TABLES],
-        lengths: [1, 2, 3, 4, 5, 6, 7, 8, 9, 10, 11, 12, 13, 14, 15, 16],
-        names: [b'a'; NAME_BYTES],
-        locked: [false; MOST_TABLES],
-        count: at(numbers, 5) as usize,
-    };
-    with_table(with_table(s, numbers, 0), numbers, 1)
-}
-
-// Past the first five each is of table 1 and has its place for an id.
-fn with_rowset(rowsets: Rowsets, numbers: &[u64], i: usize) -> Rowsets {
-    let mut s = rowsets;
-    if i < 5 {
-        let from = ROWSETS + 4 * i;
-        s.tables[i] = id_at(numbers, from);
-        s.rowsets[i] = id_at(numbers, from + 1);
-        s.added[i] = id_at(numbers, from + 2);
-        s.deleted[i] = id_at(numbers, from + 3);
-        return s;
+    fn id_at(&self, i: usize) -> u32 {
+        narrow(self.at(i))
     }
-    if i < MOST_HELD {
-        s.rowsets[i] = i as u32;
+
+    // Row `i` of a list: its `WIDTH` numbers.
+    fn row<const WIDTH: usize>(&self, list: Range<usize>, i: usize) -> Option<[u64; WIDTH]>
+        requires { 0 < WIDTH }
+    {
+        let (rows, _) = self.numbers.get(list)?.as_chunks::<WIDTH>();
+        rows.get(i).copied()
     }
-    s
-}
 
-fn rowsets(numbers: &[u64]) -> Rowsets {
-    let mut s = Rowsets {
-        tables: [1; MOST_HELD],
-        rowsets: [0; MOST_HELD],
-        added: [1; MOST_HELD],
-        deleted: [0; MOST_HELD],
-        count: at(numbers, 6) as usize,
-    };
-    for i in 0..MOST_HELD {
-        s = with_rowset(s, numbers, i);
+    // Past the first two, table `i` has the id `i` and a name of `i + 1` letters `a`.
+    fn table(&self, i: usize) -> [u64; 4] {
+        let id = i as u64;
+        self.row(TABLES..ROWSETS, i)
+            .unwrap_or([id, 97, id.saturating_add(1), 0])
     }
-    s
-}
 
-// Its place is below 2.
-fn with_vector(vectors: Vectors, numbers: &[u64], i: usize) -> Vectors {
-    let mut s = vectors;
-    if i < 2 {
-        let from = VECTORS + 5 * i;
-        s.tables[i] = id_at(numbers, from);
-        s.rowsets[i] = id_at(numbers, from + 1);
-        s.vectors[i] = at(numbers, from + 2);
-        s.added[i] = id_at(numbers, from + 3);
-        s.deleted[i] = id_at(numbers, from + 4);
+    fn tables(&self) -> Tables {
+        let mut names = [b'a'; NAME_BYTES];
+        names[0] = byte(self.table(0)[1]);
+        names[LONGEST_NAME] = byte(self.table(1)[1]);
+        Tables {
+            ids: array::from_fn(|i| narrow(self.table(i)[0])),
+            shapes: [7; MOST_TABLES],
+            lengths: array::from_fn(|i| narrow(self.table(i)[2])),
+            names,
+            locked: array::from_fn(|i| self.table(i)[3] == 1),
+            count: self.at(5) as usize,
+        }
     }
-    s
-}
 
-fn vectors(numbers: &[u64]) -> Vectors {
-    let mut s = Vectors::none();
-    s.count = at(numbers, 7) as usize;
-    with_vector(with_vector(s, numbers, 0), numbers, 1)
-}
-
-fn inner(numbers: &[u64]) -> VersionManagerInner {
-    let next = NextIds {
-        table: TableNo(id_at(numbers, 2)),
-        rowset: RowsetNo(id_at(numbers, 3)),
-        vector: VectorNo(at(numbers, 4)),
-    };
-    let tables = tables(numbers);
-    let rowsets = rowsets(numbers);
-    let vectors = vectors(numbers);
-    VersionManagerInner {
-        epoch: id_at(numbers, 0),
-        next,
-        tables,
-        rowsets,
-        vectors,
-        manifest: at(numbers, 1) as usize,
+    // Past the first five, rowset `i` is of table 1 and has the id `i`.
+    fn rowset(&self, i: usize) -> [u64; 4] {
+        self.row(ROWSETS..VECTORS, i).unwrap_or([1, i as u64, 1, 0])
     }
-}
 
-fn former(numbers: &[u64]) -> VersionManagerInner {
-    let from = FORMER.min(numbers.len());
-    inner(&numbers[from..])
-}
+    // Column by column, as the C interface lays them out: the names and the types of the columns are their own.
+    fn rowsets(&self) -> Rowsets {
+        Rowsets {
+            tables: array::from_fn(|i| narrow(self.rowset(i)[0])),
+            rowsets: array::from_fn(|i| narrow(self.rowset(i)[1])),
+            added: array::from_fn(|i| narrow(self.rowset(i)[2])),
+            deleted: array::from_fn(|i| narrow(self.rowset(i)[3])),
+            count: self.at(6) as usize,
+        }
+    }
 
-pub fn manager(numbers: &[u64]) -> VersionManager {
-    let append = at(numbers, APPEND) as usize;
-    VersionManager {
-        inner: inner(numbers),
-        kept: former(numbers),
-        append,
+    fn vector(&self, i: usize) -> [u64; 5] {
+        self.row(VECTORS..PINS, i).unwrap_or([0; 5])
+    }
+
+    // Column by column, as the C interface lays them out.
+    fn vectors(&self) -> Vectors {
+        Vectors {
+            tables: array::from_fn(|i| narrow(self.vector(i)[0])),
+            rowsets: array::from_fn(|i| narrow(self.vector(i)[1])),
+            vectors: array::from_fn(|i| self.vector(i)[2]),
+            added: array::from_fn(|i| narrow(self.vector(i)[3])),
+            deleted: array::from_fn(|i| narrow(self.vector(i)[4])),
+            count: self.at(7) as usize,
+        }
+    }
+
+    fn inner(&self) -> VersionManagerInner {
+        VersionManagerInner {
+            epoch: self.id_at(0),
+            next: NextIds {
+                table: TableNo(self.id_at(2)),
+                rowset: RowsetNo(self.id_at(3)),
+                vector: VectorNo(self.at(4)),
+            },
+            tables: self.tables(),
+            rowsets: self.rowsets(),
+            vectors: self.vectors(),
+            manifest: self.at(1) as usize,
+        }
+    }
+
+    // The first four places by their numbers; each after them has the epoch after its place, pinned once, and the last as often as it can be.
+    fn pin(&self, i: usize) -> Pin {
+        let count = if i < MOST_PINNED - 1 { 1 } else { 65535 };
+        let row = self
+            .row::<2>(PINS..APPEND, i)
+            .unwrap_or([(i as u64).saturating_add(1), count]);
+        Pin {
+            epoch: narrow(row[0]),
+            count: (row[1] % 65536) as u16,
+        }
     }
 }
 
-// The first four places by their numbers; each after them has the epoch after its place, pinned once, and the last as often as it can be.
-fn pin(numbers: &[u64], i: usize) -> Pin {
-    let i = i.min(63);
-    if i < 4 {
-        return Pin {
-            epoch: id_at(numbers, PINS + 2 * i),
-            count: (at(numbers, PINS + 2 * i + 1) % 65536) as u16,
-        };
+impl Numbers {
+    pub fn manager(&self) -> VersionManager {
+        let (now, former) = self.all.split_at(FORMER);
+        VersionManager {
+            inner: State { numbers: now }.inner(),
+            kept: State { numbers: former }.inner(),
+            append: self.all[APPEND] as usize,
+        }
     }
-    let count = if i < 63 { 1 } else { 65535 };
-    Pin {
-        epoch: i as u32 + 1,
-        count,
+
+    pub fn book(&self) -> PinBook {
+        let now = State { numbers: &self.all };
+        PinBook {
+            items: array::from_fn(|i| now.pin(i)),
+            count: now.at(8) as usize,
+        }
     }
 }
 
-pub fn book(numbers: &[u64]) -> PinBook {
-    PinBook {
-        items: array::from_fn(|i| pin(numbers, i)),
-        count: at(numbers, 8) as usize,
-    }
-}
-
-// So many times the one byte.
+// The byte, `len` times.
 pub fn name(byte: u8, len: u64) -> Name {
     Name {
         bytes: [byte; LONGEST_NAME],

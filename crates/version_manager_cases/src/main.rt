@@ -4,7 +4,7 @@
 // starts from, and a title, which begins with `#`, is printed.
 #![tactic(auto)]
 
-use made::ALL;
+use made::{ALL, Numbers};
 use script::words::Words;
 use status::Status;
 use std::io;
@@ -15,11 +15,19 @@ mod made;
 mod say;
 mod shows;
 
-// What the next call is made of, and what each title starts from.
+// A call: its letter and its numbers, and of what the manager and the pin book are made.
 #[derive(Clone, Copy)]
-struct Numbers {
-    now: [u64; ALL],
-    first: [u64; ALL],
+pub struct Call<'a> {
+    pub numbers: &'a Numbers,
+    pub letter: u8,
+    pub fields: [u64; 6],
+}
+
+// What the next call is made of, and what each title starts from.
+#[derive(Drop)]
+struct Sheet {
+    now: Numbers,
+    first: Numbers,
 }
 
 // What comes after a line's first word.
@@ -29,56 +37,47 @@ fn after_word(s: &[u8]) -> &[u8] {
     words.0
 }
 
-fn set(numbers: [u64; ALL], s: &[u8], letter: u8, digit: u8) -> [u64; ALL] {
-    let mut n = numbers;
-    let at = made::place(letter, digit);
-    script::sizes(after_word(s), &mut n[at..]);
-    n
-}
-
-fn call(rt: &impl Print, numbers: &[u64], s: &[u8], letter: u8) -> io::Result<()> {
-    let mut f = [0u64; 6];
-    script::sizes(after_word(s), &mut f);
-    say::say(rt, s)?;
-    calls::call(rt, numbers, letter, f)
-}
-
-fn line(rt: &impl Print, numbers: Numbers, s: &[u8]) -> io::Result<Numbers> {
-    let now = numbers.now;
-    let first = numbers.first;
-    match s {
-        [] | [_] => Ok(Numbers { now, first: now }),
-        [b'#', ..] => {
-            say::say(rt, s)?;
-            say::say(rt, b"\n")?;
-            Ok(Numbers { now: first, first })
+impl Sheet {
+    fn line(&mut self, rt: &impl Print, s: &[u8]) -> io::Result<()> {
+        match s {
+            [] | [_] => self.first = self.now,
+            [b'#', ..] => {
+                self.now = self.first;
+                rt.write_all(s)?;
+                println!(rt;)?;
+            }
+            [b'!', letter, ..] => {
+                let mut fields = [0u64; 6];
+                script::sizes(after_word(s), &mut fields);
+                rt.write_all(s)?;
+                let call = Call {
+                    numbers: &self.now,
+                    letter: *letter,
+                    fields,
+                };
+                calls::call(rt, call)?;
+            }
+            [letter, digit, ..] => {
+                let at = made::place(*letter, *digit);
+                script::sizes(after_word(s), &mut self.now.all[at..]);
+            }
         }
-        [b'!', letter, ..] => {
-            call(rt, &now, s, *letter)?;
-            Ok(numbers)
-        }
-        [letter, digit, ..] => Ok(Numbers {
-            now: set(now, s, *letter, *digit),
-            first,
-        }),
+        Ok(())
     }
 }
 
 fn run(rt: &impl Print, s: &[u8]) -> io::Result<()> {
-    let mut numbers = Numbers {
-        now: [0; ALL],
-        first: [0; ALL],
+    let mut sheet = Sheet {
+        now: Numbers { all: [0; ALL] },
+        first: Numbers { all: [0; ALL] },
     };
     for s in s.split(|b| *b == b'\n') {
-        numbers = line(rt, numbers, s)?;
+        sheet.line(rt, s)?;
     }
     Ok(())
 }
 
 fn main(rt: HostRuntime) -> Status {
     let mut buffer = [0u8; 65536];
-    match status::read_all(&mut rt.stdin(), &mut buffer) {
-        Ok(n) => status::printed(&rt, run(&rt, &buffer[..n])),
-        Err(_) => status::unreadable(&rt),
-    }
+    status::answered(&rt, &mut rt.stdin(), &mut buffer, |s| run(&rt, s))
 }

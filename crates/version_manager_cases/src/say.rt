@@ -3,64 +3,41 @@ use ids::limits::MOST_HELD;
 use ids::refusal::Refusal;
 use std::fmt::Display;
 use std::io;
-use version_manager::VersionManager;
+use version_manager::{Answered, VersionManager};
 
-pub fn say(rt: &impl Print, s: &[u8]) -> io::Result<()> {
-    rt.write_all(s)
-}
-
-pub fn number(rt: &impl Print, word: &str, n: u64) -> io::Result<()> {
-    print!(rt; "{word}{n}")
-}
-
-pub fn number32(rt: &impl Print, word: &str, n: u32) -> io::Result<()> {
-    number(rt, word, u64::from(n))
-}
-
-pub fn refusal(rt: &impl Print, why: Refusal) -> io::Result<()> {
-    print!(rt; " refused {} place {}", why.number(), why.place())
-}
-
-fn lock(rt: &impl Print, locked: bool) -> io::Result<()> {
-    if locked {
-        print!(rt; " held")
-    } else {
-        print!(rt; " free")
+// What an accepted call gives, or the refusal. Each program prints its own words; a shared function would take all of them, and be no plainer. No
+// type says that a closure can be called, so each function that takes one asks for it.
+pub fn answer<T, F: FnOnce(T) -> io::Result<()> + Drop>(
+    rt: &impl Print,
+    answer: Result<T, Refusal>,
+    given: F,
+) -> io::Result<()>
+    requires { F.IsAlwaysCallable given }
+{
+    match answer {
+        Ok(x) => given(x),
+        Err(why) => print!(rt; " refused {} place {}", why.number(), why.place()),
     }
 }
 
-// The last append, with the epoch and the manifest length before it, where that state is kept.
-fn kept(rt: &impl Print, append: usize, epoch: u32, manifest: usize) -> io::Result<()> {
-    if append == 0 {
-        return Ok(());
-    }
-    print!(rt; " kept {append} epoch {epoch} manifest {manifest}")
+pub fn count(rt: &impl Print, word: &str, counted: Result<usize, Refusal>) -> io::Result<()> {
+    answer(rt, counted, |n| print!(rt; " {word} {n}"))
 }
 
-// Epoch and manifest length, the next ids, how many tables, rowsets and vectors are held, the locks of the first two tables, when the
-// first rowsets and vectors were deleted, and what is kept.
-pub fn state(rt: &impl Print, manager: &VersionManager) -> io::Result<()> {
-    let held = &manager.inner;
-    let next = held.next;
-    print!(rt; "; epoch {} manifest {}", held.epoch, held.manifest)?;
-    print!(rt;
-        " next {},{},{}",
-        next.table.0, next.rowset.0, next.vector.0
-    )?;
-    print!(rt;
-        " held {},{},{}",
-        held.tables.count, held.rowsets.count, held.vectors.count
-    )?;
-    lock(rt, held.tables.locked[0])?;
-    lock(rt, held.tables.locked[1])?;
-    deletions(rt, &held.rowsets.deleted)?;
-    deletions(rt, &held.vectors.deleted)?;
-    kept(
-        rt,
-        manager.append,
-        manager.kept.epoch,
-        manager.kept.manifest,
-    )
+// The same, and the manager that is handed back. What is asked of the closure is as above: a type for that would be no plainer.
+pub fn handed<T, F: FnOnce(T) -> io::Result<()> + Drop>(
+    rt: &impl Print,
+    done: Answered<T>,
+    given: F,
+) -> io::Result<()>
+    requires { F.IsAlwaysCallable given }
+{
+    answer(rt, done.answer, given)?;
+    state(rt, &done.manager)
+}
+
+fn lock(locked: bool) -> &'static str {
+    if locked { "held" } else { "free" }
 }
 
 fn deletions(rt: &impl Print, deleted: &[u32; MOST_HELD]) -> io::Result<()> {
@@ -68,13 +45,49 @@ fn deletions(rt: &impl Print, deleted: &[u32; MOST_HELD]) -> io::Result<()> {
     print!(rt; " deleted {a},{b},{c},{d},{e}")
 }
 
+// The last append, with the epoch and the manifest length before it, where that state is kept.
+fn kept(rt: &impl Print, manager: &VersionManager) -> io::Result<()> {
+    let append = manager.append;
+    if append == 0 {
+        return Ok(());
+    }
+    let kept = &manager.kept;
+    print!(rt;
+        " kept {append} epoch {} manifest {}",
+        kept.epoch, kept.manifest
+    )
+}
+
+// Epoch and manifest length, the next ids, how many tables, rowsets and vectors are held, the locks of the first two tables, when the
+// first rowsets and vectors were deleted, and what is kept.
+fn state(rt: &impl Print, manager: &VersionManager) -> io::Result<()> {
+    let held = &manager.inner;
+    let next = held.next;
+    print!(rt;
+        "; epoch {} manifest {} next {},{},{} held {},{},{} {} {}",
+        held.epoch,
+        held.manifest,
+        next.table.0,
+        next.rowset.0,
+        next.vector.0,
+        held.tables.count,
+        held.rowsets.count,
+        held.vectors.count,
+        lock(held.tables.locked[0]),
+        lock(held.tables.locked[1])
+    )?;
+    deletions(rt, &held.rowsets.deleted)?;
+    deletions(rt, &held.vectors.deleted)?;
+    kept(rt, manager)
+}
+
 pub fn bytes(rt: &impl Print, out: &[u8]) -> io::Result<()> {
-    say(rt, b" |")?;
-    say(rt, out)
+    rt.write_all(b" |")?;
+    rt.write_all(out)
 }
 
 pub fn numbers<T: Display>(rt: &impl Print, out: &[T]) -> io::Result<()> {
-    say(rt, b" |")?;
+    rt.write_all(b" |")?;
     for n in out {
         print!(rt; " {n}")?;
     }

@@ -1,6 +1,6 @@
--- Of `script::text_run`. Assumes nothing.
+-- Of `script::written`. Assumes nothing.
 use Rattle.std.proofs.Common.{◌≤◌, length}
-use Rattle.script.proofs.text_run.Given as goal
+use Rattle.script.proofs.written.Given as goal
 
 abbrev pub invariant-loop-rest : goal.invariant-loop-rest
 invariant-loop-rest l = l.k ≤ length l.out
