@@ -19,20 +19,15 @@ struct Shown {
 impl Shown {
     // An entry of the names has room for the longest one.
     fn tables(self, call: Call) -> Result<(), Refusal> {
-        let Shown {
-            manager,
-            book,
-            epoch,
-        } = self;
         let mut ids = [0u32; MOST_TABLES];
         let mut shapes = [0u32; MOST_TABLES];
         let mut lengths = [0u32; MOST_TABLES];
         let mut names = [0u8; NAME_BYTES];
         let n = call.room.min(MOST_TABLES);
         let bytes = NAME_BYTES.min(LONGEST_NAME * n);
-        let n = manager.show_tables(
-            book,
-            epoch,
+        let n = self.manager.show_tables(
+            self.book,
+            self.epoch,
             &mut ids[..n],
             &mut shapes[..n],
             &mut lengths[..n],
@@ -45,32 +40,24 @@ impl Shown {
     }
 
     fn pairs(self, call: Call) -> Result<(), Refusal> {
-        let Shown {
-            manager,
-            book,
-            epoch,
-        } = self;
         let mut tables = [0u32; MOST_HELD];
         let mut rowsets = [0u32; MOST_HELD];
         let n = call.room.min(MOST_HELD);
-        let n = manager.show_pairs(book, epoch, &mut tables[..n], &mut rowsets[..n])?;
+        let n = self
+            .manager
+            .show_pairs(self.book, self.epoch, &mut tables[..n], &mut rowsets[..n])?;
         say::list("pairs", n, tables.iter().zip(&rowsets), call.output);
         Ok(())
     }
 
     fn vectors(self, call: Call) -> Result<(), Refusal> {
-        let Shown {
-            manager,
-            book,
-            epoch,
-        } = self;
         let mut tables = [0u32; MOST_HELD];
         let mut rowsets = [0u32; MOST_HELD];
         let mut vectors = [0u64; MOST_HELD];
         let n = call.room.min(MOST_HELD);
-        let n = manager.show_vectors(
-            book,
-            epoch,
+        let n = self.manager.show_vectors(
+            self.book,
+            self.epoch,
             &mut tables[..n],
             &mut rowsets[..n],
             &mut vectors[..n],

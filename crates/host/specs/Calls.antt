@@ -40,16 +40,16 @@ use Rattle.host.specs.declared.Begun.{Begun}
 use Rattle.host.specs.Numbers.{said_by, Tells}
 use Rattle.host.specs.Arguments.{new_in, HandlesIn}
 
--- h hands on what the library answers beside a manager: the entry point's own proposition holds of both, the manager is that one, and the
+-- h tells what the library answers beside a manager: the entry point's own proposition holds of both, the manager is that one, and the
 -- number, place and values are those of the answer
-pub record Hands (A : Type 0) (told_of : Result A Refusal → Told) (Says : Answered A → Type 0) (h : Handed) : Type 0 where
+pub record TellsHanded (A : Type 0) (told_of : Result A Refusal → Told) (Says : Answered A → Type 0) (h : Handed) : Type 0 where
   pub answered : Answered A
   pub says : Says answered
   pub manager : h.manager ≡ answered.manager
   pub told : said_by h.answer ≡ told_of answered.answer
 
 -- the same beside a pin book
-pub record Books (A : Type 0) (told_of : Result A Refusal → Told) (Says : Result A Refusal → PinBook → Type 0) (b : Booked) : Type 0 where
+pub record TellsBooked (A : Type 0) (told_of : Result A Refusal → Told) (Says : Result A Refusal → PinBook → Type 0) (b : Booked) : Type 0 where
   pub stepped : Stepped A
   pub says : Says stepped.answer stepped.book
   pub book : b.book ≡ stepped.book
@@ -68,37 +68,37 @@ abbrev pub MaskTold : List ℕ → List ℕ → ℕ → Answer → List ℕ → 
 MaskTold rows bits offset r bits' = Tells (Result (Unit {0}) Refusal) masked_told (λ a. MaskSays rows bits offset a bits') r
 
 abbrev pub DrawRowsetTold : VersionManager → Handed → Type 0
-DrawRowsetTold m r = Hands RowsetNo rowset_told (DrawRowsetSays m) r
+DrawRowsetTold m r = TellsHanded RowsetNo rowset_told (DrawRowsetSays m) r
 
 abbrev pub DrawVectorTold : VersionManager → Handed → Type 0
-DrawVectorTold m r = Hands VectorNo vector_told (DrawVectorSays m) r
+DrawVectorTold m r = TellsHanded VectorNo vector_told (DrawVectorSays m) r
 
 -- the library is given the handles that the numbers say
 pub record GroupTold (m : VersionManager) (numbers rs ls cs fs ms : List ℕ) (r : Handed) (rs' ls' cs' fs' ms' : List ℕ) : Type 0 where
   pub handles : Handles
   pub given : HandlesIn numbers handles
-  pub tells : Hands NewVectors group_told (λ a. GroupSays m handles rs ls cs fs ms a rs' ls' cs' fs' ms') r
+  pub tells : TellsHanded NewVectors group_told (λ a. GroupSays m handles rs ls cs fs ms a rs' ls' cs' fs' ms') r
 
 abbrev pub CommitTold : VersionManager → List ℕ → List ℕ → Handed → List ℕ → Type 0
-CommitTold m ops out r out' = Hands Appended commit_told (λ a. CommitSays m (length (operations_in ops)) (operations_in ops) out a out') r
+CommitTold m ops out r out' = TellsHanded Appended commit_told (λ a. CommitSays m (length (operations_in ops)) (operations_in ops) out a out') r
 
 abbrev pub CreateTold : VersionManager → ℕ → List ℕ → List ℕ → Handed → List ℕ → Type 0
-CreateTold m shape name out r out' = Hands NewTable create_told (λ a. CreateSays m shape name out a out') r
+CreateTold m shape name out r out' = TellsHanded NewTable create_told (λ a. CreateSays m shape name out a out') r
 
 abbrev pub DropTold : VersionManager → ℕ → List ℕ → Handed → List ℕ → Type 0
-DropTold m t out r out' = Hands Appended commit_told (λ a. DropSays m t out a out') r
+DropTold m t out r out' = TellsHanded Appended commit_told (λ a. DropSays m t out a out') r
 
 abbrev pub CompactTold : VersionManager → ℕ → Bool → ℕ → List ℕ → List ℕ → Handed → List ℕ → Type 0
-CompactTold m t some new taken out r out' = Hands Appended commit_told (λ a. CompactSays m t (new_in some new) taken out a out') r
+CompactTold m t some new taken out r out' = TellsHanded Appended commit_told (λ a. CompactSays m t (new_in some new) taken out a out') r
 
 abbrev pub VacuumTold : VersionManager → PinBook → List ℕ → List ℕ → Handed → List ℕ → List ℕ → Type 0
-VacuumTold m b ts rs r ts' rs' = Hands ℕ vacuum_told (λ a. VacuumSays m b ts rs a ts' rs') r
+VacuumTold m b ts rs r ts' rs' = TellsHanded ℕ vacuum_told (λ a. VacuumSays m b ts rs a ts' rs') r
 
 abbrev pub CheckpointTold : VersionManager → List ℕ → Handed → List ℕ → Type 0
-CheckpointTold m out r out' = Hands ℕ checkpoint_told (λ a. CheckpointSays m out a out') r
+CheckpointTold m out r out' = TellsHanded ℕ checkpoint_told (λ a. CheckpointSays m out a out') r
 
 abbrev pub ReportTold : VersionManager → PinBook → ℕ → Handed → Type 0
-ReportTold m b landed r = Hands TakenBack report_told (ReportSays m b landed) r
+ReportTold m b landed r = TellsHanded TakenBack report_told (ReportSays m b landed) r
 
 abbrev pub ShowTablesTold : VersionManager → PinBook → ℕ → List ℕ → List ℕ → List ℕ → List ℕ → Answer → List ℕ → List ℕ → List ℕ → List ℕ → Type 0
 ShowTablesTold m b e is hs ls ns r is' hs' ls' ns' = Tells ShowAnswer show_told (λ a. ShowTablesSays m b e is hs ls ns a is' hs' ls' ns') r
@@ -110,10 +110,10 @@ abbrev pub ShowVectorsTold : VersionManager → PinBook → ℕ → List ℕ →
 ShowVectorsTold m b e ts rs vs r ts' rs' vs' = Tells ShowAnswer show_told (λ a. ShowVectorsSays m b e ts rs vs a ts' rs' vs') r
 
 abbrev pub LockTold : VersionManager → ℕ → Handed → Type 0
-LockTold m t r = Hands (Unit {0}) (λ v. told v []) (LockSays m (record { 0 = t })) r
+LockTold m t r = TellsHanded (Unit {0}) (λ v. told v []) (LockSays m (record { 0 = t })) r
 
 abbrev pub UnlockTold : VersionManager → ℕ → Handed → Type 0
-UnlockTold m t r = Hands (Unit {0}) (λ v. told v []) (UnlockSays m (record { 0 = t })) r
+UnlockTold m t r = TellsHanded (Unit {0}) (λ v. told v []) (UnlockSays m (record { 0 = t })) r
 
 abbrev pub SelectTold : VersionManager → ℕ → ℕ → List ℕ → List ℕ → Answer → List ℕ → Type 0
 SelectTold m t target ns out r out' = Tells SelectAnswer select_told (λ a. SelectSays m (record { 0 = t }) target ns out a out') r
@@ -123,7 +123,7 @@ ReopenTold src out r out' =
     Tells ReopenAnswer reopen_told (λ a. ReopenSays src out (record { manager = r.manager; book = r.book; answer = a }) out') r.answer
 
 abbrev pub PinTold : VersionManager → PinBook → Booked → Type 0
-PinTold m b r = Books ℕ pin_told (PinSays m b) r
+PinTold m b r = TellsBooked ℕ pin_told (PinSays m b) r
 
 abbrev pub UnpinTold : VersionManager → ℕ → PinBook → Booked → Type 0
-UnpinTold m e b r = Books Readiness unpin_told (UnpinSays m e b) r
+UnpinTold m e b r = TellsBooked Readiness unpin_told (UnpinSays m e b) r
