@@ -9,7 +9,7 @@ ghost use Rattle.columns.specs.Rows.{Turning, PutIn};
 use ids::limits::MOST_HELD;
 
 // The first of `count` places for which `before` is false, or `count`, if it is false of all later ones too.
-// By halves by hand: the library's search goes over one slice, and a row stands in several, as the C interface lays them out.
+// A binary search written out: the library's goes over one slice, and a row here stands in several, as the C interface lays them out.
 pub fn place<F: Fn(usize) -> bool>(count: usize, before: F) -> usize
     requires { (i : _) → i < count → F.pre before i }
     ensures { Turning (F.post before) count result }

@@ -1,5 +1,6 @@
--- The numbers and places of the refusals. Assumes nothing.
-use Rattle.std.specs.Prelude.{ℕ}
+-- The numbers and places of the refusals, and their text. Assumes nothing.
+use Rattle.std.specs.Prelude.{ℕ, List, ◌++◌, codes}
+use Rattle.std.specs.Fmt.{decimal}
 use Rattle.ids.specs.declared.refusal.Refusal.{Refusal}
 use Rattle.ids.specs.declared.refusal.Refusal.TheVariants.{ManifestTooLong, Malformed, TableConflict, OverLimit, RowsetWithoutTable, TooManyOperations, BadRecord, WrongCount, OutputTooShort, PinAtEpochZero, TableNotLive, PairNotShown, VectorNotShown, IdNotDrawn, NameTaken, StillHeld, LeftBehind, PinsFull, PinnedEpochsFull, EpochsFull, TablesFull, HeldFull, ManifestFull, EpochNotPinned, LockHeld, IdsUsedUp, LockNotHeld, BadPinBook, BadManager, NotReportable}
 
@@ -67,3 +68,7 @@ place_of LockNotHeld = 0
 place_of BadPinBook = 0
 place_of BadManager = 0
 place_of NotReportable = 0
+
+-- as it is printed: `refused`, its number and its place
+abbrev pub text_of : Refusal → List ℕ
+text_of r = codes "refused," ++ decimal (number_of r) ++ codes "," ++ decimal (place_of r)

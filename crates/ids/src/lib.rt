@@ -11,26 +11,26 @@ pub mod refusal;
 // A type for each kind of id, so that none is taken for another: one type with a marker would need the marker named wherever it stands, and be no
 // plainer.
 #[repr(C)]
-#[derive(Clone, Copy, PartialEq, Eq, PartialOrd, Ord)]
+#[derive(Clone, Copy, PartialEq, Eq, PartialOrd, Ord, Default)]
 pub struct TableNo(pub u32);
 
 // As `TableNo`: one type with a marker would be no plainer.
 #[repr(C)]
-#[derive(Clone, Copy, PartialEq, Eq, PartialOrd, Ord)]
+#[derive(Clone, Copy, PartialEq, Eq, PartialOrd, Ord, Default)]
 pub struct RowsetNo(pub u32);
 
 // As `TableNo`: one type with a marker would be no plainer.
 #[repr(C)]
-#[derive(Clone, Copy, PartialEq, Eq, PartialOrd, Ord)]
+#[derive(Clone, Copy, PartialEq, Eq, PartialOrd, Ord, Default)]
 pub struct RowNo(pub u32);
 
 // As `TableNo`: one type with a marker would be no plainer.
 #[repr(C)]
-#[derive(Clone, Copy, PartialEq, Eq, PartialOrd, Ord)]
+#[derive(Clone, Copy, PartialEq, Eq, PartialOrd, Ord, Default)]
 pub struct VectorNo(pub u64);
 
 // A row of a rowset.
-#[derive(Clone, Copy, PartialEq, Eq, PartialOrd, Ord)]
+#[derive(Clone, Copy, PartialEq, Eq, PartialOrd, Ord, Default)]
 pub struct SecondaryRowHandler(pub RowsetNo, pub RowNo);
 
 // Each is one comparison with its width's own limit: a trait over the widths would be longer than the three, and no plainer.

@@ -8,7 +8,8 @@ ghost use Rattle.ids.specs.Names.{longest_name, name_of};
 
 use crate::limits::LONGEST_NAME;
 
-// A table's name: the first `len` bytes, in an array since the library has no heap. Where `len` is larger than the array, the name is empty.
+// A table's name: the first `len` bytes; none where `len` is larger than the array. No `ArrayVec`, which is not Copy, as an operation is: it would be
+// no plainer.
 #[repr(C)]
 #[derive(Clone, Copy)]
 pub struct Name {
@@ -46,7 +47,8 @@ impl Name {
     }
 }
 
-// The empty name, which is no table's: for a name that is too long, and in free places.
+// The empty name, which is no table's: for a name that is too long, and in free places. By hand, so that its promise speaks of the name's bytes: a
+// derive would promise the fields, and be no plainer.
 impl Default for Name {
     #[tactic(auto, unfolding(crate::specs::Names::name_of))]
     fn default() -> Name

@@ -1,6 +1,8 @@
 // Why a call is refused.
-ghost use Rattle.std.specs.Prelude.{◌≡◌};
-ghost use Rattle.ids.specs.Refusals.{number_of, place_of};
+ghost use Rattle.std.specs.Prelude.{◌≡◌, Some};
+ghost use Rattle.ids.specs.Refusals.{number_of, place_of, text_of};
+
+use std::fmt;
 
 // The refusals of the specification by their numbers, each with its place where it has one.
 #[derive(Clone, Copy, Debug, PartialEq, Eq)]
@@ -127,5 +129,14 @@ impl Refusal {
             | Refusal::HeldFull(p) => p,
             _ => 0,
         }
+    }
+}
+
+// As an answer in text has it.
+impl fmt::Display for Refusal {
+    ghost output = { λ why. Some (text_of why) };
+
+    fn fmt<W: fmt::Write>(&self, f: &mut fmt::Formatter<W>) -> fmt::Result {
+        write!(f, "refused,{},{}", self.number(), self.place())
     }
 }

@@ -1,4 +1,4 @@
-// The counts of a book, and a change of one of them. The C interface lends any book, so that each function asks for one whose places
+// The counts of a book, and a change of one of them. The C interface hands over any book, so that each function asks for one whose places
 // are in order.
 ghost use Rattle.std.specs.Prelude.{◌≡◌, true, false, ◌+◌, ◌≤◌, ◌<◌, leb, length};
 ghost use Rattle.lists.specs.Keyed.{ascending};
@@ -9,7 +9,7 @@ ghost use Rattle.pins.specs.Counts.{pins_at, recounted, places_full, Placed};
 use crate::{MOST_PINNED, Pin, PinBook, Place};
 
 impl PinBook {
-    // Where a place stands, or else would.
+    // Where a place stands, or else would. One call of std, as in `replay_lists`: a shared function would be no plainer.
     pub fn find(&self, place: Place) -> Result<usize, usize>
         requires { ascending by_place (pins_of self.now) ≡ true }
         ensures { Placed place (pins_of self.now) result }

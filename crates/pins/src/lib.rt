@@ -14,7 +14,7 @@ pub const MOST_PINNED: usize = 64;
 pub const MOST_PINS: u16 = u16::MAX;
 
 #[repr(C)]
-#[derive(Clone, Copy)]
+#[derive(Clone, Copy, Default)]
 pub struct Pin {
     pub epoch: u32,
     pub count: u16,
@@ -27,9 +27,8 @@ pub struct Place {
 }
 
 // Pinned epochs with their counts, ascending. An array and a count, which may be any number: the C interface hands it over so.
-// `none` is no Default: callers go by the book being empty, so that it has a name and a promise of its own, and Default would be no plainer.
 #[repr(C)]
-#[derive(Clone, Copy)]
+#[derive(Clone, Copy, Default)]
 pub struct PinBook {
     pub items: [Pin; MOST_PINNED],
     pub count: usize,
@@ -59,11 +58,7 @@ impl PinBook {
     pub fn none() -> PinBook
         ensures { (result.count ≡ 0) × (pins_of result ≡ []) }
     {
-        let none = Pin { epoch: 0, count: 0 };
-        PinBook {
-            items: [none; MOST_PINNED],
-            count: 0,
-        }
+        PinBook::default()
     }
 
     // A count above the array stands for all of it.
