@@ -1,11 +1,11 @@
 // The operations of a typed batch, turned into lines. All here is internal.
-ghost use Rattle.std.specs.Prelude.{◌≡◌, map, ◌*◌, ◌≤◌, length};
-ghost use Rattle.lists.specs.Written.{Wrote};
-ghost use Rattle.ids.specs.Limits.{most_operations, longest_line};
+ghost use Rattle.std.specs.Prelude.{◌≡◌, map, ◌≤◌};
+ghost use Rattle.ids.specs.Limits.{most_operations};
 ghost use Rattle.manifest.specs.Operations.{operation_of, batch_of};
 ghost use Rattle.frames.specs.Frames.{texts_of};
 ghost use Rattle.commit.specs.Lent.{as_line};
 
+use frames::Lines;
 use ids::limits::LINE_BYTES;
 use manifest::operation::{Batch, EpochOp};
 use text::ByteClasses;
@@ -20,23 +20,14 @@ fn as_line(classes: &ByteClasses, change: EpochOp) -> EpochOp
     crate::lines::none()
 }
 
-// Room for the lines of any batch.
-pub fn buffer() -> [u8; LINE_BYTES]
-    ensures { length result ≡ most_operations * longest_line }
-{
-    [0; LINE_BYTES]
-}
-
-// The lines, from the start of a buffer that has room for the longest; answers their length.
-pub fn put_lines(out: &mut [u8], batch: Batch) -> usize
-    requires { (batch.count ≤ most_operations) × (most_operations * longest_line ≤ length out.old) }
-    ensures { Wrote out.old 0 (texts_of (map as_line (batch_of batch))) out.new result }
+// The lines, in the place of others, in an array that has room for those of any batch.
+pub fn put_lines(lines: &mut Lines<LINE_BYTES>, batch: Batch)
+    requires { batch.count ≤ most_operations }
+    ensures { lines.new ≡ texts_of (map as_line (batch_of batch)) }
 {
     let classes = ByteClasses::new();
-    let mut at = 0;
-    let changes = &batch.changes[..batch.count];
-    for change in changes {
-        at = frames::put_line(out, at, as_line(&classes, *change));
+    lines.clear();
+    for change in &batch.changes[..batch.count] {
+        lines.put_line(as_line(&classes, *change));
     }
-    at
 }

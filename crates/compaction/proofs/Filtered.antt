@@ -6,7 +6,15 @@ use Prim.Native.Nat.{ℕ, ◌+◌, ◌≤◌, ◌<◌}
 use native.Mathlib.Omega.{arith}
 use lib.Dec.{eqb}
 use lib.ListN.{length, get_or, drop, length-map}
+use denote.Param.Members.{Mut}
+use denote.Ref.{Bor}
 use Rattle.std.specs.List.{filter}
+use Rattle.std.specs.Fn.{CalledAt}
+use Rattle.std.specs.Iterator.{YieldsFirstBy}
+use Rattle.std.specs.Iterator.Adapters.{filter_source, filter_callee, filter_steps}
+use Rattle.std.specs.declared.iter.Filter.{Filter}
+use Rattle.std.proofs.lemmas.Iterator.{YieldsList}
+use Rattle.std.proofs.lemmas.Iterator.Consumers.{YieldsList-from_first, YieldsList-from_filter}
 use Rattle.std.proofs.lemmas.List.Recursion.{same_from_clauses}
 use Rattle.lists.specs.Keyed.{keep, any_of}
 use Rattle.lists.proofs.Keyed.{keep-keep, keep-map, length-keep}
@@ -63,3 +71,8 @@ module _ (m : VersionManagerInner) (t : ℕ) (taken : List ℕ) where
 
   pub line-turn : (i : ℕ) (x : Entry) → i < length over → x ≡ get_or over i x → drop i lines_over ≡ delete_vector_of (by_ids x) ∷ drop (i + 1) lines_over
   line-turn i x h e = turn (λ (y : Entry). delete_vector_of (by_ids y)) over i x h ∙ ap (λ (y : Entry). delete_vector_of (by_ids y) ∷ drop (i + 1) lines_over) (sym e)
+
+  -- what a filter of the shown ones gives, whose closure tests whether the rowset is taken
+  pub over-road : {S A F : Type 0} (v : A → Entry) (rest : S → List Entry) {f : F} {s : Filter S F} (g : Mut F (Bor A × Unit {0}) Bool) → rest (filter_source s) ≡ shown_of → filter_callee s ≡ f
+      → ((x : A) (b : Bool) (q : F) → CalledAt g f x b q → (q ≡ f) × (b ≡ taken_of taken (v x))) → YieldsList (filter_steps (YieldsFirstBy v rest) g) v s over
+  over-road v rest g e a k = YieldsList-from_filter g (taken_of taken) (YieldsList-from_first v rest shown_of e) a k

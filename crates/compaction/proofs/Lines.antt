@@ -1,7 +1,7 @@
--- Lines that are written one after another, each as long as the longest at most. Assumes nothing.
-use mathlib.Core.Path.{◌≡◌, refl, sym, ap, subst, ◌∙◌}
+-- Lines that are added one after another, each as long as the longest at most. Assumes nothing.
+use mathlib.Core.Path.{◌≡◌, refl, sym, ap, ◌∙◌}
 use mathlib.Core.Bool.{true}
-use mathlib.Core.List.{List, [], ◌∷◌, ◌++◌, map, append_assoc}
+use mathlib.Core.List.{List, [], ◌∷◌, ◌++◌, map, append_assoc, append-nil}
 use Prim.Native.Nat.{ℕ, zero, suc, ◌+◌, ◌*◌, ◌≤◌, ◌<◌}
 use native.Mathlib.Omega.{arith}
 use native.Mathlib.Numerals.{add-one}
@@ -9,9 +9,7 @@ use borrow.Author.Tests.{ltb-true}
 use lib.ListN.{length, get_or, take, drop, length-append, length-drop, length-take}
 use lib.Seq.{drop-cons, take_all}
 use Rattle.lists.specs.Keyed.{all_of}
-use Rattle.lists.specs.Written.{Wrote}
 use Rattle.lists.proofs.Tests.{both}
-use Rattle.lists.proofs.Written.{wrote_none, wrote_on, wrote-length}
 use Rattle.lists.proofs.Views.{map-drop}
 use Rattle.ids.specs.Ids.{largest32, is_id32}
 use Rattle.ids.specs.Limits.{longest_line}
@@ -44,21 +42,21 @@ turn f l i d h =
     let here : drop i l ≡ get_or l i d ∷ drop (i + 1) l = rw add-one (drop-cons l i d h) in
     map-drop f i l ∙ ap (map f) here ∙ ap (λ (r : List Operation). f (get_or l i d) ∷ r) (sym (map-drop f (i + 1) l))
 
--- the first i lines of os are written into s from `at` on, where the longest lines of all have room
-pub record Writing (os : List Operation) (s : List ℕ) (at i : ℕ) (t : List ℕ) (j : ℕ) : Type 0 where
-  pub room : at + longest_line * length os ≤ length s
-  pub wrote : Wrote s at (texts_of (take i os)) t j
-  pub short : j ≤ at + longest_line * length (take i os)
+-- the first i lines of os were added to s, which made it t, and the longest lines of all have room
+pub record Writing (os : List Operation) (room : ℕ) (s : List ℕ) (i : ℕ) (t : List ℕ) : Type 0 where
+  pub holds : length s + longest_line * length os ≤ room
+  pub added : t ≡ s ++ texts_of (take i os)
+  pub short : length t ≤ length s + longest_line * length (take i os)
 
-module _ (os : List Operation) (s : List ℕ) (at : ℕ) where
-  pub write-start : at + longest_line * length os ≤ length s → Writing os s at 0 s at
-  write-start room = record { room = room; wrote = wrote_none s at; short = omega arith }
+module _ (os : List Operation) (room : ℕ) (s : List ℕ) where
+  pub write-start : length s + longest_line * length os ≤ room → Writing os room s 0 s
+  write-start h = record { holds = h; added = sym (append-nil s); short = omega arith }
 
-  module _ (i : ℕ) (t : List ℕ) (j : ℕ) (w : Writing os s at i t j) where
-    pub write-done : length os ≤ i → Wrote s at (texts_of os) t j × (j ≤ at + longest_line * length os)
+  module _ (i : ℕ) (t : List ℕ) (w : Writing os room s i t) where
+    pub write-done : length os ≤ i → (t ≡ s ++ texts_of os) × (length t ≤ length s + longest_line * length os)
     write-done h =
         let e = take_all i os h in
-        (rw e at w.wrote, omega (arith, w.short, ap length e))
+        (rw e at w.added, omega (arith, w.short, ap length e))
 
     -- o is the operation at i
     module _ (o : Operation) (here : drop i os ≡ o ∷ drop (i + 1) os) (line : length (text_of o) + 1 ≤ longest_line) where
@@ -67,29 +65,21 @@ module _ (os : List Operation) (s : List ℕ) (at : ℕ) where
           let h : i < length os = omega (arith, ap length here, length-drop i os) in
           (h, rw length-take (omega arith), rw length-take (omega arith))
 
-      before : length (texts_of (take i os)) + length (text_of o ++ (10 ∷ [])) ≤ longest_line * (i + 1)
-      before = omega (arith, w.wrote.next, w.short, inside.1, line, length-append (text_of o) (10 ∷ []))
+      pub write-room : length t + length (text_of o ++ (10 ∷ [])) ≤ room
+      write-room = omega (arith, w.short, w.holds, inside.0, inside.1, line, length-append (text_of o) (10 ∷ []))
 
-      fits : at + length (texts_of (take i os)) + length (text_of o ++ (10 ∷ [])) ≤ length s
-      fits = omega (arith, before, inside.0, w.room)
-
-      pub write-room : j + length (text_of o ++ (10 ∷ [])) ≤ length t
-      write-room = omega (arith, fits, w.wrote.next, wrote-length s at (texts_of (take i os)) t j (omega (arith, fits)) w.wrote)
-
-      pub write-more : (u : List ℕ) (r : ℕ) → Wrote t j (text_of o ++ (10 ∷ [])) u r → Writing os s at (i + 1) u r
-      write-more u r a =
+      pub write-more : (u : List ℕ) → u ≡ t ++ (text_of o ++ (10 ∷ [])) → Writing os room s (i + 1) u
+      write-more u a =
           record {
-            room = w.room;
-            wrote = rw (texts-turn os i o (drop (i + 1) os) here) (wrote_on s at (texts_of (take i os)) t j (text_of o ++ (10 ∷ [])) u r fits w.wrote a);
-            short = omega (arith, before, w.wrote.next, a.next, inside.2);
+            holds = w.holds;
+            added =
+                rw (texts-turn os i o (drop (i + 1) os) here)
+                (a ∙ ap (λ (l : List ℕ). l ++ (text_of o ++ (10 ∷ []))) w.added ∙ append_assoc s (texts_of (take i os)) (text_of o ++ (10 ∷ [])));
+            short = omega (arith, w.short, ap length a, length-append t (text_of o ++ (10 ∷ [])), line, length-append (text_of o) (10 ∷ []), inside.1, inside.2);
           }
 
 -- three runs, one after another
-pub all-wrote : (a w d : List Operation) (s t : List ℕ) (i : ℕ) (u : List ℕ) (j : ℕ) (v : List ℕ) (k : ℕ) → k ≤ length s
-    → Wrote s 0 (texts_of a) t i → Wrote t i (texts_of w) u j → Wrote u j (texts_of d) v k → Wrote s 0 (texts_of (a ++ (w ++ d))) v k
-all-wrote a w d s t i u j v k room x y z =
-    let whole : texts_of (a ++ (w ++ d)) ≡ (texts_of a ++ texts_of w) ++ texts_of d = texts-append a (w ++ d) ∙ ap (λ (r : List ℕ). texts_of a ++ r) (texts-append w d) ∙ sym (append_assoc (texts_of a) (texts_of w) (texts_of d)) in
-    let size : length (texts_of a) + length (texts_of w) + length (texts_of d) ≤ length s = omega (arith, room, x.next, y.next, z.next) in
-    let n = length-append (texts_of a) (texts_of w) in
-    subst (λ (r : List ℕ). Wrote s 0 r v k) (sym whole)
-    (wrote_on s 0 (texts_of a ++ texts_of w) u j (texts_of d) v k (omega (arith, size)) (wrote_on s 0 (texts_of a) t i (texts_of w) u j (omega (arith, size)) x y) z)
+pub all-added : (a w d : List Operation) (s t u v : List ℕ) → s ≡ [] → t ≡ s ++ texts_of a → u ≡ t ++ texts_of w → v ≡ u ++ texts_of d → v ≡ texts_of (a ++ (w ++ d))
+all-added a w d s t u v e x y z =
+    rw (z, y, x, e)
+    (append_assoc (texts_of a) (texts_of w) (texts_of d) ∙ ap (λ (r : List ℕ). texts_of a ++ r) (sym (texts-append w d)) ∙ sym (texts-append a (w ++ d)))

@@ -1,5 +1,5 @@
 -- A compaction's operations, all together: how many they are, and what its parts' verdicts make. Assumes nothing.
-use mathlib.Core.Path.{◌≡◌, ap, subst, ◌∙◌}
+use mathlib.Core.Path.{◌≡◌, sym, ap, ◌∙◌}
 use mathlib.Core.Bool.{true}
 use mathlib.Core.List.{List, [], ◌∷◌, ◌++◌, map}
 use Prim.Native.Nat.{ℕ, ◌+◌, ◌-◌, ◌≤◌}
@@ -7,10 +7,9 @@ use native.Mathlib.Omega.{arith}
 use lib.Dec.{ltb}
 use lib.ListN.{length, length-append, length-map}
 use borrow.Author.Tests.{le-ltb, lt-ltb, ltb-true, ltb-false}
-use Rattle.std.specs.Prelude.{Result, Ok, Err, Some, None, is_ok}
+use Rattle.std.specs.Prelude.{Ok, Err, Some, None, is_ok}
 use Rattle.std.specs.Result.{result_and, IsErrAnd}
 use Rattle.lists.specs.Keyed.{keep}
-use Rattle.lists.specs.Written.{Wrote}
 use Rattle.lists.proofs.Tests.{by_cases, clash}
 use Rattle.ids.specs.Limits.{most_operations}
 use Rattle.ids.specs.declared.refusal.Refusal.{Refusal}
@@ -68,12 +67,11 @@ module _ (m : VersionManagerInner) (t : ℕ) (new taken : List ℕ) where
         ∙ ap (λ (v : Verdict). result_and v (judged (compact_last (state_of m) t (length (append_of operations)) room))) h
         ∙ ap (λ (k : ℕ). judged (compact_last (state_of m) t k room)) size
 
-module _ (v : Verdict) (os : List Operation) (l l' : List ℕ) where
-  pub refused : (r : Result ℕ Refusal) (q : Refusal) → IsErrAnd r (λ k. k ≡ q) → v ≡ Err q → MadeIs v os l r l'
+module _ (v : Verdict) (os : List Operation) (l : List ℕ) where
+  pub refused : (r : Verdict) (q : Refusal) → IsErrAnd r (λ k. k ≡ q) → v ≡ Err q → MadeIs v os r l
   refused (Ok n) q h e = absurd h
-  refused (Err k) q h e = record { answer = rw (h, e); written = λ a. clash (ap is_ok a) (ap is_ok e) }
+  refused (Err k) q h e = record { answer = rw (h, e); made = λ a. clash (ap is_ok a) (ap is_ok e) }
 
-  pub accepted : (n : ℕ) → Wrote l 0 (texts_of os) l' n → v ≡ Ok tt → MadeIs v os l (Ok n) l'
-  accepted n w h =
-      let e : n ≡ length (texts_of os) = omega (arith, w.next) in
-      record { answer = rw (h, e); written = λ a. subst (λ (k : ℕ). Wrote l 0 (texts_of os) l' k) e w }
+  -- the last verdict decides
+  pub ended : (r : Verdict) → l ≡ texts_of os → v ≡ r → MadeIs v os r l
+  ended r w h = record { answer = sym h; made = λ a. w }

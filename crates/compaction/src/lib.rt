@@ -1,9 +1,8 @@
 // A compaction's commit: what is judged of it, and the lines that it commits.
 #![tactic(auto)]
 
-ghost use Rattle.std.specs.Prelude.{◌≡◌, true, ◌&&◌, map, ◌*◌, ◌≤◌, ltb, length};
+ghost use Rattle.std.specs.Prelude.{◌≡◌, true, ◌&&◌, ◌++◌, map, ◌+◌, ◌*◌, ◌≤◌, ltb, length};
 ghost use Rattle.lists.specs.Keyed.{all_of, ascending};
-ghost use Rattle.lists.specs.Written.{Wrote};
 ghost use Rattle.ids.specs.Ids.{is_id32};
 ghost use Rattle.ids.specs.Limits.{most_operations, longest_line};
 ghost use Rattle.ids.specs.Verdicts.{judged};
@@ -15,7 +14,8 @@ ghost use Rattle.table.specs.Compact.{compacted_by, compact_state, compact_last,
 ghost use Rattle.table.specs.Says.{MadeIs};
 ghost use Rattle.compaction.specs.New.{new_of};
 
-use ids::limits::{LAST_EPOCH, LONGEST_MANIFEST, MOST_HELD, MOST_OPERATIONS};
+use frames::Lines;
+use ids::limits::{LAST_EPOCH, LINE_BYTES, LONGEST_MANIFEST, MOST_HELD, MOST_OPERATIONS};
 use ids::refusal::Refusal;
 use ids::{RowsetNo, TableNo};
 use manifest::operation::EpochOp;
@@ -97,42 +97,40 @@ impl Compaction<'_> {
         Ok(())
     }
 
-    // The `A` line of the new rowset, if there is one, at the front; answers the place after it.
-    fn put_new(&self, out: &mut [u8]) -> usize
-        requires { longest_line * length (new_of self.now.new) ≤ length out.old }
-        ensures wrote { Wrote out.old 0 (texts_of (map (add_rowset self.now.table.0) (new_of self.now.new))) out.new result }
-        ensures short { result ≤ longest_line * length (new_of self.now.new) }
+    // The `A` line of the new rowset, if there is one.
+    fn put_new(&self, lines: &mut Lines<LINE_BYTES>)
+        requires { length lines.old + longest_line * length (new_of self.now.new) ≤ most_operations * longest_line }
+        ensures added { lines.new ≡ lines.old ++ texts_of (map (add_rowset self.now.table.0) (new_of self.now.new)) }
+        ensures short { length lines.new ≤ length lines.old + longest_line * length (new_of self.now.new) }
     {
-        match self.new {
-            Some(r) => frames::put_line(out, 0, EpochOp::AddRowSet(self.table, r)),
-            None => 0,
+        if let Some(r) = self.new {
+            lines.put_line(EpochOp::AddRowSet(self.table, r));
         }
     }
 
-    // The lines: `A` for the new rowset, `W` for the vectors over the taken rowsets, `D` for these; answers their length.
-    fn put(&self, out: &mut [u8]) -> usize
-        requires { longest_line * length (compacted_by (state_of self.now.state.inner.now) self.now.table.0 (new_of self.now.new) self.now.taken.now) ≤ length out.old }
-        ensures wrote { Wrote out.old 0 (texts_of (compacted_by (state_of self.now.state.inner.now) self.now.table.0 (new_of self.now.new) self.now.taken.now)) out.new result }
-        ensures short { result ≤ longest_line * length (compacted_by (state_of self.now.state.inner.now) self.now.table.0 (new_of self.now.new) self.now.taken.now) }
+    // The lines, in the place of others: `A` for the new rowset, `W` for the vectors over the taken rowsets, `D` for these.
+    fn put(&self, lines: &mut Lines<LINE_BYTES>)
+        requires { length (compacted_by (state_of self.now.state.inner.now) self.now.table.0 (new_of self.now.new) self.now.taken.now) ≤ most_operations }
+        ensures { lines.new ≡ texts_of (compacted_by (state_of self.now.state.inner.now) self.now.table.0 (new_of self.now.new) self.now.taken.now) }
     {
-        let at = self.put_new(out);
-        let at = self.put_over(out, at);
-        self.put_taken(out, at)
+        lines.clear();
+        self.put_new(lines);
+        self.put_over(lines);
+        self.put_taken(lines);
     }
 }
 
 // Internal: `lines` has room for the lines of any commit. A compaction that puts the new rowset in the place of the taken ones, lent a
-// buffer of `room` for the append; answers the length of its lines. Its parts come one by one, as the C interface lends them.
+// buffer of `room` for the append. Its parts come one by one, as the C interface lends them.
 pub fn compact(
     state: SoundState<'_>,
     table: TableNo,
     new: Option<RowsetNo>,
     taken: &[u32],
     room: usize,
-    lines: &mut [u8],
-) -> Result<usize, Refusal>
-    requires { most_operations * longest_line ≤ length lines.old }
-    ensures { MadeIs (judged (compact_rules (state_of state.entry.inner.now) table.0 (new_of new) taken.now room)) (compacted_by (state_of state.entry.inner.now) table.0 (new_of new) taken.now) lines.old result lines.new }
+    lines: &mut Lines<LINE_BYTES>,
+) -> Result<(), Refusal>
+    ensures { MadeIs (judged (compact_rules (state_of state.entry.inner.now) table.0 (new_of new) taken.now room)) (compacted_by (state_of state.entry.inner.now) table.0 (new_of new) taken.now) result lines.new }
 {
     if !valid(table, new, taken) {
         return Err(Refusal::Malformed(0));
@@ -147,7 +145,6 @@ pub fn compact(
         return Err(Refusal::TooManyOperations(0));
     }
     compaction.judge()?;
-    let length = compaction.put(lines);
-    compaction.judge_append(length + table::APPEND_BYTES, room)?;
-    Ok(length)
+    compaction.put(lines);
+    compaction.judge_append(lines.as_slice().len() + table::APPEND_BYTES, room)
 }

@@ -1,13 +1,14 @@
 // The vectors over taken rowsets.
-ghost use Rattle.std.specs.Prelude.{◌≡◌, map, ◌+◌, ◌*◌, ◌≤◌, length};
+ghost use Rattle.std.specs.Prelude.{◌≡◌, ◌++◌, map, ◌+◌, ◌*◌, ◌≤◌, length};
 ghost use Rattle.lists.specs.Keyed.{keep};
-ghost use Rattle.lists.specs.Written.{Wrote};
-ghost use Rattle.ids.specs.Limits.{longest_line};
+ghost use Rattle.ids.specs.Limits.{most_operations, longest_line};
 ghost use Rattle.frames.specs.Frames.{texts_of};
 ghost use Rattle.version_state.specs.State.{state_of, vectors_at};
 ghost use Rattle.table.specs.Made.{is_over, delete_vector_of};
 
 use crate::Compaction;
+use frames::Lines;
+use ids::limits::LINE_BYTES;
 use manifest::operation::EpochOp;
 
 impl Compaction<'_> {
@@ -23,13 +24,12 @@ impl Compaction<'_> {
             .count()
     }
 
-    // Their `W` lines, from a place on; answers the place after them.
-    pub(crate) fn put_over(&self, out: &mut [u8], at: usize) -> usize
-        requires room { at + longest_line * length (keep (is_over self.now.table.0 self.now.taken.now) (vectors_at self.now.state.inner.now.epoch (state_of self.now.state.inner.now))) ≤ length out.old }
-        ensures wrote { Wrote out.old at (texts_of (map delete_vector_of (keep (is_over self.now.table.0 self.now.taken.now) (vectors_at self.now.state.inner.now.epoch (state_of self.now.state.inner.now))))) out.new result }
-        ensures short { result ≤ at + longest_line * length (keep (is_over self.now.table.0 self.now.taken.now) (vectors_at self.now.state.inner.now.epoch (state_of self.now.state.inner.now))) }
+    // Their `W` lines.
+    pub(crate) fn put_over(&self, lines: &mut Lines<LINE_BYTES>)
+        requires room { length lines.old + longest_line * length (keep (is_over self.now.table.0 self.now.taken.now) (vectors_at self.now.state.inner.now.epoch (state_of self.now.state.inner.now))) ≤ most_operations * longest_line }
+        ensures added { lines.new ≡ lines.old ++ texts_of (map delete_vector_of (keep (is_over self.now.table.0 self.now.taken.now) (vectors_at self.now.state.inner.now.epoch (state_of self.now.state.inner.now)))) }
+        ensures short { length lines.new ≤ length lines.old + longest_line * length (keep (is_over self.now.table.0 self.now.taken.now) (vectors_at self.now.state.inner.now.epoch (state_of self.now.state.inner.now))) }
     {
-        let mut at = at;
         let over = self
             .state
             .inner
@@ -37,8 +37,7 @@ impl Compaction<'_> {
             .shown_of(self.table, self.state.inner.epoch)
             .filter(|v| self.takes(v.rowset));
         for v in over {
-            at = frames::put_line(out, at, EpochOp::DeleteDV(v.table, v.rowset, v.vector));
+            lines.put_line(EpochOp::DeleteDV(v.table, v.rowset, v.vector));
         }
-        at
     }
 }

@@ -1,9 +1,8 @@
 // The taken rowsets, lent as rising ids.
-ghost use Rattle.std.specs.Prelude.{◌≡◌, ◌&&◌, [], ◌∷◌, map, ◌+◌, ◌*◌, ◌≤◌, eqb, length};
+ghost use Rattle.std.specs.Prelude.{◌≡◌, ◌&&◌, [], ◌∷◌, ◌++◌, map, ◌+◌, ◌*◌, ◌≤◌, eqb, length};
 ghost use Rattle.lists.specs.Keyed.{all_of, any_of, ascending};
-ghost use Rattle.lists.specs.Written.{Wrote};
 ghost use Rattle.ids.specs.Ids.{is_id32};
-ghost use Rattle.ids.specs.Limits.{longest_line};
+ghost use Rattle.ids.specs.Limits.{most_operations, longest_line};
 ghost use Rattle.manifest.specs.Operations.{delete_rowset};
 ghost use Rattle.frames.specs.Frames.{texts_of};
 ghost use Rattle.snapshot.specs.Views.{rowsets_of};
@@ -11,7 +10,9 @@ ghost use Rattle.operations.specs.Judge.{is_shown};
 ghost use Rattle.table.specs.Made.{by_number};
 
 use crate::Compaction;
+use frames::Lines;
 use ids::RowsetNo;
+use ids::limits::LINE_BYTES;
 use manifest::operation::EpochOp;
 
 // Ids, each above the one before it.
@@ -37,20 +38,13 @@ impl Compaction<'_> {
         self.taken.iter().all(|x| inner.rowsets.shows(self.table, RowsetNo(*x), inner.epoch))
     }
 
-    // Their `D` lines, from a place on; answers the place after them.
-    pub(crate) fn put_taken(&self, out: &mut [u8], at: usize) -> usize
-        requires { at + longest_line * length self.now.taken.now ≤ length out.old }
-        ensures wrote { Wrote out.old at (texts_of (map (delete_rowset self.now.table.0) self.now.taken.now)) out.new result }
-        ensures short { result ≤ at + longest_line * length self.now.taken.now }
+    // Their `D` lines.
+    pub(crate) fn put_taken(&self, lines: &mut Lines<LINE_BYTES>)
+        requires { length lines.old + longest_line * length self.now.taken.now ≤ most_operations * longest_line }
+        ensures { lines.new ≡ lines.old ++ texts_of (map (delete_rowset self.now.table.0) self.now.taken.now) }
     {
-        let mut at = at;
         for rowset in self.taken {
-            at = frames::put_line(
-                out,
-                at,
-                EpochOp::DeleteRowSet(self.table, RowsetNo(*rowset)),
-            );
+            lines.put_line(EpochOp::DeleteRowSet(self.table, RowsetNo(*rowset)));
         }
-        at
     }
 }

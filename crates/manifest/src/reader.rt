@@ -4,7 +4,8 @@ ghost use Rattle.manifest.specs.Split.{line_at};
 
 use text::ByteClasses;
 
-// The line at a place: its bytes are those from start to end, where its newline stands, and next is the place after that.
+// The line at a place: its bytes are those from start to end, where its newline stands, and next is the place after that. Places and no slice: a
+// frame is read again from a place, and the definition of a line speaks of places; a slice beside them would be no plainer.
 #[derive(Clone, Copy)]
 pub struct LineAt {
     pub start: usize,

@@ -2,4 +2,3 @@
 pub mod Lines
 pub mod Room
 pub mod Whole
-pub mod Printed

@@ -2,8 +2,7 @@
 // function that is lent a state asks for it.
 #![tactic(auto)]
 
-ghost use Rattle.std.specs.Prelude.{◌≡◌, [], ◌∷◌, map, ◌+◌, ◌*◌, ◌≤◌, length};
-ghost use Rattle.lists.specs.Written.{Wrote};
+ghost use Rattle.std.specs.Prelude.{◌≡◌, [], ◌∷◌, ◌++◌, map, ◌+◌, ◌*◌, ◌≤◌, length};
 ghost use Rattle.ids.specs.Limits.{most_tables, most_held};
 ghost use Rattle.ids.specs.Names.{name_of};
 ghost use Rattle.manifest.specs.Operations.{create_table, next_ids, operation_of};
@@ -13,6 +12,7 @@ ghost use Rattle.rewrite.specs.Laws.{RewrittenFits};
 ghost use Rattle.rewrite.specs.Says.{RewriteIs};
 ghost use Rattle.rewrite.specs.Rewritten.{create_of, add_of, add_vector_of, longest_next, longest_create, longest_add, longest_add_vector, longest_rewritten, rewritten_of};
 
+use frames::Lines;
 use ids::TableNo;
 use ids::limits::LONGEST_REWRITTEN;
 use ids::name::Name;
@@ -39,58 +39,53 @@ pub fn create_change(table: TableNo, shape: u32, name: Name) -> EpochOp
     EpochOp::CreateTable(table, shape, name)
 }
 
-// The `T` lines, from `at` on; locks are not written. By places: `Tables` has no iterator, and one for this loop would be no plainer.
-fn put_tables(inner: &VersionManagerInner, out: &mut [u8], at: usize) -> usize
+// The `T` lines; locks are not written. By places: `Tables` has no iterator, and one for this loop would be no plainer.
+fn put_tables(inner: &VersionManagerInner, lines: &mut Lines<LONGEST_REWRITTEN>)
     requires fits { Fit inner.now }
-    requires room { at + longest_create * most_tables ≤ length out.old }
-    ensures { Wrote out.old at (texts_of (map create_of (state_of inner.now).tables)) out.new result × (result ≤ at + longest_create * most_tables) }
+    requires room { length lines.old + longest_create * most_tables ≤ longest_rewritten }
+    ensures { (lines.new ≡ lines.old ++ texts_of (map create_of (state_of inner.now).tables)) × (length lines.new ≤ length lines.old + longest_create * most_tables) }
 {
-    let mut at = at;
     for i in 0..inner.tables.count {
         let table = inner.tables.get(i);
-        at = frames::put_line(out, at, create_change(table.table, table.shape, table.name));
+        lines.put_line(create_change(table.table, table.shape, table.name));
     }
-    at
 }
 
-// The `A` lines of what is shown now, from `at` on. Its own loop: a shared one, handed the operations, would not know how long their lines are, and
+// The `A` lines of what is shown now. Its own loop: a shared one, handed the operations, would not know how long their lines are, and
 // be no plainer.
-fn put_pairs(inner: &VersionManagerInner, out: &mut [u8], at: usize) -> usize
+fn put_pairs(inner: &VersionManagerInner, lines: &mut Lines<LONGEST_REWRITTEN>)
     requires fits { Fit inner.now }
-    requires room { at + longest_add * most_held ≤ length out.old }
-    ensures { Wrote out.old at (texts_of (map add_of (pairs_at inner.now.epoch (state_of inner.now)))) out.new result × (result ≤ at + longest_add * most_held) }
+    requires room { length lines.old + longest_add * most_held ≤ longest_rewritten }
+    ensures { (lines.new ≡ lines.old ++ texts_of (map add_of (pairs_at inner.now.epoch (state_of inner.now)))) × (length lines.new ≤ length lines.old + longest_add * most_held) }
 {
-    let mut at = at;
     for r in inner.rowsets.shown(inner.epoch) {
-        at = frames::put_line(out, at, EpochOp::AddRowSet(r.table, r.rowset));
+        lines.put_line(EpochOp::AddRowSet(r.table, r.rowset));
     }
-    at
 }
 
-// The `V` lines of what is shown now, from `at` on. Its own loop, as above: a shared one would be no plainer.
-fn put_vectors(inner: &VersionManagerInner, out: &mut [u8], at: usize) -> usize
+// The `V` lines of what is shown now. Its own loop, as above: a shared one would be no plainer.
+fn put_vectors(inner: &VersionManagerInner, lines: &mut Lines<LONGEST_REWRITTEN>)
     requires fits { Fit inner.now }
-    requires room { at + longest_add_vector * most_held ≤ length out.old }
-    ensures { Wrote out.old at (texts_of (map add_vector_of (vectors_at inner.now.epoch (state_of inner.now)))) out.new result × (result ≤ at + longest_add_vector * most_held) }
+    requires room { length lines.old + longest_add_vector * most_held ≤ longest_rewritten }
+    ensures { (lines.new ≡ lines.old ++ texts_of (map add_vector_of (vectors_at inner.now.epoch (state_of inner.now)))) × (length lines.new ≤ length lines.old + longest_add_vector * most_held) }
 {
-    let mut at = at;
     for v in inner.vectors.shown(inner.epoch) {
-        at = frames::put_line(out, at, EpochOp::AddDV(v.table, v.rowset, v.vector));
+        lines.put_line(EpochOp::AddDV(v.table, v.rowset, v.vector));
     }
-    at
 }
 
-// The rewritten manifest, at the start of a slice that has room for the longest one. Returns its length.
-pub fn put_rewritten(inner: &VersionManagerInner, out: &mut [u8]) -> usize
-    requires { Fit inner.now × (longest_rewritten ≤ length out.old) }
-    ensures { Wrote out.old 0 (rewritten_of (state_of inner.now)) out.new result × (result ≤ longest_rewritten) }
+// The rewritten manifest, in the place of other lines, in an array that has room for the longest one.
+pub fn put_rewritten(inner: &VersionManagerInner, lines: &mut Lines<LONGEST_REWRITTEN>)
+    requires { Fit inner.now }
+    ensures { (lines.new ≡ rewritten_of (state_of inner.now)) × (length lines.new ≤ longest_rewritten) }
 {
-    let at = frames::put_letter(out, 0, b'B');
-    let at = frames::put_line(out, at, next_change(inner.next));
-    let at = put_tables(inner, out, at);
-    let at = put_pairs(inner, out, at);
-    let at = put_vectors(inner, out, at);
-    frames::put_letter(out, at, b'E')
+    lines.clear();
+    lines.put_letter(b'B');
+    lines.put_line(next_change(inner.next));
+    put_tables(inner, lines);
+    put_pairs(inner, lines);
+    put_vectors(inner, lines);
+    lines.put_letter(b'E');
 }
 
 // The rewritten manifest handed out, for a reopened store and for one that stays open; answers its length. Refused where the lent bytes do not hold
@@ -99,12 +94,14 @@ pub fn rewrite_into(inner: &mut VersionManagerInner, out: &mut [u8]) -> Result<u
     requires { Fit inner.old }
     ensures { RewriteIs (state_of inner.old) out.old result inner.new out.new }
 {
-    let mut printed = [0; LONGEST_REWRITTEN];
-    let n = put_rewritten(inner, &mut printed);
+    let mut lines = Lines::new();
+    put_rewritten(inner, &mut lines);
+    let printed = lines.as_slice();
+    let n = printed.len();
     if out.len() < n {
         return Err(Refusal::OutputTooShort);
     }
-    text::put_bytes(out, 0, &printed[..n]);
+    text::put_bytes(out, 0, printed);
     inner.manifest = n;
     Ok(n)
 }

@@ -1,18 +1,16 @@
 -- Create and drop: what each rule tells of the verdict, and the lines of a drop. Assumes nothing.
-use mathlib.Core.Path.{◌≡◌, refl, sym, ap, subst, ◌∙◌}
+use mathlib.Core.Path.{◌≡◌, refl, sym, ap, ◌∙◌}
 use mathlib.Core.Bool.{true, false}
 use mathlib.Core.List.{List, [], ◌∷◌, ◌++◌, map, append_assoc}
-use Prim.Native.Nat.{ℕ, ◌+◌, ◌*◌, ◌≤◌, ◌<◌}
+use Prim.Native.Nat.{ℕ, ◌+◌, ◌≤◌, ◌<◌}
 use native.Mathlib.Omega.{arith}
 use lib.Dec.{leb, ltb}
 use lib.ListN.{length}
 use borrow.Author.Tests.{le-leb, lt-leb}
 use Rattle.std.specs.Prelude.{Ok, Err}
 use Rattle.lists.specs.Keyed.{keep}
-use Rattle.lists.specs.Written.{Wrote}
-use Rattle.lists.proofs.Written.{wrote_on}
 use Rattle.ids.specs.Ids.{largest32, is_id32}
-use Rattle.ids.specs.Limits.{most_tables, most_held, last_epoch, longest_manifest, longest_line}
+use Rattle.ids.specs.Limits.{most_tables, last_epoch, longest_manifest}
 use Rattle.ids.specs.declared.refusal.Refusal.{Refusal}
 use Rattle.ids.specs.declared.refusal.Refusal.TheVariants.{TablesFull, ManifestFull, IdsUsedUp, OutputTooShort}
 use Rattle.ids.specs.Verdicts.{Rule, ◌⇒◌, judged, Verdict}
@@ -29,19 +27,17 @@ use Rattle.commit.specs.Commit.{append_of}
 use Rattle.table.specs.Made.{of_table, delete_rowset_of, delete_vector_of}
 use Rattle.table.specs.Create.{created_by, create_rules}
 use Rattle.table.specs.Drop.{dropped_by, drop_rules}
-use Rattle.table.specs.Says.{longest_drop, MadeIs}
+use Rattle.table.specs.Says.{MadeIs}
 
-pub made-no : {v : Verdict} {os : List Operation} {l l' : List ℕ} {k : Refusal} → v ≡ Err k → MadeIs v os l (Err k) l'
-made-no h = record { answer = rw h; written = λ a. absurd (let z : ◌≡◌ {A = ℕ} 0 1 = cc (a, h) in omega arith) }
+pub made-no : {v : Verdict} {os : List Operation} {l : List ℕ} {k : Refusal} → v ≡ Err k → MadeIs v os (Err k) l
+made-no h = record { answer = sym h; made = λ a. absurd (let z : ◌≡◌ {A = ℕ} 0 1 = cc (a, h) in omega arith) }
 
-pub made-yes : {v : Verdict} {os : List Operation} {l l' : List ℕ} {n : ℕ} → v ≡ Ok tt → Wrote l 0 (texts_of os) l' n → MadeIs v os l (Ok n) l'
-made-yes {os = os} {l} {l'} {n} h w =
-    let e : n ≡ length (texts_of os) = omega (arith, w.next) in
-    record { answer = rw (h, e); written = λ a. subst (λ (k : ℕ). Wrote l 0 (texts_of os) l' k) e w }
+pub made-yes : {v : Verdict} {os : List Operation} {l : List ℕ} → v ≡ Ok tt → l ≡ texts_of os → MadeIs v os (Ok tt) l
+made-yes h w = record { answer = sym h; made = λ a. w }
 
 -- the append of lines of n bytes
-append-size : (os : List Operation) (l l' : List ℕ) (n : ℕ) → Wrote l 0 (texts_of os) l' n → length (append_of os) ≡ n + 6
-append-size os l l' n w = omega (arith, frame-long os, w.next)
+append-size : (os : List Operation) (l : List ℕ) → l ≡ texts_of os → length (append_of os) ≡ length l + 6
+append-size os l w = omega (arith, frame-long os, ap length w)
 
 module _ (m : VersionManagerInner) where
   -- create: what is left to judge where the lines have n bytes
@@ -63,17 +59,17 @@ module _ (m : VersionManagerInner) where
     pub create-full : most_tables ≤ m.tables.count → judged (create_rules (state_of m) shape name room) ≡ Err (TablesFull 0)
     create-full h = rw (named, free, lt-leb last_epoch m.epoch early, le-leb most_tables (length (state_of m).tables) (omega (arith, tables-count m.tables, h)))
 
-    pub create-judged : m.tables.count < most_tables → (l l' : List ℕ) (n : ℕ) → Wrote l 0 (texts_of (created_by (state_of m) shape name)) l' n
-        → judged (create_rules (state_of m) shape name room) ≡ judged (create_left room n)
-    create-judged few l l' n w =
-        rw (named, free, lt-leb last_epoch m.epoch early, lt-leb most_tables (length (state_of m).tables) (omega (arith, tables-count m.tables, few)), append-size (created_by (state_of m) shape name) l l' n w)
+    pub create-judged : m.tables.count < most_tables → (l : List ℕ) → l ≡ texts_of (created_by (state_of m) shape name)
+        → judged (create_rules (state_of m) shape name room) ≡ judged (create_left room (length l))
+    create-judged few l w =
+        rw (named, free, lt-leb last_epoch m.epoch early, lt-leb most_tables (length (state_of m).tables) (omega (arith, tables-count m.tables, few)), append-size (created_by (state_of m) shape name) l w)
         refl
 
-  pub drop-judged : (t room : ℕ) → is_id32 t ≡ true → is_live t (state_of m) ≡ true → m.epoch < last_epoch → (l l' : List ℕ) (n : ℕ) → Wrote l 0 (texts_of (dropped_by (state_of m) t)) l' n
-      → judged (drop_rules (state_of m) t room) ≡ judged (drop_left room n)
-  drop-judged t room id live early l l' n w = rw (id, live, lt-leb last_epoch m.epoch early, append-size (dropped_by (state_of m) t) l l' n w) refl
+  pub drop-judged : (t room : ℕ) → is_id32 t ≡ true → is_live t (state_of m) ≡ true → m.epoch < last_epoch → (l : List ℕ) → l ≡ texts_of (dropped_by (state_of m) t)
+      → judged (drop_rules (state_of m) t room) ≡ judged (drop_left room (length l))
+  drop-judged t room id live early l w = rw (id, live, lt-leb last_epoch m.epoch early, append-size (dropped_by (state_of m) t) l w) refl
 
--- the `X` line, the `W` lines and the `D` lines, written one after another
+-- the `X` line, the `W` lines and the `D` lines, one after another
 module _ (m : VersionManagerInner) (t : ℕ) where
   abbrev vector_lines : List Operation
   vector_lines = map delete_vector_of (keep (of_table t) (vectors_at m.epoch (state_of m)))
@@ -81,20 +77,9 @@ module _ (m : VersionManagerInner) (t : ℕ) where
   abbrev pair_lines : List Operation
   pair_lines = map delete_rowset_of (keep (of_table t) (pairs_at m.epoch (state_of m)))
 
-  lines-joined : (texts_of (drop_table t ∷ []) ++ texts_of vector_lines) ++ texts_of pair_lines ≡ texts_of (dropped_by (state_of m) t)
-  lines-joined =
-      append_assoc (texts_of (drop_table t ∷ [])) (texts_of vector_lines) (texts_of pair_lines)
+  pub drop-made : (a b c : List ℕ) → a ≡ texts_of (drop_table t ∷ []) → b ≡ a ++ texts_of vector_lines → c ≡ b ++ texts_of pair_lines → c ≡ texts_of (dropped_by (state_of m) t)
+  drop-made a b c x y z =
+      rw (z, y, x)
+      (append_assoc (texts_of (drop_table t ∷ [])) (texts_of vector_lines) (texts_of pair_lines)
       ∙ ap (λ (l : List ℕ). texts_of (drop_table t ∷ []) ++ l) (sym (texts-append vector_lines pair_lines))
-      ∙ sym (texts-append (drop_table t ∷ []) (vector_lines ++ pair_lines))
-
-  pub drop-wrote : (l a b c : List ℕ) (i j k : ℕ) → longest_drop ≤ length l → i ≤ longest_line → Wrote l 0 (texts_of (drop_table t ∷ [])) a i
-      → Wrote a i (texts_of vector_lines) b j × (j ≤ i + longest_line * most_held) → Wrote b j (texts_of pair_lines) c k × (k ≤ j + longest_line * most_held)
-      → Wrote l 0 (texts_of (dropped_by (state_of m) t)) c k × (k ≤ longest_drop)
-  drop-wrote l a b c i j k room short x y z = (
-    subst (λ (run : List ℕ). Wrote l 0 run c k) lines-joined
-        (wrote_on l 0 (texts_of (drop_table t ∷ []) ++ texts_of vector_lines) b j (texts_of pair_lines) c k (omega (arith, room, short, y.1, z.1, z.0.next, both.next)) both z.0),
-    omega (arith, short, y.1, z.1),
-  )
-    where
-      both : Wrote l 0 (texts_of (drop_table t ∷ []) ++ texts_of vector_lines) b j
-      both = wrote_on l 0 (texts_of (drop_table t ∷ [])) a i (texts_of vector_lines) b j (omega (arith, room, short, y.1, x.next, y.0.next)) x y.0
+      ∙ sym (texts-append (drop_table t ∷ []) (vector_lines ++ pair_lines)))

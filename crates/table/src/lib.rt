@@ -1,11 +1,10 @@
 // Commits that a call makes itself from what is shown now: create and drop of tables, and a compaction.
 #![tactic(auto)]
 
-ghost use Rattle.std.specs.Prelude.{◌≡◌, true, map, ◌+◌, ◌*◌, ◌≤◌, length};
+ghost use Rattle.std.specs.Prelude.{◌≡◌, true, ◌++◌, map, ◌+◌, ◌*◌, ◌≤◌, length};
 ghost use Rattle.lists.specs.Keyed.{keep};
-ghost use Rattle.lists.specs.Written.{Wrote};
 ghost use Rattle.ids.specs.Ids.{is_id32};
-ghost use Rattle.ids.specs.Limits.{most_held, longest_line};
+ghost use Rattle.ids.specs.Limits.{most_held, most_operations, longest_line};
 ghost use Rattle.ids.specs.Names.{name_of};
 ghost use Rattle.ids.specs.Verdicts.{judged};
 ghost use Rattle.frames.specs.Frames.{texts_of};
@@ -13,11 +12,14 @@ ghost use Rattle.version_state.specs.State.{state_of, pairs_at, vectors_at};
 ghost use Rattle.table.specs.Made.{of_table, delete_rowset_of, delete_vector_of};
 ghost use Rattle.table.specs.Create.{created_by, create_rules};
 ghost use Rattle.table.specs.Drop.{dropped_by, drop_rules};
-ghost use Rattle.table.specs.Says.{longest_drop, MadeIs};
+ghost use Rattle.table.specs.Says.{MadeIs};
 ghost use Rattle.table.specs.Laws.{MadeLaws};
 
+use frames::Lines;
 use ids::TableNo;
-use ids::limits::{LARGEST_32, LAST_EPOCH, LONGEST_MANIFEST, MOST_TABLES};
+use ids::limits::{
+    LARGEST_32, LAST_EPOCH, LINE_BYTES, LONGEST_LINE, LONGEST_MANIFEST, MOST_TABLES,
+};
 use ids::name::Name;
 use ids::refusal::Refusal;
 use manifest::operation::EpochOp;
@@ -32,56 +34,51 @@ pub fn holds()
     ensures { MadeLaws }
 {}
 
-// Internal, as is what follows. The `W` lines of the table's vectors that are shown now, from `at` on. Its own loop: a shared one, handed the
+// Internal, as is what follows. The `W` lines of the table's vectors that are shown now. Its own loop: a shared one, handed the
 // operations, would not know how long their lines are, and be no plainer.
-fn put_vectors(state: SoundState<'_>, table: TableNo, lines: &mut [u8], at: usize) -> usize
+fn put_vectors(state: SoundState<'_>, table: TableNo, lines: &mut Lines<LINE_BYTES>)
     requires id { is_id32 table.0 ≡ true }
-    requires room { at + longest_line * most_held ≤ length lines.old }
-    ensures { Wrote lines.old at (texts_of (map delete_vector_of (keep (of_table table.0) (vectors_at state.entry.inner.now.epoch (state_of state.entry.inner.now))))) lines.new result × (result ≤ at + longest_line * most_held) }
+    requires room { length lines.old + longest_line * most_held ≤ most_operations * longest_line }
+    ensures { (lines.new ≡ lines.old ++ texts_of (map delete_vector_of (keep (of_table table.0) (vectors_at state.entry.inner.now.epoch (state_of state.entry.inner.now))))) × (length lines.new ≤ length lines.old + longest_line * most_held) }
 {
     let inner = state.inner;
-    let mut at = at;
     for v in inner.vectors.shown_of(table, inner.epoch) {
-        at = frames::put_line(lines, at, EpochOp::DeleteDV(v.table, v.rowset, v.vector));
+        lines.put_line(EpochOp::DeleteDV(v.table, v.rowset, v.vector));
     }
-    at
 }
 
-// The `D` lines of the table's rowsets that are shown now, from `at` on. Its own loop, as above: a shared one would be no plainer.
-fn put_pairs(state: SoundState<'_>, table: TableNo, lines: &mut [u8], at: usize) -> usize
+// The `D` lines of the table's rowsets that are shown now. Its own loop, as above: a shared one would be no plainer.
+fn put_pairs(state: SoundState<'_>, table: TableNo, lines: &mut Lines<LINE_BYTES>)
     requires id { is_id32 table.0 ≡ true }
-    requires room { at + longest_line * most_held ≤ length lines.old }
-    ensures { Wrote lines.old at (texts_of (map delete_rowset_of (keep (of_table table.0) (pairs_at state.entry.inner.now.epoch (state_of state.entry.inner.now))))) lines.new result × (result ≤ at + longest_line * most_held) }
+    requires room { length lines.old + longest_line * most_held ≤ most_operations * longest_line }
+    ensures { (lines.new ≡ lines.old ++ texts_of (map delete_rowset_of (keep (of_table table.0) (pairs_at state.entry.inner.now.epoch (state_of state.entry.inner.now))))) × (length lines.new ≤ length lines.old + longest_line * most_held) }
 {
     let inner = state.inner;
-    let mut at = at;
     for r in inner.rowsets.shown_of(table, inner.epoch) {
-        at = frames::put_line(lines, at, EpochOp::DeleteRowSet(r.table, r.rowset));
+        lines.put_line(EpochOp::DeleteRowSet(r.table, r.rowset));
     }
-    at
 }
 
-// The lines of a drop, at the start of a buffer that has room for the longest; answers their length.
-fn put_drop(state: SoundState<'_>, table: TableNo, lines: &mut [u8]) -> usize
+// The lines of a drop, in the place of others.
+fn put_drop(state: SoundState<'_>, table: TableNo, lines: &mut Lines<LINE_BYTES>)
     requires id { is_id32 table.0 ≡ true }
-    requires room { longest_drop ≤ length lines.old }
-    ensures { Wrote lines.old 0 (texts_of (dropped_by (state_of state.entry.inner.now) table.0)) lines.new result × (result ≤ longest_drop) }
+    ensures { lines.new ≡ texts_of (dropped_by (state_of state.entry.inner.now) table.0) }
 {
-    let at = frames::put_line(lines, 0, EpochOp::DropTable(table));
-    let at = put_vectors(state, table, lines, at);
-    put_pairs(state, table, lines, at)
+    lines.clear();
+    lines.put_line(EpochOp::DropTable(table));
+    put_vectors(state, table, lines);
+    put_pairs(state, table, lines);
 }
 
-// Create of a table with the next id, for an append into `room` bytes. As in `drop`, `lines` has room for them; answers their length.
+// Create of a table with the next id, for an append into `room` bytes. As in `drop`, `lines` has room for its lines, which take the place of others.
 pub fn create(
     state: SoundState<'_>,
     shape: u32,
     name: Name,
     room: usize,
-    lines: &mut [u8],
-) -> Result<usize, Refusal>
-    requires { longest_line ≤ length lines.old }
-    ensures { MadeIs (judged (create_rules (state_of state.entry.inner.now) shape (name_of name) room)) (created_by (state_of state.entry.inner.now) shape (name_of name)) lines.old result lines.new }
+    lines: &mut Lines<LONGEST_LINE>,
+) -> Result<(), Refusal>
+    ensures { MadeIs (judged (create_rules (state_of state.entry.inner.now) shape (name_of name) room)) (created_by (state_of state.entry.inner.now) shape (name_of name)) result lines.new }
 {
     let inner = state.inner;
     if !ByteClasses::new().is_name(name.as_slice()) {
@@ -97,8 +94,9 @@ pub fn create(
         return Err(Refusal::TablesFull(0));
     }
     let next = inner.next.table;
-    let length = frames::put_line(lines, 0, rewrite::create_change(next, shape, name));
-    let size = length + APPEND_BYTES;
+    lines.clear();
+    lines.put_line(rewrite::create_change(next, shape, name));
+    let size = lines.as_slice().len() + APPEND_BYTES;
     if LONGEST_MANIFEST < inner.manifest + size {
         return Err(Refusal::ManifestFull);
     }
@@ -108,7 +106,7 @@ pub fn create(
     if room < size {
         return Err(Refusal::OutputTooShort);
     }
-    Ok(length)
+    Ok(())
 }
 
 // Drop of a table, for an append into `room` bytes.
@@ -116,10 +114,9 @@ pub fn drop(
     state: SoundState<'_>,
     table: TableNo,
     room: usize,
-    lines: &mut [u8],
-) -> Result<usize, Refusal>
-    requires { longest_drop ≤ length lines.old }
-    ensures { MadeIs (judged (drop_rules (state_of state.entry.inner.now) table.0 room)) (dropped_by (state_of state.entry.inner.now) table.0) lines.old result lines.new }
+    lines: &mut Lines<LINE_BYTES>,
+) -> Result<(), Refusal>
+    ensures { MadeIs (judged (drop_rules (state_of state.entry.inner.now) table.0 room)) (dropped_by (state_of state.entry.inner.now) table.0) result lines.new }
 {
     let inner = state.inner;
     if !table.is_id() {
@@ -131,13 +128,13 @@ pub fn drop(
     if LAST_EPOCH <= inner.epoch {
         return Err(Refusal::EpochsFull);
     }
-    let length = put_drop(state, table, lines);
-    let size = length + APPEND_BYTES;
+    put_drop(state, table, lines);
+    let size = lines.as_slice().len() + APPEND_BYTES;
     if LONGEST_MANIFEST < inner.manifest + size {
         return Err(Refusal::ManifestFull);
     }
     if room < size {
         return Err(Refusal::OutputTooShort);
     }
-    Ok(length)
+    Ok(())
 }

@@ -1,16 +1,11 @@
 -- What the work below a method tells of the method's own proposition. Assumes nothing.
 use mathlib.Core.Path.{◌≡◌, refl, ap, subst, ◌∙◌}
 use mathlib.Core.List.{List, [], ◌∷◌, map}
-use Prim.Native.Nat.{ℕ, ◌*◌, ◌≤◌}
-use native.Mathlib.Omega.{arith}
-use lib.ListN.{length, take, drop, length-map}
-use lib.Seq.{take-append_seam}
+use Prim.Native.Nat.{ℕ, ◌≤◌}
+use lib.ListN.{length, length-map}
 use Rattle.std.specs.Prelude.{Result, Ok, Err}
 use Rattle.std.specs.Result.{result_and}
-use Rattle.lists.specs.Written.{Wrote}
 use Rattle.lists.proofs.Views.{view-length}
-use Rattle.lists.proofs.Written.{wrote-over, wrote-length}
-use Rattle.ids.specs.Limits.{most_operations, longest_line}
 use Rattle.ids.specs.declared.refusal.Refusal.{Refusal}
 use Rattle.ids.specs.declared.refusal.Refusal.TheVariants.{BadManager}
 use Rattle.ids.specs.Verdicts.{◌⇒◌, judged, Verdict}
@@ -23,7 +18,7 @@ use Rattle.frames.specs.Frames.{texts_of}
 use Rattle.commit.specs.Commit.{commit_of, CommitIs}
 use Rattle.commit.specs.Lent.{as_line, operations_in}
 use Rattle.commit.proofs.Sounds.{onward-given}
-use Rattle.commit.proofs.AsLines.{lines-room, lines-read, commit-same, commit-lines-same}
+use Rattle.commit.proofs.AsLines.{lines-read, commit-same, commit-lines-same}
 use Rattle.version_manager.specs.declared.VersionManager.{VersionManager}
 use Rattle.version_manager.specs.declared.Answered.{Answered}
 use Rattle.version_manager.specs.Answered.{Committed}
@@ -48,26 +43,13 @@ module _ (m : VersionManager) (n : ℕ) (os : List Operation) (out : List ℕ) (
 pub says_same : (m : VersionManager) (n : ℕ) (os : List Operation) (out : List ℕ) (r : Committed) (out' : List ℕ) (k : ℕ) (l : List Operation) → n ≡ k → os ≡ l → CommitSays m n os out r out' → CommitSays m k l out r out'
 says_same m n os out r out' k l p q h = subst (λ (x : List Operation). CommitSays m k x out r out') q (subst (λ (x : ℕ). CommitSays m x os out r out') p h)
 
--- the lines that a batch of at most most_operations was turned into
-module _ (b : Batch) (s t : List ℕ) (n : ℕ) (few : b.count ≤ most_operations) (whole : b.count ≤ length b.changes) (room : most_operations * longest_line ≤ length s) (w : Wrote s 0 (texts_of (map as_line (batch_of b))) t n) where
-  short : length (batch_of b) ≡ b.count
-  short = view-length operation_of b.changes b.count whole
+-- the lines that a batch was turned into
+module _ (b : Batch) (l : List ℕ) (whole : b.count ≤ length b.changes) (w : l ≡ texts_of (map as_line (batch_of b))) where
+  pub lines_are : operations_in l ≡ map as_line (batch_of b)
+  lines_are = ap operations_in w ∙ lines-read (batch_of b)
 
-  fits : length (texts_of (map as_line (batch_of b))) ≤ length s
-  fits = omega (arith, lines-room (batch_of b) (omega (arith, short, few)), room)
-
-  pub lines-within : n ≤ length t
-  lines-within = omega (arith, w.next, fits, wrote-length s 0 (texts_of (map as_line (batch_of b))) t n (omega (arith, fits)) w)
-
-  pub lines_are : operations_in (take n t) ≡ map as_line (batch_of b)
-  lines_are =
-      let run = texts_of (map as_line (batch_of b)) in
-      let k : n ≡ length run = omega (arith, w.next) in
-      let q : take n t ≡ run = ap (λ (i : ℕ). take i t) k ∙ ap (take (length run)) (wrote-over s run t n w) ∙ take-append_seam run (drop (length run) s) in
-      ap operations_in q ∙ lines-read (batch_of b)
-
-  pub lines-count : length (operations_in (take n t)) ≡ b.count
-  lines-count = ap length lines_are ∙ length-map (batch_of b) as_line ∙ short
+  pub lines-count : length (operations_in l) ≡ b.count
+  lines-count = ap length lines_are ∙ length-map (batch_of b) as_line ∙ view-length operation_of b.changes b.count whole
 
 -- work on the state of a manager that passed 29: what it answers, and what it leaves, go by its verdict
 pub settled-says : {T : Type 0} (m : VersionManager) (v : Verdict) (x : T) (s : State) (i : VersionManagerInner) (a : Result T Refusal) (r : Answered T)

@@ -1,15 +1,11 @@
 -- Where a call's own rules pass, the commit by lines does what the call says. Assumes nothing.
-use mathlib.Core.Path.{◌≡◌, refl, sym, ap, subst, ◌∙◌}
+use mathlib.Core.Path.{◌≡◌, refl, ap, subst, ◌∙◌}
 use mathlib.Core.Bool.{false}
 use mathlib.Core.List.{List, [], ◌∷◌}
-use Prim.Native.Nat.{ℕ, ◌+◌, ◌≤◌}
+use Prim.Native.Nat.{ℕ, ◌+◌}
 use native.Mathlib.Omega.{arith}
-use lib.ListN.{length, take, drop, length-append}
-use lib.Seq.{take-append_seam}
+use lib.ListN.{length}
 use Rattle.std.specs.Prelude.{Result, Ok, Err, get_or}
-use Rattle.std.specs.Result.{result_and}
-use Rattle.lists.specs.Written.{Wrote}
-use Rattle.lists.proofs.Written.{wrote-over}
 use Rattle.ids.specs.declared.refusal.Refusal.{Refusal}
 use Rattle.ids.specs.Verdicts.{Verdict}
 use Rattle.ids.specs.Answers.{Told, told}
@@ -40,41 +36,26 @@ made-commit m os out r out' b a h = subst (λ (x : Result State Refusal). Commit
     accepted : outcome_of m (length os) os (length out) ≡ Ok (committed os (held_by m))
     accepted = rw b a
 
--- the lines of os that were written to the front of a buffer
-module _ (os : List Operation) (l l' : List ℕ) (n : ℕ) (w : Wrote l 0 (texts_of os) l' n) where
-  long : n ≡ length (texts_of os)
-  long = omega (arith, w.next)
-
-  made-within : n ≤ length l'
-  made-within =
-      let e : length l' ≡ length (texts_of os) + length (drop (length (texts_of os)) l) = ap length (wrote-over l (texts_of os) l' n w) ∙ length-append (texts_of os) (drop (length (texts_of os)) l) in
-      omega (arith, e, long)
-
+-- the lines of os
+module _ (os : List Operation) (l : List ℕ) (w : l ≡ texts_of os) where
   -- they read back as os, which the commit accepts
-  made-read : (s : State) (room : ℕ) → Accepts s os room → operations_in (take n l') ≡ os
+  made-read : (s : State) (room : ℕ) → Accepts s os room → operations_in l ≡ os
   made-read s room a =
-      let q : take n l' ≡ texts_of os = ap (λ (i : ℕ). take i l') long ∙ ap (take (length (texts_of os))) (wrote-over l (texts_of os) l' n w) ∙ take-append_seam (texts_of os) (drop (length (texts_of os)) l) in
-      ap operations_in q ∙ subst (λ (ps : List Operation). operations_in (texts_of ps) ≡ ps) (commit-lines-same s (length os) os room (committed os s) a) (lines-read os)
+      ap operations_in w ∙ subst (λ (ps : List Operation). operations_in (texts_of ps) ≡ ps) (commit-lines-same s (length os) os room (committed os s) a) (lines-read os)
 
   made_ends : (m : VersionManager) (out : List ℕ) (r : Committed) (out' : List ℕ) → bad_manager m ≡ false → Accepts (held_by m) os (length out)
-      → CommitSays m (length (operations_in (take n l'))) (operations_in (take n l')) out r out' → CommitEnds (Ok (committed os (held_by m))) m os out r out'
+      → CommitSays m (length (operations_in l)) (operations_in l) out r out' → CommitEnds (Ok (committed os (held_by m))) m os out r out'
   made_ends m out r out' b a h =
       let e = made-read (held_by m) (length out) a in
-      made-commit m os out r out' b a (says_same m (length (operations_in (take n l'))) (operations_in (take n l')) out r out' (length os) os (ap length e) e h)
+      made-commit m os out r out' b a (says_same m (length (operations_in l)) (operations_in l) out r out' (length os) os (ap length e) e h)
 
 -- the answer of a commit that is accepted
 told-appended : (a : CommitAnswer) (e n : ℕ) → commit_told a ≡ told (Ok tt) (e ∷ n ∷ []) → (d : Appended) × (a ≡ Ok d) × (d.epoch ≡ e) × (d.length ≡ n)
 told-appended (Ok d) e n h = (d, refl, ap (λ (z : Told). get_or z.values 0 0) h, ap (λ (z : Told). get_or z.values 1 0) h)
 told-appended (Err k) e n h = let z : ◌≡◌ {A = ℕ} 0 2 = ap (λ (d : Told). length d.values) h in absurd (omega arith)
 
--- what a call made of os under its verdict, in the buffer l, which became l'
-module _ (os : List Operation) (l l' : List ℕ) where
-  pub made-room : (v : Verdict) (made : Result ℕ Refusal) → MadeIs v os l made l' → (n : ℕ) → made ≡ Ok n → n ≤ length l'
-  made-room (Ok _) made i n e =
-      let q : n ≡ length (texts_of os) = cc (e, i.answer) in
-      subst (λ (k : ℕ). k ≤ length l') (sym q) (made-within os l l' (length (texts_of os)) (i.written refl))
-  made-room (Err k) made i n e = absurd (cc (e, i.answer))
-
+-- what a call made of os under its verdict: the lines l
+module _ (os : List Operation) (l : List ℕ) where
   -- a manager that passed 29 appends it
   module _ (m : VersionManager) (out : List ℕ) (r : Committed) (out' : List ℕ) (b : bad_manager m ≡ false) where
     abbrev epoch : ℕ
@@ -83,21 +64,19 @@ module _ (os : List Operation) (l l' : List ℕ) where
     abbrev size : ℕ
     size = length (append_of os)
 
-    appended : (v : Verdict) (made : Result ℕ Refusal) → MadeIs v os l made l' → v ≡ Ok tt → Accepts (held_by m) os (length out) → AppendsMade made m l' out r out'
+    appended : (v made : Verdict) → MadeIs v os made l → v ≡ Ok tt → Accepts (held_by m) os (length out) → AppendsMade made m l out r out'
         → CommitEnds (Ok (committed os (held_by m))) m os out r out'
-    appended v made i e a h =
-        let q : made ≡ Ok (length (texts_of os)) = i.answer ∙ ap (λ (x : Verdict). result_and x (Ok (length (texts_of os)))) e in
-        made_ends os l l' (length (texts_of os)) (i.written e) m out r out' b a (subst (λ (x : Result ℕ Refusal). AppendsMade x m l' out r out') q h)
+    appended v made i e a h = made_ends os l (i.made e) m out r out' b a (subst (λ (x : Verdict). AppendsMade x m l out r out') (i.answer ∙ e) h)
 
-    pub made-says : (v : Verdict) (made : Result ℕ Refusal) → MadeIs v os l made l' → (v ≡ Ok tt → Accepts (held_by m) os (length out)) → AppendsMade made m l' out r out'
+    pub made-says : (v made : Verdict) → MadeIs v os made l → (v ≡ Ok tt → Accepts (held_by m) os (length out)) → AppendsMade made m l out r out'
         → MadeSays v os (epoch ∷ size ∷ []) m out (commit_told r.answer) r.manager out'
     made-says (Ok _) made i a h = let d = appended (Ok tt) made i refl (a refl) h in record { answer = d.0; manager = d.1; bytes = d.2 }
     made-says (Err k) made i a h =
-        let d = subst (λ (x : Result ℕ Refusal). AppendsMade x m l' out r out') i.answer h in
+        let d = subst (λ (x : Verdict). AppendsMade x m l out r out') i.answer h in
         record { answer = ap commit_told d.0; manager = d.1; bytes = d.2 }
 
     -- the same of a new table, whose id the call answers too
-    pub create-says : (v : Verdict) (made : Result ℕ Refusal) → MadeIs v os l made l' → (v ≡ Ok tt → Accepts (held_by m) os (length out)) → AppendsMade made m l' out r out'
+    pub create-says : (v made : Verdict) → MadeIs v os made l → (v ≡ Ok tt → Accepts (held_by m) os (length out)) → AppendsMade made m l out r out'
         → (t : TableNo) (q : CreateAnswer) → ((d : Appended) → r.answer ≡ Ok d → q ≡ Ok (record { table = t; epoch = d.epoch; length = d.length })) → ((k : Refusal) → r.answer ≡ Err k → q ≡ Err k)
         → MadeSays v os (t.0 ∷ epoch ∷ size ∷ []) m out (create_told q) r.manager out'
     create-says (Ok _) made i a h t q given none =
@@ -105,5 +84,5 @@ module _ (os : List Operation) (l l' : List ℕ) where
         let x = told-appended r.answer epoch size d.0 in
         record { answer = ap create_told (given x.0 x.1) ∙ rw (x.2, x.3); manager = d.1; bytes = d.2 }
     create-says (Err k) made i a h t q given none =
-        let d = subst (λ (x : Result ℕ Refusal). AppendsMade x m l' out r out') i.answer h in
+        let d = subst (λ (x : Verdict). AppendsMade x m l out r out') i.answer h in
         record { answer = ap create_told (none k d.0); manager = d.1; bytes = d.2 }

@@ -1,7 +1,6 @@
 -- A commit that a call makes itself from what is shown now, under the call's own verdict. Assumes nothing.
-use Rattle.std.specs.Prelude.{◌≡◌, List, ℕ, length, take, Result, Ok, Err}
+use Rattle.std.specs.Prelude.{◌≡◌, List, ℕ, length, Ok, Err}
 use Rattle.lists.specs.Written.{over}
-use Rattle.ids.specs.declared.refusal.Refusal.{Refusal}
 use Rattle.ids.specs.Verdicts.{Verdict}
 use Rattle.ids.specs.Answers.{Told, told, after}
 use Rattle.manifest.specs.Operations.{Operation}
@@ -19,7 +18,7 @@ pub record MadeSays (v : Verdict) (os : List Operation) (values : List ℕ) (m :
   pub manager : HandsOn v m (committed os (held_by m)) (length (append_of os)) n
   pub bytes : out' ≡ after v (over (append_of os) out) out
 
--- Internal: the lines that a call has made, at the front of a buffer, are committed by m; or the call was refused, and nothing is written
-abbrev pub AppendsMade : Result ℕ Refusal → VersionManager → List ℕ → List ℕ → Committed → List ℕ → Type 0
-AppendsMade (Ok n) m lines out r out' = CommitSays m (length (operations_in (take n lines))) (operations_in (take n lines)) out r out'
+-- Internal: the lines that a call has made are committed by m; or the call was refused, and nothing is written
+abbrev pub AppendsMade : Verdict → VersionManager → List ℕ → List ℕ → Committed → List ℕ → Type 0
+AppendsMade (Ok _) m lines out r out' = CommitSays m (length (operations_in lines)) (operations_in lines) out r out'
 AppendsMade (Err k) m lines out r out' = (r.answer ≡ Err k) × (r.manager ≡ m) × (out' ≡ out)

@@ -1,7 +1,7 @@
 // The version manager: every public method. 29 is judged here; what works below is given a state that passed.
 #![tactic(auto)]
 
-ghost use Rattle.std.specs.Prelude.{◌≡◌, false, ℕ, ◌≤◌, length, Ok, Err};
+ghost use Rattle.std.specs.Prelude.{◌≡◌, false, length, Err};
 ghost use Rattle.ids.specs.Names.{name_of};
 ghost use Rattle.manifest.specs.Operations.{batch_of};
 ghost use Rattle.commit.specs.Lent.{operations_in};
@@ -24,7 +24,8 @@ ghost use Rattle.version_manager.specs.Laws.{DrawLaws, CheckpointLaws, CommitLaw
 ghost use Rattle.version_manager.specs.TableLaws.{TableLaws};
 ghost use Rattle.version_manager.specs.CompactLaws.{CompactLaws};
 
-use ids::limits::{LARGEST_32, LARGEST_64, LONGEST_LINE, MOST_OPERATIONS};
+use frames::Lines;
+use ids::limits::{LARGEST_32, LARGEST_64, MOST_OPERATIONS};
 use ids::name::Name;
 use ids::refusal::Refusal;
 use ids::{RowsetNo, TableNo, VectorNo};
@@ -255,9 +256,9 @@ impl VersionManager {
         if MOST_OPERATIONS < batch.count {
             return self.refused(Refusal::TooManyOperations(0));
         }
-        let mut lines = commit::typed::buffer();
-        let n = commit::typed::put_lines(&mut lines, batch);
-        self.append(&lines[..n], out)
+        let mut lines = Lines::new();
+        commit::typed::put_lines(&mut lines, batch);
+        self.append(lines.as_slice(), out)
     }
 
     // The operations as manifest lines: each newline ends one, and bytes after the last newline are one more.
@@ -288,14 +289,13 @@ impl VersionManager {
         }
     }
 
-    // The same of lines that a call has made at the front of a buffer, if it is not refused.
-    fn append_made(&self, made: Result<usize, Refusal>, lines: &[u8], out: &mut [u8]) -> Committed
+    // The same of lines that a call has made, if it is not refused.
+    fn append_made(&self, made: Result<(), Refusal>, lines: &[u8], out: &mut [u8]) -> Committed
         requires passed { bad_manager self.now ≡ false }
-        requires within { (n : ℕ) → made ≡ Ok n → n ≤ length lines.now }
         ensures { AppendsMade made self.now lines.now out.old result out.new }
     {
         match made {
-            Ok(n) => self.append(&lines[..n], out),
+            Ok(()) => self.append(lines, out),
             Err(refusal) => self.refused(refusal),
         }
     }
@@ -444,10 +444,10 @@ impl VersionManager {
         let Ok(state) = self.judge() else {
             return self.refused(Refusal::BadManager);
         };
-        let mut lines = [0; LONGEST_LINE];
+        let mut lines = Lines::new();
         let made = table::create(state, shape, name, out.len(), &mut lines);
         let table = self.inner.next.table;
-        let Answered { manager, answer } = self.append_made(made, &lines, out);
+        let Answered { manager, answer } = self.append_made(made, lines.as_slice(), out);
         Answered {
             manager,
             answer: answer.map(|a| NewTable {
@@ -466,9 +466,9 @@ impl VersionManager {
         let Ok(state) = self.judge() else {
             return self.refused(Refusal::BadManager);
         };
-        let mut lines = commit::typed::buffer();
+        let mut lines = Lines::new();
         let made = table::drop(state, table, out.len(), &mut lines);
-        self.append_made(made, &lines, out)
+        self.append_made(made, lines.as_slice(), out)
     }
 
     // The taken rowsets, lent as rising ids, and their vectors deleted and the new rowset added, by one commit; it answers as that does.
@@ -485,8 +485,8 @@ impl VersionManager {
         let Ok(state) = self.judge() else {
             return self.refused(Refusal::BadManager);
         };
-        let mut lines = commit::typed::buffer();
+        let mut lines = Lines::new();
         let made = compaction::compact(state, table, new, taken, out.len(), &mut lines);
-        self.append_made(made, &lines, out)
+        self.append_made(made, lines.as_slice(), out)
     }
 }

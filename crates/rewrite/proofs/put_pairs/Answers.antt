@@ -1,6 +1,7 @@
 -- `rewrite::put_pairs` meets its contract.
 use mathlib.Core.List.{map-map}
 use native.Mathlib.Omega.{arith}
+use Rattle.std.proofs.Common.{lit<}
 use Rattle.std.proofs.lemmas.Iterator.Consumers.{YieldsList-from_first, YieldsList-turn, YieldsList-end}
 use Rattle.std.proofs.lemmas.List.{length_push}
 use Rattle.lists.specs.Keyed.{keep}
@@ -16,19 +17,19 @@ use Rattle.rewrite.proofs.put_pairs.Goals as goal
 pub loop-r-init : goal.loop-r-init
 loop-r-init c = write-start (kept-few _ _ _ _ c.requires.fits.rowsets) c.requires.room
 
-pub put_line-at-requires : goal.put_line-at-requires
-put_line-at-requires c =
+pub put_line-requires : goal.put_line-requires
+put_line-requires c =
     let l = keep (shown_by c.args.inner.now.epoch) (state_of c.args.inner.now).pairs in
     let road = YieldsList-from_first rowset_of shown_rowsets {s = c.into_iter-r-iterator.result} l (cc) in
     let t = YieldsList-turn road c.loop-r.yielded c.loop-r.r-iterator c.loop-r.yielded_by _ c.next.new.self c.in-Some.r c.in-Some.is c.next.ensures.steps in
-    write-room c.loop-r.invariant t.0 _ (add-line c.in-Some.r.table.0 c.in-Some.r.rowset.0 (omega arith) (omega arith))
+    (lit< tt, write-room c.loop-r.invariant t.0 _ (add-line c.in-Some.r.table.0 c.in-Some.r.rowset.0 (omega arith) (omega arith)))
 
 pub loop-r-preserved : goal.loop-r-preserved
 loop-r-preserved c =
     let l = keep (shown_by c.args.inner.now.epoch) (state_of c.args.inner.now).pairs in
     let road = YieldsList-from_first rowset_of shown_rowsets {s = c.into_iter-r-iterator.result} l (cc) in
     let t = YieldsList-turn road c.loop-r.yielded c.loop-r.r-iterator c.loop-r.yielded_by _ c.next.new.self c.in-Some.r c.in-Some.is c.next.ensures.steps in
-    let w = write-more c.loop-r.invariant t.0 (rowset_of c.in-Some.r) t.1 (add-line c.in-Some.r.table.0 c.in-Some.r.rowset.0 (omega arith) (omega arith)) _ _ c.put_line-at.ensures in
+    let w = write-more c.loop-r.invariant t.0 (rowset_of c.in-Some.r) t.1 (add-line c.in-Some.r.table.0 c.in-Some.r.rowset.0 (omega arith) (omega arith)) _ c.put_line.ensures in
     rw (length_push c.loop-r.yielded c.in-Some.r) w
 
 pub returns : goal.returns

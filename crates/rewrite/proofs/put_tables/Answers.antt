@@ -25,7 +25,7 @@ loop-i-preserved c =
     let h : c.loop-i.i < length l = omega (arith, c.loop-i-test.true, counted c.args.inner.now) in
     let x = table_of c.get-table.result in
     write-more c.loop-i.invariant h x (c.get-table.ensures ∙ sym (get_or_default l c.loop-i.i x no_table h))
-    (rw c.create_change.ensures.0 at c.create_change.ensures.1) _ _ (rw c.create_change.ensures.0 at c.put_line-at.ensures)
+    (rw c.create_change.ensures.0 at c.create_change.ensures.1) _ (rw c.create_change.ensures.0 at c.put_line.ensures)
 
 pub returns : goal.returns
 returns c = write_done c.loop-i.invariant (omega (arith, c.loop-i-test.false, counted c.args.inner.now))

@@ -1,6 +1,7 @@
 -- `table::put_vectors` meets its contract.
 use mathlib.Core.List.{map-map}
 use native.Mathlib.Omega.{arith}
+use Rattle.std.proofs.Common.{lit<}
 use Rattle.std.proofs.lemmas.Iterator.Consumers.{YieldsList-from_first, YieldsList-turn, YieldsList-end}
 use Rattle.std.proofs.lemmas.List.{length_push}
 use Rattle.lists.specs.Keyed.{keep}
@@ -18,19 +19,19 @@ use Rattle.table.proofs.put_vectors.Goals as goal
 pub loop-v-init : goal.loop-v-init
 loop-v-init c = write-start (part-few _ _ _ _ _ (sound-of c.args.state.inner.now c.args.state.sound).fits.vectors) c.requires.room
 
-pub put_line-at-requires : goal.put_line-at-requires
-put_line-at-requires c =
+pub put_line-requires : goal.put_line-requires
+put_line-requires c =
     let l = keep (of_table c.args.table.0) (keep (shown_by c.args.state.inner.now.epoch) (state_of c.args.state.inner.now).vectors) in
     let road = YieldsList-from_first vector_of shown_vectors {s = c.into_iter-v-iterator.result} l (cc) in
     let t = YieldsList-turn road c.loop-v.yielded c.loop-v.v-iterator c.loop-v.yielded_by _ c.next.new.self c.in-Some.v c.in-Some.is c.next.ensures.steps in
-    write-room c.loop-v.invariant t.0 _ (delete-vector-line c.in-Some.v.table.0 c.in-Some.v.rowset.0 (omega arith) (omega arith) c.in-Some.v.vector.0 (omega arith))
+    (lit< tt, write-room c.loop-v.invariant t.0 _ (delete-vector-line c.in-Some.v.table.0 c.in-Some.v.rowset.0 (omega arith) (omega arith) c.in-Some.v.vector.0 (omega arith)))
 
 pub loop-v-preserved : goal.loop-v-preserved
 loop-v-preserved c =
     let l = keep (of_table c.args.table.0) (keep (shown_by c.args.state.inner.now.epoch) (state_of c.args.state.inner.now).vectors) in
     let road = YieldsList-from_first vector_of shown_vectors {s = c.into_iter-v-iterator.result} l (cc) in
     let t = YieldsList-turn road c.loop-v.yielded c.loop-v.v-iterator c.loop-v.yielded_by _ c.next.new.self c.in-Some.v c.in-Some.is c.next.ensures.steps in
-    let w = write-more c.loop-v.invariant t.0 (vector_of c.in-Some.v) t.1 (delete-vector-line c.in-Some.v.table.0 c.in-Some.v.rowset.0 (omega arith) (omega arith) c.in-Some.v.vector.0 (omega arith)) _ _ c.put_line-at.ensures in
+    let w = write-more c.loop-v.invariant t.0 (vector_of c.in-Some.v) t.1 (delete-vector-line c.in-Some.v.table.0 c.in-Some.v.rowset.0 (omega arith) (omega arith) c.in-Some.v.vector.0 (omega arith)) _ c.put_line.ensures in
     rw (length_push c.loop-v.yielded c.in-Some.v) w
 
 pub returns : goal.returns

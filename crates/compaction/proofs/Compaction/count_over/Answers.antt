@@ -4,11 +4,11 @@ use mathlib.Core.Logic.{inl}
 use native.Mathlib.Omega.{arith}
 use lib.ListN.{length}
 use Rattle.std.proofs.Common.{rules}
-use Rattle.std.proofs.lemmas.Iterator.Consumers.{YieldsList-from_first, YieldsList-from_filter, count_from_yields_List}
+use Rattle.std.proofs.lemmas.Iterator.Consumers.{count_from_yields_List}
 use Rattle.snapshot.specs.Views.{vector_of}
 use Rattle.snapshot.specs.Shown.{shown_vectors}
 use Rattle.version_state.proofs.Facts.{sound-of}
-use Rattle.compaction.proofs.Filtered.{taken_of, shown_of, over-count, few-shown}
+use Rattle.compaction.proofs.Filtered.{over-count, over-road, few-shown}
 use Rattle.compaction.proofs.Compaction.count_over.Goals as goal
 
 pub count-requires-clause-fits : goal.count-requires-clause-fits
@@ -23,5 +23,5 @@ returns c =
     let a = c.args.self.now in
     let m = a.state.inner.now in
     count_from_yields_List _ c.count.result c.count.ensures.ran
-    (YieldsList-from_filter _ (taken_of a.taken.now) (YieldsList-from_first vector_of shown_vectors (shown_of m a.table.0 a.taken.now) (cc)) c.filter.ensures.closure (λ x b q k. search rules))
+    (over-road m a.table.0 a.taken.now vector_of shown_vectors _ (cc) c.filter.ensures.closure (λ x b q k. search rules))
     ∙ over-count m a.table.0 a.taken.now

@@ -11,21 +11,15 @@ use Rattle.table.proofs.Laws.{made-laws}
 use Rattle.version_state.specs.declared.VersionManagerInner.{VersionManagerInner}
 use Rattle.version_state.specs.State.{state_of}
 use Rattle.version_manager.specs.Managers.{held_by}
-use Rattle.version_manager.proofs.Made.{made-room, create-says}
+use Rattle.version_manager.proofs.Made.{create-says}
 use Rattle.version_manager.proofs.VersionManager.create.Goals as goal
-
-pub create-made-requires : goal.create-made-requires
-create-made-requires c = omega arith
-
-pub append_made-answer-requires-clause-within : goal.append_made-answer-requires-clause-within
-append_made-answer-requires-clause-within c = made-room _ _ _ _ _ c.create-made.ensures
 
 pub returns : goal.returns
 returns c =
     let j = rw c.in-Ok.is at c.judge.ensures in
     let b = j.0 in
     let os = created_by (held_by c.args.self) c.args.shape (name_of c.args.name) in
-    let made = subst (λ (i : VersionManagerInner). MadeIs (judged (create_rules (state_of i) c.args.shape (name_of c.args.name) (length c.args.out.now))) (created_by (state_of i) c.args.shape (name_of c.args.name)) _ c.create-made.result c.create-made.new.lines) j.2 c.create-made.ensures in
-    rw b (create-says os _ _ c.args.self _ _ _ b _ _ made
+    let made = subst (λ (i : VersionManagerInner). MadeIs (judged (create_rules (state_of i) c.args.shape (name_of c.args.name) (length c.args.out.now))) (created_by (state_of i) c.args.shape (name_of c.args.name)) c.create-made.result c.as_slice.result.now) j.2 (rw (← c.as_slice.ensures) at c.create-made.ensures) in
+    rw b (create-says os _ c.args.self _ _ _ b _ _ made
     (made-laws.create c.args.self.inner c.args.shape (name_of c.args.name) (length c.args.out.now) j.1 (omega (arith, c.ranges.shape))) c.append_made-answer.ensures
     c.args.self.inner.next.table _ (λ d e. let q = rw e at c.map.ensures.cases in search (rules, q)) (λ k e. rw e at c.map.ensures.cases))
