@@ -1,6 +1,5 @@
 -- What a change of a list does to the entries that it stands for. Assumes nothing.
-use Rattle.std.proofs.Common.{◌≡◌, refl, sym, ap, Bool, ◌||◌, List, [], ◌∷◌, map, ℕ}
-use Rattle.std.specs.List.{list_any}
+use Rattle.std.proofs.Common.{◌≡◌, refl, sym, List, [], ◌∷◌, map, ℕ}
 use Rattle.lists.specs.Order.{same}
 use Rattle.lists.specs.Keyed.{any_of, all_of, is_at, has, put, without}
 use Rattle.lists.proofs.Keyed.{any_of-map}
@@ -13,11 +12,6 @@ use Rattle.replay.specs.declared.sets.LiveRowset.{LiveRowset}
 use Rattle.replay.specs.declared.sets.LiveVector.{LiveVector}
 use Rattle.replay.specs.Sets.{table_entry, rowset_entry, vector_entry}
 use Rattle.replay.proofs.Maps.{map-put, map-without}
-
--- the library's test for one of a list is this one
-pub any-same : {A : Type 0} (p : A → Bool) (l : List A) → list_any p l ≡ any_of p l
-any-same p [] = refl
-any-same p (x ∷ l) = ap (λ (b : Bool). p x || b) (any-same p l)
 
 module _ (l : List LiveTable) where
   pub table-has : (k : List ℕ) → has by_table k (map table_entry l) ≡ has (λ (x : LiveTable). x.table.0 ∷ []) k l

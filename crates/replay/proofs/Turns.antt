@@ -1,7 +1,10 @@
 -- One line, and all of them. Assumes nothing.
-use Rattle.std.proofs.Common.{◌≡◌, refl, ap, ◌∙◌, true, false, List, [], ◌∷◌, ◌++◌, map, ℕ, ◌+◌, ◌≤◌, ltb, ◌||◌, length, take, arith, Result, Ok, Err, Option, None}
+use Rattle.std.proofs.Common.{◌≡◌, refl, ap, ◌∙◌, true, false, List, [], ◌∷◌, ◌++◌, map, ℕ, ◌+◌, ◌^◌, ◌≤◌, ◌<◌, ltb, ◌||◌, length, take, arith, Result, Ok, Err, Option, Some, None}
 use borrow.Author.Tests.{ltb-false}
 use lib.Seq.{take-length}
+use denote.Ref.{Bor}
+use Rattle.std.specs.declared.iter.Enumerate.{Enumerate}
+use Rattle.std.specs.Iterator.Adapters.{enumerate_source, enumerate_count, enumerate_steps}
 use Rattle.std.proofs.Math.ListN.{length-map}
 use Rattle.lists.specs.Keyed.{keep}
 use Rattle.lists.proofs.Tests.{by_cases, neither}
@@ -10,20 +13,23 @@ use Rattle.ids.specs.Results.{and_then}
 use Rattle.ids.specs.Limits.{most_operations, most_tables, most_held}
 use Rattle.ids.specs.declared.refusal.Refusal.{Refusal}
 use Rattle.ids.proofs.Results.{not-given, same-given, then_same}
-use Rattle.manifest.specs.Operations.{Operation, Line, end, operation, line_said}
+use Rattle.manifest.specs.Operations.{Operation, Line, end, operation}
 use Rattle.manifest.specs.Lines.{line_of}
 use Rattle.manifest.specs.Split.{lines}
+use Rattle.manifest.specs.declared.reader.LineAt.{LineAt}
 use Rattle.manifest.proofs.Split.{lines-from-start}
+use Rattle.manifest_lines.specs.declared.ManifestLines.{ManifestLines}
+use Rattle.manifest_lines.specs.Reader.{NextLine}
 use Rattle.snapshot.specs.Entries.{Entry, by_ids}
 use Rattle.version_state.specs.State.{State, with_pairs, with_vectors}
-use Rattle.replay.specs.declared.said.Said.{Said}
 use Rattle.replay.specs.declared.frame.Begun.{Begun}
 use Rattle.replay.specs.declared.sets.LiveRowset.{LiveRowset}
 use Rattle.replay.specs.declared.sets.LiveVector.{LiveVector}
 use Rattle.replay.specs.declared.sets.Sets.{Sets}
 use Rattle.replay.specs.Replay.{Frame, none, Carried, carried, at_start, framed, stands, settled, over_limit, limited, ended, line_read, lines_read}
 use Rattle.replay.specs.Sets.{table_entry, rowset_entry, vector_entry, state_in, RoomFor, framed_lightly}
-use Rattle.replay.specs.Reading.{said_from, leading, Opened, FrameIs, OpenWithin, Carrying, Ended, Says}
+use Rattle.replay.specs.Reading.{said_from, said_at, leading, Lies, Opened, FrameIs, OpenWithin, Carrying, Carries, Ended}
+use Rattle.replay.proofs.Reading.{Says, next-none, next-line}
 use Rattle.replay.proofs.Maps.{ascending-mapped}
 use Rattle.replay.proofs.Light.{Rising, frame-light}
 
@@ -104,44 +110,68 @@ pub said-read : (ls : List (List ℕ)) (c : Carried) → lines_read ls c ≡ sai
 said-read [] c = refl
 said-read (l ∷ ls) c = then_same (line_read (line_of l) c) (lines_read ls) (said_read (map line_of ls)) (said-read ls)
 
--- the lines up to a place are read, and that is carried on
-pub record Reading (src : List ℕ) (l : Sets) (b : Option Begun) (at n : ℕ) : Type 0 where
+-- the lines before those that are left are read, and that is carried on
+pub record Reading (src : Bor (List ℕ)) (l : Sets) (b : Option Begun) (z : Enumerate ManifestLines) : Type 0 where
+  pub lent : (enumerate_source z).src ≡ src
   pub frame : Frame
-  pub same : lines_read (lines src) at_start ≡ said_read (said_from src at) (carried (state_in l) frame n)
-  pub known : FrameIs src at b frame
-  pub within : OpenWithin src b
+  pub same : lines_read (lines src.now) at_start ≡ said_read (said_from src.now (enumerate_source z).at) (carried (state_in l) frame (enumerate_count z + 1))
+  pub known : FrameIs src.now (enumerate_source z).at b frame
+  pub within : OpenWithin src.now b
   pub room : RoomFor most_operations l
-  pub line : n ≤ at + 1
-  pub inside : at ≤ length src
+  pub line : enumerate_count z ≤ (enumerate_source z).at
 
-pub reading-start : (src : List ℕ) (l : Sets) → state_in l ≡ at_start.state → RoomFor most_operations l → Reading src l None 0 1
-reading-start src l e r =
+pub reading-start : (src : Bor (List ℕ)) (l : Sets) (z : Enumerate ManifestLines) → (enumerate_source z).src ≡ src → (enumerate_source z).at ≡ 0 → enumerate_count z ≡ 0 → state_in l ≡ at_start.state → RoomFor most_operations l
+    → Reading src l None z
+reading-start src l z s p n e r =
     record {
+      lent = s;
       frame = none;
-      same = said-read (lines src) at_start ∙ rw (e, lines-from-start) refl;
+      same = said-read (lines src.now) at_start ∙ rw (p, n, e, lines-from-start) refl;
       known = refl;
       within = tt;
       room = r;
-      line = omega arith;
-      inside = omega arith;
+      line = omega (arith, n);
     }
 
-module _ (src : List ℕ) (l : Sets) (b : Option Begun) (at n : ℕ) (g : Reading src l b at n) where
-  pub reading-end : said_from src at ≡ [] → Ended (lines_read (lines src) at_start) l
-  reading-end h = record { frame = g.frame; line = n; same = g.same ∙ rw h refl; room = g.room }
+reading-next : (src : Bor (List ℕ)) (l : Sets) (b : Option Begun) (z : Enumerate ManifestLines) (at n : ℕ) (x : Result Carried Refusal)
+    → (enumerate_source z).src ≡ src → (enumerate_source z).at ≡ at → enumerate_count z + 1 ≡ n → n ≤ at + 1
+    → lines_read (lines src.now) at_start ≡ and_then x (said_read (said_from src.now at)) → Carrying x src.now at n l b → Reading src l b z
+reading-next src l b z at n x s p q h e c =
+    record { lent = s; frame = c.frame; same = e ∙ rw (c.same, p, q) refl; known = rw p c.known; within = c.within; room = c.room; line = omega (arith, p, q, h) }
 
-  module _ (r : Said) (s : Says src at r) where
-    pub reading-stop : (m : Sets) (k : Refusal) → line_read (line_said r.parsed) (carried (state_in l) g.frame n) ≡ Err k → lines_read (lines src) at_start ≡ Err k
-    reading-stop m k e = g.same ∙ rw (s.said, e) refl
+module _ (src : Bor (List ℕ)) (l : Sets) (b : Option Begun) (z : Enumerate ManifestLines) (g : Reading src l b z) where
+  -- what comes next
+  module _ (r : Option (ℕ × LineAt)) (t : Enumerate ManifestLines) (w : enumerate_steps NextLine z r t) where
+    pub reading-end : r ≡ None → Ended (lines_read (lines src.now) at_start) l
+    reading-end e =
+        let u = rw e at w in
+        let h = next-none src (enumerate_source z) (enumerate_source t) g.lent None u.0 refl in
+        record { frame = g.frame; line = enumerate_count z + 1; same = g.same ∙ rw h refl; room = g.room }
 
-    pub reading-on : (m : Sets) (o : Option Begun) → Carrying (line_read (line_said r.parsed) (carried (state_in l) g.frame n)) src r.next (n + 1) m o → Reading src m o r.next (n + 1)
-    reading-on m o c =
-        record {
-          frame = c.frame;
-          same = g.same ∙ rw (s.said, c.same) refl;
-          known = c.known;
-          within = c.within;
-          room = c.room;
-          line = omega (arith, g.line, s.after);
-          inside = s.inside;
-        }
+    module _ (p : ℕ × LineAt) (is : r ≡ Some p) where
+      turn : NextLine (enumerate_source z) (Some p.1) (enumerate_source t) × (p.0 ≡ enumerate_count z) × (enumerate_count t ≡ enumerate_count z + 1) × (p.0 + 1 < 2 ^ 64)
+      turn = rw is at w
+
+      next : Says src.now (enumerate_source z).at p.1 × ((enumerate_source t).src ≡ src) × ((enumerate_source t).at ≡ p.1.next)
+      next = next-line src (enumerate_source z) (enumerate_source t) g.lent (Some p.1) turn.0 p.1 refl
+
+      pub reading-lies : Lies src.now p.1
+      reading-lies = next.0.lies
+
+      reading-place : p.0 + 1 ≤ p.1.next
+      reading-place = omega (arith, g.line, turn.1, next.0.after)
+
+      -- what the line leaves
+      abbrev Leaves : Sets → Result (Option Begun) Refusal → Type 0
+      Leaves m o = (at : ℕ) (f : Frame) → said_from src.now at ≡ said_at src.now p.1 ∷ said_from src.now p.1.next → FrameIs src.now at b f
+          → Carries (line_read (said_at src.now p.1) (carried (state_in l) f (p.0 + 1))) src.now p.1.next (p.0 + 1 + 1) m o
+
+      step : lines_read (lines src.now) at_start ≡ and_then (line_read (said_at src.now p.1) (carried (state_in l) g.frame (p.0 + 1))) (said_read (said_from src.now p.1.next))
+      step = g.same ∙ rw (next.0.said, ← turn.1) refl
+
+      pub reading-stop : (m : Sets) (k : Refusal) → Leaves m (Err k) → lines_read (lines src.now) at_start ≡ Err k
+      reading-stop m k c = let e = c (enumerate_source z).at g.frame next.0.said g.known in step ∙ rw e refl
+
+      pub reading-on : (m : Sets) (o : Option Begun) → Leaves m (Ok o) → Reading src m o t
+      reading-on m o c =
+          reading-next src m o t p.1.next (p.0 + 1 + 1) _ next.1 next.2 (omega (arith, turn.1, turn.2)) (omega (arith, reading-place)) step (c (enumerate_source z).at g.frame next.0.said g.known)

@@ -1,14 +1,13 @@
 -- Lines and frames as they are read. Internal: the contract of a replay is in `Replay`. Assumes nothing.
-use Rattle.std.specs.Prelude.{◌≡◌, true, cond, leb, List, [], ◌∷◌, ◌++◌, map, ℕ, ◌+◌, ◌≤◌, ◌<◌, length, Result, Ok, Err, Option, Some, None}
+use Rattle.std.specs.Prelude.{◌≡◌, cond, leb, List, [], ◌∷◌, ◌++◌, map, ℕ, ◌+◌, ◌-◌, ◌≤◌, ◌<◌, length, take, drop, Result, Ok, Err, Option, Some, None}
 use Rattle.ids.specs.Limits.{most_operations}
 use Rattle.ids.specs.declared.refusal.Refusal.{Refusal}
 use Rattle.ids.specs.declared.refusal.Refusal.TheVariants.{TooManyOperations}
-use Rattle.manifest.specs.Operations.{Operation, Line, begin, end, torn, operation, bad, operation_of, line_said, well_formed}
+use Rattle.manifest.specs.Operations.{Operation, Line, begin, end, torn, operation, bad}
 use Rattle.manifest.specs.Lines.{line_of}
 use Rattle.manifest.specs.Split.{lines_from}
-use Rattle.replay.specs.declared.said.Said.{Said}
+use Rattle.manifest.specs.declared.reader.LineAt.{LineAt}
 use Rattle.replay.specs.declared.frame.Begun.{Begun}
-use Rattle.replay.specs.declared.frame.Here.{Here}
 use Rattle.replay.specs.declared.sets.Sets.{Sets}
 use Rattle.replay.specs.Replay.{Frame, none, opened, Carried, carried}
 use Rattle.replay.specs.Sets.{state_in, RoomFor}
@@ -17,6 +16,24 @@ use Rattle.replay.specs.Sets.{state_in, RoomFor}
 abbrev pub said_from : List ℕ → ℕ → List Line
 said_from src at = map line_of (lines_from src at)
 
+-- a line's bytes and its newline are among the bytes
+pub record Lies (src : List ℕ) (l : LineAt) : Type 0 where
+  pub start : l.start ≤ l.end
+  pub end : l.end < l.next
+  pub inside : l.next ≤ length src
+
+-- what a line says
+abbrev pub said_at : List ℕ → LineAt → Line
+said_at src l = line_of (take (l.end - l.start) (drop l.start src))
+
+-- the operation among what a line may say
+abbrev pub operation_on : Line → Option Operation
+operation_on begin = None
+operation_on end = None
+operation_on torn = None
+operation_on (operation o) = Some o
+operation_on bad = None
+
 unfoldable pub leading : List Line → List Operation
 leading [] = []
 leading (begin ∷ l) = []
@@ -24,30 +41,6 @@ leading (end ∷ l) = []
 leading (torn ∷ l) = []
 leading (operation o ∷ l) = o ∷ leading l
 leading (bad ∷ l) = []
-
--- a line stands at a place, and says so; an operation that it says is well formed
-pub record Says (src : List ℕ) (at : ℕ) (r : Said) : Type 0 where
-  pub said : said_from src at ≡ line_said r.parsed ∷ said_from src r.next
-  pub well : (o : Operation) → line_said r.parsed ≡ operation o → well_formed o ≡ true
-  pub after : at < r.next
-  pub inside : r.next ≤ length src
-
--- or none does
-abbrev pub SaysNext : List ℕ → ℕ → Option Said → Type 0
-SaysNext src at (Some r) = Says src at r
-SaysNext src at None = said_from src at ≡ []
-
--- an operation stands on the line at a place
-pub record Operates (src : List ℕ) (at : ℕ) (h : Here) : Type 0 where
-  pub said : said_from src at ≡ operation (operation_of h.change) ∷ said_from src h.next
-  pub well : well_formed (operation_of h.change) ≡ true
-  pub after : at < h.next
-  pub inside : h.next ≤ length src
-
--- or none does
-abbrev pub HereSays : List ℕ → ℕ → Option Here → Type 0
-HereSays src at (Some h) = Operates src at h
-HereSays src at None = leading (said_from src at) ≡ []
 
 -- an open frame is known by the place and the number of the line after its `B`, and by how many operations follow
 pub record Opened (src : List ℕ) (at : ℕ) (o : Begun) (f : Frame) : Type 0 where

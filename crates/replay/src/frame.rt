@@ -4,21 +4,13 @@ ghost use Rattle.std.specs.Prelude.{◌≡◌, ◌||◌, ◌≤◌, ltb, length,
 ghost use Rattle.ids.specs.Limits.{most_tables, most_held, most_operations, longest_manifest};
 ghost use Rattle.ids.specs.Results.{and_then};
 ghost use Rattle.replay.specs.Replay.{limited, over_limit};
-ghost use Rattle.replay.specs.Reading.{leading, said_from, HereSays, Within};
+ghost use Rattle.replay.specs.Reading.{leading, said_from, Within};
 ghost use Rattle.replay.specs.Sets.{state_in, RoomFor, framed_lightly, left_by};
 
 use crate::said::Manifest;
 use crate::sets::Sets;
 use ids::limits::{MOST_HELD, MOST_TABLES};
 use ids::refusal::Refusal;
-use manifest::operation::{EpochOp, ManifestOperation};
-
-// An operation that stands on a line, and the place after the line.
-#[derive(Clone, Copy)]
-pub struct Here {
-    pub change: EpochOp,
-    pub next: usize,
-}
 
 // An open frame: the place and the number of the line after its `B`, and how many operations follow.
 #[derive(Clone, Copy)]
@@ -28,38 +20,20 @@ pub struct Begun {
     pub count: usize,
 }
 
-impl<'a> Manifest<'a> {
-    // The operation on the line that begins at `at`.
-    fn operation_at(&self, at: usize) -> Option<Here>
-        ensures { HereSays self.now.src.now at result }
-    {
-        let said = self.said_at(at)?;
-        let ManifestOperation::Epoch(change) = said.parsed? else {
-            return None;
-        };
-        Some(Here {
-            change,
-            next: said.next,
-        })
-    }
-}
-
 // A frame has room for all its operations: see `Sets`.
 impl Sets {
-    // The operations of a frame, a line each: the numbers are for refusals, and the lines are found by their places. To do:
-    // `ManifestLines`, as in `lines`.
+    // The operations of a frame, a line each: the numbers are for refusals.
     fn apply_frame(&mut self, manifest: &Manifest, begun: Begun) -> Result<(), Refusal>
         requires room { RoomFor most_operations self.old }
         requires frame { Within manifest.now.src.now begun }
         ensures { (framed_lightly begun.line (take begun.count (leading (said_from manifest.now.src.now begun.place))) (state_in self.old)) ≡ left_by result self.new }
     {
-        let mut at = begun.place;
-        for line in begun.line..begun.line + begun.count {
-            let Some(here) = manifest.operation_at(at) else {
+        let numbers = begun.line..begun.line + begun.count;
+        for (number, line) in numbers.zip(manifest.lines_from(begun.place)) {
+            let Some(change) = manifest.operation(line) else {
                 return Ok(());
             };
-            self.apply(line, here.change)?;
-            at = here.next;
+            self.apply(number, change)?;
         }
         Ok(())
     }

@@ -1,9 +1,12 @@
-// What a line of a manifest says.
-ghost use Rattle.std.specs.Prelude.{◌≤◌, length};
+// What the lines of a manifest say.
+ghost use Rattle.std.specs.Prelude.{◌≡◌, ◌≤◌, length};
+ghost use Rattle.std.specs.Option.{option_map};
 ghost use Rattle.ids.specs.Limits.{longest_manifest};
-ghost use Rattle.replay.specs.Reading.{SaysNext};
+ghost use Rattle.manifest.specs.Operations.{line_said, operation_of};
+ghost use Rattle.replay.specs.Reading.{Lies, said_at, operation_on};
 
-use manifest::operation::ManifestOperation;
+use manifest::operation::{EpochOp, ManifestOperation};
+use manifest::reader::LineAt;
 use manifest_lines::ManifestLines;
 use text::ByteClasses;
 
@@ -15,22 +18,31 @@ pub struct Manifest<'a> {
     ghost short: { length src.now ≤ longest_manifest },
 }
 
-// What a line says, nothing where it is none of a manifest, and the place after it.
-#[derive(Clone, Copy)]
-pub struct Said {
-    pub parsed: Option<ManifestOperation>,
-    pub next: usize,
-}
-
 impl<'a> Manifest<'a> {
-    // The line at a place, if there is one.
-    pub(crate) fn said_at(&self, at: usize) -> Option<Said>
-        ensures { SaysNext self.now.src.now at result }
+    // Its lines from a place on. What one says is read where it is needed: lines handed out with what they say were measured to be slower.
+    pub(crate) fn lines_from(&self, at: usize) -> ManifestLines<'_>
+        ensures src { result.src ≡ self.now.src }
+        ensures at { result.at ≡ at }
     {
-        let line = ManifestLines::new(&self.classes, self.src, at).next()?;
-        Some(Said {
-            parsed: manifest::parser::parse(&self.classes, &self.src[line.start..line.end]),
-            next: line.next,
-        })
+        ManifestLines::new(&self.classes, self.src, at)
+    }
+
+    // What one of them says, nothing where it is none of a manifest.
+    pub(crate) fn said(&self, line: LineAt) -> Option<ManifestOperation>
+        requires { Lies self.now.src.now line }
+        ensures { line_said result ≡ said_at self.now.src.now line }
+    {
+        manifest::parser::parse(&self.classes, &self.src[line.start..line.end])
+    }
+
+    // The operation that it says, if it says one.
+    pub(crate) fn operation(&self, line: LineAt) -> Option<EpochOp>
+        requires { Lies self.now.src.now line }
+        ensures { option_map operation_of result ≡ operation_on (said_at self.now.src.now line) }
+    {
+        let ManifestOperation::Epoch(change) = self.said(line)? else {
+            return None;
+        };
+        Some(change)
     }
 }

@@ -1,6 +1,7 @@
 // What a replay has read so far: the live tables, rowsets and vectors, each in a sorted list, and the next ids.
 ghost use Rattle.std.specs.Prelude.{◌≡◌, ◌∷◌, [], true};
-ghost use Rattle.replay_lists.proofs.Compared.{compared-one, compared_two, compared_three};
+ghost use Rattle.lists.proofs.Compared.{compared-one};
+ghost use Rattle.replay_lists.proofs.Compared.{compared_two, compared_three};
 ghost use Rattle.lists.specs.Keyed.{ascending};
 
 use ids::limits::{MOST_HELD, MOST_OPERATIONS, MOST_TABLES};
@@ -14,57 +15,25 @@ const TABLE_ROOM: usize = MOST_TABLES + MOST_OPERATIONS;
 
 const HELD_ROOM: usize = MOST_HELD + MOST_OPERATIONS;
 
-// Its Default fills free places and is written by hand: 0 is an id like any other, so that ids have none, which would be no plainer.
-#[derive(Clone, Copy)]
+#[derive(Clone, Copy, Default)]
 pub struct LiveTable {
     pub table: TableNo,
     pub shape: u32,
     pub name: Name,
 }
 
-// Its Default fills free places and is written by hand: 0 is an id like any other, so that ids have none, which would be no plainer.
-#[derive(Clone, Copy)]
+#[derive(Clone, Copy, Default)]
 pub struct LiveRowset {
     pub table: TableNo,
     pub rowset: RowsetNo,
 }
 
 // The ids of one vector. `NextIds` has the same fields for ids to come: one type for both would be no plainer.
-#[derive(Clone, Copy)]
+#[derive(Clone, Copy, Default)]
 pub struct LiveVector {
     pub table: TableNo,
     pub rowset: RowsetNo,
     pub vector: VectorNo,
-}
-
-// These three fill the free places of a list: an id has no default to derive one from.
-impl Default for LiveTable {
-    fn default() -> LiveTable {
-        LiveTable {
-            table: TableNo(0),
-            shape: 0,
-            name: Name::default(),
-        }
-    }
-}
-
-impl Default for LiveRowset {
-    fn default() -> LiveRowset {
-        LiveRowset {
-            table: TableNo(0),
-            rowset: RowsetNo(0),
-        }
-    }
-}
-
-impl Default for LiveVector {
-    fn default() -> LiveVector {
-        LiveVector {
-            table: TableNo(0),
-            rowset: RowsetNo(0),
-            vector: VectorNo(0),
-        }
-    }
 }
 
 impl Keyed for LiveTable {

@@ -6,7 +6,7 @@ use Rattle.std.specs.List.Sorted.{IsSearchInRange, IsBinarySearchResult, IsNonDe
 use Rattle.std.specs.Ordering.{ordering_index}
 use Rattle.std.specs.declared.cmp.Ordering.{Ordering}
 use Rattle.std.specs.declared.cmp.Ordering.TheVariants.{Less, Equal, Greater}
-use Rattle.lists.specs.Order.{less, same}
+use Rattle.lists.specs.Order.{less, same, compared}
 use Rattle.lists.specs.Keyed.{has, rank, put, without, ascending}
 use Rattle.lists.specs.Places.{insert_at, remove_at}
 use Rattle.lists.proofs.Tests.{by_cases, clash}
@@ -14,7 +14,7 @@ use Rattle.lists.proofs.Order.{less-irrefl, less-trans, less-asym, same_true, sa
 use Rattle.lists.proofs.Keyed.{Ascending, All, ascend-to, ascend-from, ascending-put, ascending-keep, without-absent}
 use Rattle.lists.proofs.Views.{put-here, put_other}
 use Rattle.lists.proofs.Places.{has_end, has_here, without_at, rank-le}
-use Rattle.replay_lists.specs.Entries.{compared, StandsAt, MissingAt}
+use Rattle.replay_lists.specs.Entries.{StandsAt, MissingAt}
 
 module _ (a b : List ℕ) where
   compared_less : compared a b ≡ Less → less a b ≡ true
@@ -67,35 +67,38 @@ module _ {A : Type 0} (key : A → List ℕ) where
   rank_at k (x ∷ l) zero d h b a = rw (a 0 (omega arith) (omega arith))
   rank_at k (x ∷ l) (suc i) d h b a = rw (b 0 (omega arith)) (let e = rank_at k l i d (omega arith) (λ j t. b (suc j) (omega arith)) (λ j t u. a (suc j) (omega arith) (omega arith)) in omega arith)
 
+  found_place : (k : List ℕ) (l : List A) (at : ℕ) → Ascending key l → at < length l → ((d : A) → key (get_or l at d) ≡ k) → at ≡ rank key k l
+  found_place k [] at up w e = absurd (omega arith)
+  found_place k (x ∷ m) at up w e =
+      rank_at k (x ∷ m) at x (omega arith)
+      (λ j h. rw (← e x) (rises (x ∷ m) up j at x h w))
+      (λ j h q. by_cases (ltb at j)
+      (λ t. less-asym k _ (rw (← e x) (rises (x ∷ m) up at j x (ltb-true at j t) q)))
+      (λ t. let i : j ≡ at = omega (arith, ltb-false at j t) in rw (i, e x) (less-irrefl k)))
+
   found_at : (k : List ℕ) (l : List A) (at : ℕ) → Ascending key l → at < length l → ((d : A) → key (get_or l at d) ≡ k) → StandsAt key k l at
   found_at k [] at up w e = absurd (omega arith)
-  found_at k (x ∷ m) at up w e = record { place = place; within = w; there = there }
-    where
-      place : at ≡ rank key k (x ∷ m)
-      place =
-          rank_at k (x ∷ m) at x (omega arith)
-          (λ j h. rw (← e x) (rises (x ∷ m) up j at x h w))
-          (λ j h q. by_cases (ltb at j)
-          (λ t. less-asym k _ (rw (← e x) (rises (x ∷ m) up at j x (ltb-true at j t) q)))
-          (λ t. let i : j ≡ at = omega (arith, ltb-false at j t) in rw (i, e x) (less-irrefl k)))
+  found_at k (x ∷ m) at up w e =
+      let place = found_place k (x ∷ m) at up w e in
+      record { place = place; within = w; there = has_here key k (x ∷ m) x up (rw (← place) w) ∙ rw (← place, e x) (same_refl k) }
 
-      there : has key k (x ∷ m) ≡ true
-      there = has_here key k (x ∷ m) x up (rw (← place) w) ∙ rw (← place, e x) (same_refl k)
+  missing_place : (k : List ℕ) (l : List A) (at : ℕ) → at ≤ length l → ((j : ℕ) (d : A) → j < at → compared (key (get_or l j d)) k ≡ Less)
+      → ((j : ℕ) (d : A) → at ≤ j → j < length l → compared (key (get_or l j d)) k ≡ Greater) → at ≡ rank key k l
+  missing_place k [] at w b a = omega arith
+  missing_place k (x ∷ m) at w b a = rank_at k (x ∷ m) at x w (λ j h. compared_less _ k (b j x h)) (λ j h q. (compared_greater _ k (a j x h q)).0)
 
   missing_at : (k : List ℕ) (l : List A) (at : ℕ) → Ascending key l → at ≤ length l
       → ((j : ℕ) (d : A) → j < at → compared (key (get_or l j d)) k ≡ Less) → ((j : ℕ) (d : A) → at ≤ j → j < length l → compared (key (get_or l j d)) k ≡ Greater) → MissingAt key k l at
   missing_at k [] at up w b a = record { place = omega arith; absent = refl }
-  missing_at k (x ∷ m) at up w b a = record { place = place; absent = absent }
-    where
-      place : at ≡ rank key k (x ∷ m)
-      place = rank_at k (x ∷ m) at x w (λ j h. compared_less _ k (b j x h)) (λ j h q. (compared_greater _ k (a j x h q)).0)
-
-      absent : has key k (x ∷ m) ≡ false
-      absent =
-          by_cases (ltb at (length (x ∷ m)))
-          (λ t. let h = ltb-true at (length (x ∷ m)) t in
-          has_here key k (x ∷ m) x up (rw (← place) h) ∙ rw (← place) (compared_greater _ k (a at x (omega arith) h)).1)
-          (λ t. has_end key k (x ∷ m) up (rw (← place) (ltb-false at (length (x ∷ m)) t)))
+  missing_at k (x ∷ m) at up w b a =
+      let place = missing_place k (x ∷ m) at w b a in
+      record {
+        place = place;
+        absent = by_cases (ltb at (length (x ∷ m)))
+            (λ t. let h = ltb-true at (length (x ∷ m)) t in
+            has_here key k (x ∷ m) x up (rw (← place) h) ∙ rw (← place) (compared_greater _ k (a at x (omega arith) h)).1)
+            (λ t. has_end key k (x ∷ m) up (rw (← place) (ltb-false at (length (x ∷ m)) t)));
+      }
 
   module _ (k : List ℕ) (l : List A) (up : ascending key l ≡ true) where
     -- what a binary search ends at, by the order of keys

@@ -1,13 +1,6 @@
 -- Where an entry stands in a list that ascends by keys, which are lists of numbers. Assumes nothing.
-use Rattle.std.specs.Prelude.{◌≡◌, true, false, List, ℕ, ◌<◌, cond, length}
-use Rattle.std.specs.declared.cmp.Ordering.{Ordering}
-use Rattle.std.specs.declared.cmp.Ordering.TheVariants.{Less, Equal, Greater}
-use Rattle.lists.specs.Order.{less, same}
+use Rattle.std.specs.Prelude.{◌≡◌, true, false, List, ℕ, ◌<◌, length}
 use Rattle.lists.specs.Keyed.{has, rank}
-
--- the order of keys, as `Ordering` says it
-abbrev pub compared : List ℕ → List ℕ → Ordering
-compared a b = cond (less a b) Less (cond (same a b) Equal Greater)
 
 -- by the numbers of its key
 abbrev pub by : {A K : Type 0} → (K → List ℕ) → (A → K) → A → List ℕ

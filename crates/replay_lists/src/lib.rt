@@ -3,7 +3,8 @@
 
 ghost use Rattle.std.specs.Prelude.{◌≡◌, true, List, [], ℕ, ◌+◌, ◌<◌, ◌≤◌, length, IfOk, IfErr};
 ghost use Rattle.lists.specs.Keyed.{has, put, without, ascending};
-ghost use Rattle.replay_lists.specs.Entries.{by, compared, StandsAt, MissingAt};
+ghost use Rattle.lists.specs.Order.{compared};
+ghost use Rattle.replay_lists.specs.Entries.{by, StandsAt, MissingAt};
 
 use arrayvec::ArrayVec;
 use std::marker::Model;

@@ -1,6 +1,6 @@
 -- Entries by place: what is held, what an epoch shows, and the run of a table. Assumes nothing.
 use mathlib.Core.Path.{◌≡◌, refl, sym, ap, ◌∙◌}
-use mathlib.Core.Bool.{Bool, true, false, ◌&&◌, ◌||◌, and-true}
+use mathlib.Core.Bool.{Bool, true, false, ◌&&◌, and-true}
 use mathlib.Core.List.{List, [], ◌∷◌}
 use Prim.Native.Nat.{ℕ, ◌+◌, ◌≤◌, ◌<◌}
 use native.Mathlib.Omega.{arith}
@@ -14,7 +14,7 @@ use Rattle.lists.specs.Order.{less, same}
 use Rattle.lists.specs.Keyed.{keep, any_of, is_at, has, put, changed, ascending, rank}
 use Rattle.lists.proofs.Tests.{by_cases, clash, neither, both}
 use Rattle.lists.proofs.Order.{same_true, less-same, less-trans, lex-last}
-use Rattle.lists.proofs.Keyed.{any_of-map, All, After, Ascending, ascend-to, ascend-from, after-absent, ascending-put, ascending-changed}
+use Rattle.lists.proofs.Keyed.{any-same, any_of-map, All, After, Ascending, ascend-to, ascend-from, after-absent, ascending-put, ascending-changed}
 use lib.Seq.{take_all}
 use Rattle.lists.proofs.Places.{has_here, drop-view, drop-end}
 use Rattle.columns.specs.Rows.{rows, column, across, plain, PutIn}
@@ -198,11 +198,6 @@ module _ {ks es : List (List ℕ)} {xs : List ℕ} (n at : ℕ) (a b d f : List 
 
   pub put-rises : ascending by_ids (entries es b f (n + 1)) ≡ true
   put-rises = ap (ascending by_ids) put-found ∙ ascend-from by_ids (put by_ids (added_at e xs) (entries ks a d n)) (ascending-put by_ids (added_at e xs) (entries ks a d n) (ascend-to by_ids (entries ks a d n) up))
-
--- the library's test of a list
-pub any-same : {A : Type 0} (p : A → Bool) (l : List A) → list_any p l ≡ any_of p l
-any-same p [] = refl
-any-same p (x ∷ l) = ap (λ (t : Bool). p x || t) (any-same p l)
 
 -- the first numbers of a column, and one of them
 pub column-has : (c : List ℕ) (n v : ℕ) → n ≤ length c → list_any (λ x. nat_eq x v) (take n c) ≡ any_of (λ x. eqb x v) (rows (column c) n)

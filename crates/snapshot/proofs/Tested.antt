@@ -93,8 +93,3 @@ module _ (p : Entry → Bool) (l : List Entry) (end : ℕ) (w : end ≤ length l
       let v = h.1 in
       let z : from + (i - from) ≡ i = omega arith in
       (v, rw z at (skip-hidden (i - from) from (omega arith) (λ j a b. h.3 j a (omega arith))) ∙ show-this p l end i w v h.2)
-
--- the library's test of a list is this one
-pub all-same : {A : Type 0} (p : A → Bool) (l : List A) → list_all p l ≡ all_of p l
-all-same p [] = refl
-all-same p (x ∷ l) = ap (λ (t : Bool). p x && t) (all-same p l)

@@ -2,7 +2,7 @@ use Rattle.std.proofs.Common.{[], ◌∷◌, sym, ◌∙◌, rules, tests}
 use Rattle.std.proofs.lemmas.Iterator.{YieldsList-from_slice}
 use Rattle.std.proofs.lemmas.Iterator.Search.{all_from_yields_List}
 use Rattle.lists.specs.Keyed.{has}
-use Rattle.snapshot.proofs.Tested.{all-same}
+use Rattle.lists.proofs.Keyed.{all-same}
 use Rattle.replay.specs.declared.sets.LiveTable.{LiveTable}
 use Rattle.replay.specs.declared.sets.LiveRowset.{LiveRowset}
 use Rattle.replay.proofs.Entries.{has-tables}

@@ -2,10 +2,11 @@ use Rattle.std.proofs.Common.{sym, ◌∙◌, rules, tests}
 use Rattle.std.proofs.lemmas.Iterator.{YieldsList-from_slice}
 use Rattle.std.proofs.lemmas.Iterator.Search.{any_from_yields_List}
 use Rattle.lists.specs.Order.{same}
+use Rattle.lists.proofs.Keyed.{any-same}
 use Rattle.ids.specs.Names.{name_of}
 use Rattle.ids.proofs.Names.{bytes-same}
 use Rattle.replay.specs.declared.sets.LiveTable.{LiveTable}
-use Rattle.replay.proofs.Entries.{name-taken, any-same}
+use Rattle.replay.proofs.Entries.{name-taken}
 use Rattle.replay.proofs.sets.Sets.name_taken.Goals as goal
 
 pub returns : goal.returns

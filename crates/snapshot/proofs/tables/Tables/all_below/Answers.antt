@@ -7,9 +7,9 @@ use Rattle.std.proofs.Common.{rules, tests}
 use Rattle.std.proofs.lemmas.Iterator.{YieldsList-from_slice}
 use Rattle.std.proofs.lemmas.Iterator.Search.{all_from_yields_List}
 use Rattle.lists.specs.Keyed.{all_of}
+use Rattle.lists.proofs.Keyed.{all-same}
 use Rattle.lists.proofs.Places.{known}
 use Rattle.columns.proofs.Rows.{rows-column}
-use Rattle.snapshot.proofs.Tested.{all-same}
 use Rattle.snapshot.proofs.TableRows.{below-tables}
 use Rattle.snapshot.proofs.tables.Tables.all_below.Goals as goal
 
