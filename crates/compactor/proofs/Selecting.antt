@@ -5,8 +5,7 @@ use mathlib.Core.List.{List, [], map, map-map}
 use Prim.Native.Nat.{ℕ, ◌≤◌, ◌<◌}
 use native.Mathlib.Omega.{arith}
 use lib.Dec.{leb, eqb}
-use lib.ListN.{length, get_or, take, length-map}
-use lib.Seq.{length-take-le}
+use lib.ListN.{length, get_or, length-map}
 use borrow.Author.Tests.{eq-eqb, ne_eqb, lt-ltb, le-ltb}
 use Rattle.std.specs.Prelude.{Ok, Err}
 use Rattle.lists.specs.Keyed.{keep}
@@ -24,7 +23,7 @@ use Rattle.snapshot.specs.declared.rowsets.Rowsets.{Rowsets}
 use Rattle.version_state.specs.declared.VersionManagerInner.{VersionManagerInner}
 use Rattle.version_state.specs.State.{State, state_of}
 use Rattle.operations.specs.Judge.{is_live}
-use Rattle.compactor.specs.Selection.{Sized, taken, compacted, sized, rowsets_now, selected}
+use Rattle.compactor.specs.Selection.{Sized, taken, sized, rowsets_now, selected}
 use Rattle.compactor.specs.Says.{select_rules, SelectIs}
 use Rattle.compactor.proofs.Taking.{rowset_in, rowset_at}
 
@@ -52,25 +51,11 @@ module _ (m : VersionManagerInner) (t target : ℕ) (ns : List ℕ) where
   all = taken target (sized (rowsets_now t (state_of m)) ns)
 
   -- what was taken, with one or none as no compaction
-  module _ (c : List ℕ) (r n : ℕ) (few : r ≤ length c) (told : take r c ≡ map rowset_in all) (q : n ≡ cond (leb r 1) 0 r) where
-    all-count : r ≡ length all
-    all-count = sym (length-take-le r c few) ∙ ap length told ∙ length-map all rowset_in
-
-    selected-few : n ≤ r
-    selected-few = by_cases (leb r 1) (λ b. let z : n ≡ 0 = q ∙ rw b in omega arith) (λ b. let z : n ≡ r = q ∙ rw b in omega arith)
-
-    pub selected-are : take n c ≡ selected t target ns (state_of m)
-    selected-are =
-        by_cases (leb r 1)
-        (λ b. let x : n ≡ 0 = q ∙ rw b in
-        let y : compacted all ≡ [] = rw (← all-count, b) in
-        ap (λ (i : ℕ). take i c) x ∙ sym (ap (map rowset_in) y))
-        (λ b. let x : n ≡ r = q ∙ rw b in
-        let y : compacted all ≡ all = rw (← all-count, b) in
-        ap (λ (i : ℕ). take i c) x ∙ told ∙ sym (ap (map rowset_in) y))
-
-    pub selected-count : n ≡ length (selected t target ns (state_of m))
-    selected-count = sym (length-take-le n c (omega (arith, selected-few, few))) ∙ ap length selected-are
+  pub selected-are : (c r : List ℕ) → c ≡ map rowset_in all → r ≡ cond (leb (length c) 1) [] c → r ≡ selected t target ns (state_of m)
+  selected-are c r told q =
+      q
+      ∙ ap (λ (d : List ℕ). cond (leb (length d) 1) [] d) told
+      ∙ rw (length-map all rowset_in) (by_cases (leb (length all) 1) (λ b. rw b) (λ b. rw b))
 
   module _ (out : List ℕ) where
     refuses : (k : Refusal) → judged (select_rules (state_of m) t target ns (length out)) ≡ Err k → SelectIs (state_of m) t target ns out (Err k) out

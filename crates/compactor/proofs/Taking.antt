@@ -4,13 +4,10 @@ use mathlib.Core.List.{List, [], ◌∷◌, ◌++◌, map}
 use Prim.Native.Nat.{ℕ, ◌+◌, ◌-◌, ◌≤◌, ◌<◌}
 use denote.Ref.{Bor}
 use native.Mathlib.Omega.{arith}
-use native.Mathlib.Numerals.{add-one}
-use lib.ListN.{length, get_or, take, set, length-set}
-use lib.Seq.{take-suc-set}
+use lib.ListN.{length, get_or}
 use Rattle.std.specs.List.{zip}
 use Rattle.std.proofs.lemmas.List.{length_push}
 use Rattle.lists.proofs.Views.{map-append}
-use Rattle.ids.specs.Limits.{most_held}
 use Rattle.snapshot.specs.Entries.{Entry}
 use Rattle.snapshot.specs.declared.rowsets.HeldRowset.{HeldRowset}
 use Rattle.compactor.specs.Selection.{Sized, sized_as, taken, sized}
@@ -31,31 +28,27 @@ total-snoc : (l : List Sized) (x : Sized) → total (l ++ (x ∷ [])) ≡ total 
 total-snoc [] x = omega arith
 total-snoc (y ∷ l) x = omega (arith, total-snoc l x)
 
--- Taking: the ones seen so far, so much left of the target, and those that are taken in the first places of a column.
-pub record Taking (target left count : ℕ) (a : List Sized) (c : List ℕ) : Type 0 where
-  pub behind : count ≤ length a
-  pub full : length c ≡ most_held
+-- Taking: the ones seen so far, so much left of the target, and those that are taken.
+pub record Taking (target left : ℕ) (a : List Sized) (c : List ℕ) : Type 0 where
+  pub behind : length c ≤ length a
   pub sum : left + total (taken target a) ≡ target
-  pub told : take count c ≡ map rowset_in (taken target a)
+  pub told : c ≡ map rowset_in (taken target a)
 
-module _ (target left count : ℕ) (a : List Sized) (c : List ℕ) (x : Sized) (s : Taking target left count a c) where
-  pub take-one : x.size ≤ left → count < most_held → Taking target (left - x.size) (count + 1) (a ++ (x ∷ [])) (set c count x.rowset)
-  take-one h r =
+module _ (target left : ℕ) (a : List Sized) (c : List ℕ) (x : Sized) (s : Taking target left a c) where
+  pub take-one : x.size ≤ left → Taking target (left - x.size) (a ++ (x ∷ [])) (c ++ (x.rowset ∷ []))
+  take-one h =
       let e = taken-fitting target a x (omega (arith, s.sum)) in
-      let put : take (count + 1) (set c count x.rowset) ≡ take count c ++ (x.rowset ∷ []) = rw (add-one, take-suc-set c count x.rowset (omega (arith, s.full))) in
       record {
-        behind = omega (arith, s.behind, length_push a x);
-        full = length-set c count x.rowset ∙ s.full;
+        behind = omega (arith, s.behind, length_push a x, length_push c x.rowset);
         sum = omega (arith, ap total e, total-snoc (taken target a) x, s.sum);
-        told = put ∙ ap (λ (l : List ℕ). l ++ (x.rowset ∷ [])) s.told ∙ sym (map-append rowset_in (taken target a) (x ∷ [])) ∙ ap (map rowset_in) (sym e);
+        told = ap (λ (l : List ℕ). l ++ (x.rowset ∷ [])) s.told ∙ sym (map-append rowset_in (taken target a) (x ∷ [])) ∙ ap (map rowset_in) (sym e);
       }
 
-  pub take_none : left < x.size → Taking target left count (a ++ (x ∷ [])) c
+  pub take_none : left < x.size → Taking target left (a ++ (x ∷ [])) c
   take_none h =
       let e = taken-unfitting target a x (omega (arith, s.sum)) in
       record {
         behind = omega (arith, s.behind, length_push a x);
-        full = s.full;
         sum = omega (arith, ap total e, s.sum);
         told = s.told ∙ ap (map rowset_in) (sym e);
       }

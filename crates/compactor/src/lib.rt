@@ -1,7 +1,7 @@
 // Selection: which of a table's rowsets a compaction takes, by their sizes.
 #![tactic(auto)]
 
-ghost use Rattle.std.specs.Prelude.{◌≡◌, cond, ◌≤◌, map, leb, length, get_or, take};
+ghost use Rattle.std.specs.Prelude.{◌≡◌, cond, ◌≤◌, [], map, leb, length, get_or};
 ghost use Rattle.ids.specs.Limits.{most_held};
 ghost use Rattle.snapshot.specs.Shown.{shown_rowsets};
 ghost use Rattle.version_state.specs.State.{state_of};
@@ -9,6 +9,7 @@ ghost use Rattle.compactor.specs.Selection.{taken, sized};
 ghost use Rattle.compactor.specs.Says.{SelectIs};
 ghost use Rattle.compactor.specs.Laws.{TakenLaws};
 
+use arrayvec::ArrayVec;
 use ids::TableNo;
 use ids::limits::MOST_HELD;
 use ids::refusal::Refusal;
@@ -20,31 +21,29 @@ pub fn holds()
     ensures { TakenLaws }
 {}
 
-// Internal, as is all that follows. Of the rowsets with their sizes, those that are taken; answers how many they are. What is left of the target is
-// counted down, so that no sum of sizes can overflow.
-fn take(shown: ShownRowsets<'_>, sizes: &[u64], target: u64, chosen: &mut [u32; MOST_HELD]) -> usize
+// Internal, as is all that follows. Of the rowsets with their sizes, those that are taken. What is left of the target is counted down, so that no
+// sum of sizes can overflow.
+fn take(shown: ShownRowsets<'_>, sizes: &[u64], target: u64) -> ArrayVec<u32, MOST_HELD>
     requires { length sizes.now ≤ most_held }
-    ensures inside { result ≤ most_held }
-    ensures told { take result chosen.new ≡ map (λ x. x.rowset) (taken target (sized (map (λ x. get_or x.ids 1 0) (shown_rowsets shown.entry)) sizes.now)) }
+    ensures { result.items ≡ map (λ x. x.rowset) (taken target (sized (map (λ x. get_or x.ids 1 0) (shown_rowsets shown.entry)) sizes.now)) }
 {
     let mut left = target;
-    let mut count = 0;
+    let mut chosen = ArrayVec::new();
     for (rowset, size) in shown.zip(sizes.iter()) {
         if *size <= left {
-            chosen[count] = rowset.rowset.0;
-            count += 1;
+            chosen.push(rowset.rowset.0);
             left -= *size;
         }
     }
-    count
+    chosen
 }
 
 // One or none taken means no compaction.
-fn compacted(taken: usize) -> usize
-    ensures { result ≡ cond (leb taken 1) 0 taken }
+fn compacted(taken: &[u32]) -> &[u32]
+    ensures { result.now ≡ cond (leb (length taken.now) 1) [] taken.now }
 {
-    if taken <= 1 {
-        return 0;
+    if taken.len() <= 1 {
+        return &[];
     }
     taken
 }
@@ -70,11 +69,12 @@ pub fn select(
         return Err(Refusal::TableNotLive(0));
     }
     let shown = inner.rowsets.shown_of(table, inner.epoch);
-    let mut chosen = [0; MOST_HELD];
-    let count = compacted(take(shown, sizes, target, &mut chosen));
+    let taken = take(shown, sizes, target);
+    let chosen = compacted(taken.as_slice());
+    let count = chosen.len();
     if out.len() < count {
         return Err(Refusal::OutputTooShort);
     }
-    out[..count].copy_from_slice(&chosen[..count]);
+    out[..count].copy_from_slice(chosen);
     Ok(count)
 }

@@ -94,5 +94,6 @@ module _ (w : World) (t : Told) (l : List (List ℕ)) (v : World) (out : List �
       (λ q. rw (bytes q) (handed-on q))
       (λ j q. refused-stands w r m w.book (subst (λ (x : Verdict). HandsBack x w.manager (with_rewritten s) m) q d.says.manager) refl i))
 
+  -- Over what a checkpoint did, as that of a reopen is over what it did: one lemma would take the hypotheses of both, and be no plainer.
   pub checkpoint-accepted : longest_rewritten ≤ length out → is_accepted t ≡ true
   checkpoint-accepted h = ap is_accepted (tells ∙ ap (λ (x : Verdict). told x (length new ∷ [])) (checkpoint-laws.accepted w.manager out d.result d.left d.says i.sound h))

@@ -164,6 +164,7 @@ module _ (w : World) (t : Told) (l : List (List ℕ)) (v : World) (out : List �
       let k : take (length (rewritten_of found)) d.left ≡ rewritten_of found = ap (take (length (rewritten_of found))) x.3 ∙ written-first (rewritten_of found) out in
       rw (d.after, q, k) (handed-on w r i d.result.manager d.result.book stale (r.place + 1) x.1 x.2))
 
+  -- Over what a reopen did, as that of a checkpoint is over what it did: one lemma would take the hypotheses of both, and be no plainer.
   pub reopen-accepted : longest_rewritten ≤ length out → is_accepted t ≡ true
   reopen-accepted h =
       let e : ltb (length out) (length (rewritten_of found)) ≡ false = le-ltb (length out) (length (rewritten_of found)) (omega (arith, replay-room w.torn found i.torn.replayed, h)) in

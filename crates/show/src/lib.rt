@@ -86,7 +86,8 @@ fn write_name(name: &[u8], out: &mut [u8])
     out[..name.len()].copy_from_slice(name);
 }
 
-// The slices are as C lends them; a table is read at its place, since its name is lent from there: an iterator is no plainer.
+// The slices are as C lends them. By place: each table goes to the same place of four slices, and `Tables` has no iterator; one for this loop would
+// be no plainer.
 pub fn show_tables(
     state: SoundState<'_>,
     book: &PinBook,

@@ -22,7 +22,8 @@ mod vectors;
 // The most handles of a transaction.
 pub const MOST_HANDLES: usize = 4096;
 
-// The handles of a transaction: the first `count`, in an array since there is no heap. A count above the array is refused.
+// The handles of a transaction: the first `count`. A count above the array is refused, and an `ArrayVec` cannot hold one, so that it would be no
+// plainer.
 #[derive(Drop)]
 pub struct Handles {
     pub items: [SecondaryRowHandler; MOST_HANDLES],
@@ -55,7 +56,7 @@ fn grouped(
     ensures { GroupIs (map handle_of given.now.handles.now) (length given.now.handles.now) next rs.old ls.old cs.old fs.old ms.old result rs.new ls.new cs.new fs.new ms.new }
 {
     let n = given.handles.len();
-    let mut ordered = [SecondaryRowHandler(RowsetNo(0), RowNo(0)); MOST_HANDLES];
+    let mut ordered = [SecondaryRowHandler::default(); MOST_HANDLES];
     let ordered = &mut ordered[..n];
     given.by_rowset(ordered);
     let sizes = Sizes::new();

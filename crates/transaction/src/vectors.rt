@@ -14,7 +14,7 @@ use ids::refusal::Refusal;
 use ids::{RowsetNo, SecondaryRowHandler};
 
 // Vectors one after another: of each its rowset, the bytes of its file and its count of rows in memory; then those rows of all.
-// In columns, since each is copied to a slice that C lends.
+// In columns, since each is copied to a slice that C lends. An `ArrayVec` for each would have four counts where two are enough, and be no plainer.
 #[derive(Drop)]
 pub struct Vectors {
     pub count: usize,

@@ -1,7 +1,7 @@
 -- The vacuum's list as a sort makes it: lists in order that have each key as often have the same keys. Assumes nothing.
 use mathlib.Core.Path.{◌≡◌, refl, sym, ap, ap₂, ◌∙◌}
 use mathlib.Core.Bool.{Bool, true, false, cond}
-use mathlib.Core.List.{List, [], ◌∷◌, map}
+use mathlib.Core.List.{List, [], ◌∷◌, map, map-map}
 use Prim.Native.Nat.{ℕ, suc, ◌+◌, ◌<◌, ◌≤◌}
 use native.Mathlib.Omega.{arith}
 use native.Mathlib.Numerals.{add-one}
@@ -11,6 +11,7 @@ use Rattle.std.specs.List.{sum_by}
 use Rattle.std.specs.List.Sorted.{IsPermutation, IsSortedBy}
 use Rattle.std.proofs.Common.{Ordering}
 use Rattle.std.specs.Ordering.{is_lt, nat_cmp, ordering_then}
+use Rattle.std.proofs.lemmas.List.{map-id}
 use Rattle.std.proofs.lemmas.List.Sums.{sum_by-cons}
 use Rattle.std.proofs.lemmas.List.Sorted.{sum_by-IsPermutation}
 use Rattle.lists.specs.Order.{lex, less, same}
@@ -24,6 +25,7 @@ use Rattle.snapshot.specs.Entries.{Entry, gone_by, by_deletion, entry_at}
 use Rattle.snapshot.specs.Views.{rowsets_of, rowset_of}
 use Rattle.snapshot.specs.declared.rowsets.Rowsets.{Rowsets}
 use Rattle.snapshot.specs.declared.rowsets.HeldRowset.{HeldRowset}
+use Rattle.vacuum.specs.LetGo.{deletion_of}
 
 module _ {A : Type 0} (key : A → List ℕ) where
   pub all-arranged : (P : A → Type 0) (l : List A) → All P l → All P (arranged key l)
@@ -107,27 +109,45 @@ count-map f key k (x ∷ l) = sum_by-cons (one key k) (f x) (map f l) ∙ omega 
 lt-lex : (m n : ℕ) (o : Ordering) → is_lt (ordering_then (nat_cmp m n) o) ≡ lex m n (is_lt o)
 lt-lex m n o = by_cases (ltb m n) (λ t. rw t) (λ t. by_cases (eqb m n) (λ u. rw (t, u) refl) (λ u. rw (t, u)))
 
--- a rowset by its deletion
-abbrev pub by_its : HeldRowset → List ℕ
-by_its x = by_deletion (rowset_of x)
+-- a listed deletion as numbers, and back
+abbrev by_its : ℕ × ℕ × ℕ → List ℕ
+by_its x = x.0 ∷ x.1 ∷ x.2 ∷ []
+
+abbrev of_its : List ℕ → ℕ × ℕ × ℕ
+of_its k = (get_or k 0 0, get_or k 1 0, get_or k 2 0)
 
 -- as std compares two of them
-abbrev pub sooner : HeldRowset → HeldRowset → Bool
-sooner x y = is_lt (ordering_then (ordering_then (nat_cmp x.deleted y.deleted) (nat_cmp x.table.0 y.table.0)) (nat_cmp x.rowset.0 y.rowset.0))
+abbrev pub sooner : ℕ × ℕ × ℕ → ℕ × ℕ × ℕ → Bool
+sooner x y = is_lt (ordering_then (ordering_then (nat_cmp x.0 y.0) (nat_cmp x.1 y.1)) (nat_cmp x.2 y.2))
 
-compared : (x y : HeldRowset) → sooner x y ≡ less (by_its x) (by_its y)
+compared : (x y : ℕ × ℕ × ℕ) → sooner x y ≡ less (by_its x) (by_its y)
 compared x y =
-    ap is_lt (then_assoc (nat_cmp x.deleted y.deleted) (nat_cmp x.table.0 y.table.0) (nat_cmp x.rowset.0 y.rowset.0))
-    ∙ lt-lex x.deleted y.deleted _
-    ∙ ap (lex x.deleted y.deleted) (lt-lex x.table.0 y.table.0 _ ∙ ap (lex x.table.0 y.table.0) (before x.rowset.0 y.rowset.0))
+    ap is_lt (then_assoc (nat_cmp x.0 y.0) (nat_cmp x.1 y.1) (nat_cmp x.2 y.2))
+    ∙ lt-lex x.0 y.0 _
+    ∙ ap (lex x.0 y.0) (lt-lex x.1 y.1 _ ∙ ap (lex x.1 y.1) (before x.2 y.2))
+
+-- a rowset as it is listed
+abbrev pub listed_as : HeldRowset → ℕ × ℕ × ℕ
+listed_as x = deletion_of (rowset_of x)
 
 -- what is gone, sorted, is the vacuum's list
-pub listed-keys : (hs ks : List HeldRowset) (l : List Entry) → map rowset_of hs ≡ l → IsPermutation hs ks → IsSortedBy sooner ks → map by_its ks ≡ map by_deletion (arranged by_deletion l)
-listed-keys hs ks l e p up =
-    sorted-alike by_its by_deletion ks (arranged by_deletion l)
-    (in-order by_its ks (λ j d h. sym (compared (get_or ks (suc j) d) (get_or ks j d)) ∙ rw add-one at (up j d (omega arith) (omega arith))))
-    (sorted-arranged by_deletion l)
-    (λ k. sum_by-IsPermutation (one by_its k) hs ks p ∙ sym (count-map rowset_of by_deletion k hs) ∙ ap (count by_deletion k) e ∙ sym (count-arranged by_deletion k l))
+module _ (hs : List HeldRowset) (ks : List (ℕ × ℕ × ℕ)) (l : List Entry) (e : map rowset_of hs ≡ l) (p : IsPermutation (map listed_as hs) ks) (up : IsSortedBy sooner ks) where
+  same-keys : map by_its ks ≡ map by_deletion (arranged by_deletion l)
+  same-keys =
+      sorted-alike by_its by_deletion ks (arranged by_deletion l)
+      (in-order by_its ks (λ j d h. sym (compared (get_or ks (suc j) d) (get_or ks j d)) ∙ rw add-one at (up j d (omega arith) (omega arith))))
+      (sorted-arranged by_deletion l)
+      (λ k. sum_by-IsPermutation (one by_its k) (map listed_as hs) ks p
+      ∙ count-map listed_as by_its k hs
+      ∙ sym (count-map rowset_of by_deletion k hs)
+      ∙ ap (count by_deletion k) e
+      ∙ sym (count-arranged by_deletion k l))
+
+  pub in-turn : ks ≡ map deletion_of (arranged by_deletion l)
+  in-turn =
+      sym (map-id ks) ∙ sym (map-map of_its by_its ks)
+      ∙ ap (map of_its) same-keys
+      ∙ map-map of_its by_deletion (arranged by_deletion l)
 
 -- no more is gone than is held
 pub gone-few : (e : ℕ) (s : Rowsets) → length (keep (gone_by e) (rowsets_of s)) ≤ s.count

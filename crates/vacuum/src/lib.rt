@@ -1,23 +1,23 @@
 // Vacuum: deletions that no pin keeps are listed and let go.
 #![tactic(auto)]
 
-ghost use Rattle.std.specs.Prelude.{◌≡◌, false, ◌≤◌, map, length, take};
+ghost use Rattle.std.specs.Prelude.{◌≡◌, false, ◌≤◌, map, length};
 ghost use Rattle.lists.specs.Keyed.{keep, arranged};
 ghost use Rattle.lists.specs.Written.{over};
 ghost use Rattle.ids.specs.Limits.{most_held};
 ghost use Rattle.snapshot.specs.Entries.{gone_by, by_deletion};
-ghost use Rattle.snapshot.specs.Views.{rowsets_of, rowset_of};
+ghost use Rattle.snapshot.specs.Views.{rowsets_of};
 ghost use Rattle.version_state.specs.State.{state_of, Fit, Hands};
 ghost use Rattle.version_state.specs.Sound.{bad_inner};
-ghost use Rattle.vacuum.specs.LetGo.{vacuumed};
+ghost use Rattle.vacuum.specs.LetGo.{deletion_of, vacuumed};
 ghost use Rattle.vacuum.specs.Says.{VacuumIs};
 ghost use Rattle.vacuum.specs.Laws.{VacuumLaws};
 
+use arrayvec::ArrayVec;
 use ids::limits::MOST_HELD;
 use ids::refusal::Refusal;
-use ids::{RowsetNo, TableNo};
 use pins::PinBook;
-use snapshot::rowsets::{HeldRowset, Rowsets};
+use snapshot::rowsets::Rowsets;
 use version_state::VersionManagerInner;
 
 // The laws of an accepted vacuum.
@@ -34,32 +34,30 @@ pub fn counted(rowsets: &Rowsets, epoch: u32) -> usize
     rowsets.gone(epoch).count()
 }
 
-// Those that are gone by the epoch, in the order of the vacuum's list; answers how many they are.
-fn listed(rowsets: &Rowsets, epoch: u32, gone: &mut [HeldRowset; MOST_HELD]) -> usize
+// The deletions up to an epoch, each as its epoch, table and rowset, in the order of the vacuum's list. The count is within the
+// columns, as above, which the C interface cannot say.
+fn listed(rowsets: &Rowsets, epoch: u32) -> ArrayVec<(u32, u32, u32), MOST_HELD>
     requires { rowsets.now.count ≤ most_held }
-    ensures inside { result ≤ most_held }
-    ensures told { map (λ x. by_deletion (rowset_of x)) (take result gone.new) ≡ map by_deletion (arranged by_deletion (keep (gone_by epoch) (rowsets_of rowsets.now))) }
+    ensures { result.items ≡ map deletion_of (arranged by_deletion (keep (gone_by epoch) (rowsets_of rowsets.now))) }
 {
-    // To do: an `ArrayVec`, which counts itself.
-    let mut count = 0;
+    let mut gone = ArrayVec::new();
     for rowset in rowsets.gone(epoch) {
-        gone[count] = rowset;
-        count += 1;
+        gone.push((rowset.deleted, rowset.table.0, rowset.rowset.0));
     }
-    gone[..count].sort_unstable_by_key(|r| (r.deleted, r.table.0, r.rowset.0));
-    count
+    gone.sort_unstable();
+    gone
 }
 
 // Their ids, to the front of the slices.
-fn write(gone: &[HeldRowset], tables: &mut [u32], rowsets: &mut [u32])
+fn write(gone: &[(u32, u32, u32)], tables: &mut [u32], rowsets: &mut [u32])
     requires tables { length gone.now ≤ length tables.old }
     requires rowsets { length gone.now ≤ length rowsets.old }
-    ensures tables { tables.new ≡ over (map (λ x. x.table.0) gone.now) tables.old }
-    ensures rowsets { rowsets.new ≡ over (map (λ x. x.rowset.0) gone.now) rowsets.old }
+    ensures tables { tables.new ≡ over (map (λ x. x.1) gone.now) tables.old }
+    ensures rowsets { rowsets.new ≡ over (map (λ x. x.2) gone.now) rowsets.old }
 {
-    for (i, rowset) in gone.iter().enumerate() {
-        tables[i] = rowset.table.0;
-        rowsets[i] = rowset.rowset.0;
+    for (i, deletion) in gone.iter().enumerate() {
+        tables[i] = deletion.1;
+        rowsets[i] = deletion.2;
     }
 }
 
@@ -87,18 +85,12 @@ pub fn vacuum(
         return Err(Refusal::BadPinBook);
     }
     let bound = book.bound(inner.epoch);
-    let none = HeldRowset {
-        table: TableNo(0),
-        rowset: RowsetNo(0),
-        added: 0,
-        deleted: 0,
-    };
-    let mut gone = [none; MOST_HELD];
-    let count = listed(&inner.rowsets, bound, &mut gone);
+    let gone = listed(&inner.rowsets, bound);
+    let count = gone.len();
     if tables.len() < count || rowsets.len() < count {
         return Err(Refusal::OutputTooShort);
     }
-    write(&gone[..count], tables, rowsets);
+    write(gone.as_slice(), tables, rowsets);
     let_go(inner, bound);
     Ok(count)
 }

@@ -1,5 +1,5 @@
 -- `compactor::select` meets its contract.
-use Rattle.std.proofs.Common.{◌≡◌, List, ◌++◌, ℕ, map, length, take, drop, sym, ap, ap₂, ◌∙◌, arith}
+use Rattle.std.proofs.Common.{◌≡◌, List, [], ◌++◌, ℕ, map, length, drop, cond, leb, sym, ap, ap₂, ◌∙◌, arith}
 use mathlib.Core.Logic.{inl}
 use lib.ListN.{length-map}
 use Rattle.std.proofs.lemmas.Iterator.Consumers.{YieldsList-from_first, count_from_yields_List}
@@ -8,11 +8,11 @@ use Rattle.snapshot.specs.Views.{rowset_of}
 use Rattle.snapshot.specs.Shown.{shown_rowsets}
 use Rattle.version_state.specs.State.{state_of}
 use Rattle.version_state.proofs.Facts.{sound-of}
-use Rattle.compactor.specs.Selection.{taken, sized, rowsets_now}
+use Rattle.compactor.specs.Selection.{taken, sized, rowsets_now, selected}
 use Rattle.compactor.proofs.Taking.{rowset_in, rowset_at}
-use Rattle.compactor.proofs.Selecting.{shown-few, rowsets-shown, rowsets-few, selected-are, selected-count, wrong-count, not_live, no_room, chooses}
+use Rattle.compactor.proofs.Selecting.{shown-few, rowsets-shown, rowsets-few, selected-are, wrong-count, not_live, no_room, chooses}
 use Rattle.compactor.proofs.select.Goals as goal
-use Rattle.compactor.proofs.select.Goals.{After-count, After-take}
+use Rattle.compactor.proofs.select.Goals.{After-count, After-compacted-chosen}
 
 -- how many are shown
 shown-count : (c : After-count) → c.count.result ≡ length (rowsets_now c.args.table.0 (state_of c.args.state.inner.now))
@@ -21,12 +21,14 @@ shown-count c =
     ∙ sym (length-map _ rowset_at)
     ∙ ap length (rowsets-shown c.args.table.0 (state_of c.args.state.inner.now))
 
--- what was taken
-told : (c : After-take) → take c.take.result c.take.new.chosen ≡ map rowset_in (taken c.args.target (sized (rowsets_now c.args.table.0 (state_of c.args.state.inner.now)) c.args.sizes.now))
-told c =
-    c.take.ensures.told
+-- what is selected
+chosen : (c : After-compacted-chosen) → c.compacted-chosen.result.now ≡ selected c.args.table.0 c.args.target c.args.sizes.now (state_of c.args.state.inner.now)
+chosen c =
+    selected-are c.args.state.inner.now c.args.table.0 c.args.target c.args.sizes.now c.take-taken.result.items c.compacted-chosen.result.now
+    (c.take-taken.ensures
     ∙ ap (λ (es : List Entry). map rowset_in (taken c.args.target (sized (map rowset_at es) c.args.sizes.now))) c.shown_of-shown.ensures
-    ∙ ap (λ (rs : List ℕ). map rowset_in (taken c.args.target (sized rs c.args.sizes.now))) (rowsets-shown c.args.table.0 (state_of c.args.state.inner.now))
+    ∙ ap (λ (rs : List ℕ). map rowset_in (taken c.args.target (sized rs c.args.sizes.now))) (rowsets-shown c.args.table.0 (state_of c.args.state.inner.now)))
+    (c.compacted-chosen.ensures ∙ ap (λ (d : List ℕ). cond (leb (length d) 1) [] d) c.as_slice.ensures.value)
 
 pub count-requires-clause-fits : goal.count-requires-clause-fits
 count-requires-clause-fits c =
@@ -43,22 +45,22 @@ returns-then-not-holds c =
     let k = shown-count (goal.at.returns-then-not-holds c).After-count in
     not_live c.args.state.inner.now c.args.table.0 c.args.target c.args.sizes.now c.args.out.now (sym c.is_id.ensures ∙ c.if-not-is_id.false) (c.if-sizes-count.false ∙ k) (sym c.holds.ensures ∙ c.if-not-holds.true)
 
-pub take-requires : goal.take-requires
-take-requires c =
+pub take-taken-requires : goal.take-taken-requires
+take-taken-requires c =
     let f = (sound-of c.args.state.inner.now c.args.state.sound).fits.rowsets in
-    let k = shown-count (goal.at.take-requires c).After-count in
+    let k = shown-count (goal.at.take-taken-requires c).After-count in
     omega (arith, c.if-sizes-count.false, k, rowsets-few c.args.table.0 c.args.state.inner.now, f)
 
 pub returns-then-out-count : goal.returns-then-out-count
 returns-then-out-count c =
     let k = shown-count (goal.at.returns-then-out-count c).After-count in
-    let n = selected-count c.args.state.inner.now c.args.table.0 c.args.target c.args.sizes.now c.take.new.chosen c.take.result _ (omega (arith, c.take.ensures.inside)) (told (goal.at.returns-then-out-count c).After-take) c.compacted-count.ensures in
+    let n = ap length (chosen (goal.at.returns-then-out-count c).After-compacted-chosen) in
     no_room c.args.state.inner.now c.args.table.0 c.args.target c.args.sizes.now c.args.out.now (sym c.is_id.ensures ∙ c.if-not-is_id.false) (c.if-sizes-count.false ∙ k) (sym c.holds.ensures ∙ c.if-not-holds.false) (omega (arith, n, c.if-out-count.true))
 
 pub returns : goal.returns
 returns c =
     let k = shown-count (goal.at.returns c).After-count in
-    let n = selected-count c.args.state.inner.now c.args.table.0 c.args.target c.args.sizes.now c.take.new.chosen c.take.result _ (omega (arith, c.take.ensures.inside)) (told (goal.at.returns c).After-take) c.compacted-count.ensures in
-    let l = selected-are c.args.state.inner.now c.args.table.0 c.args.target c.args.sizes.now c.take.new.chosen c.take.result _ (omega (arith, c.take.ensures.inside)) (told (goal.at.returns c).After-take) c.compacted-count.ensures in
+    let l = chosen (goal.at.returns c).After-compacted-chosen in
+    let n = ap length l in
     chooses c.args.state.inner.now c.args.table.0 c.args.target c.args.sizes.now c.args.out.now (sym c.is_id.ensures ∙ c.if-not-is_id.false) (c.if-sizes-count.false ∙ k) (sym c.holds.ensures ∙ c.if-not-holds.false) (omega (arith, n, c.if-out-count.false)) _ _ n
     (ap₂ (λ (run : List ℕ) (i : ℕ). run ++ drop i c.args.out.now) (c.copy_from_slice.ensures.after ∙ l) n)

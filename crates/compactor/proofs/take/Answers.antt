@@ -1,9 +1,8 @@
 -- `compactor::take` meets its contract.
-use Rattle.std.proofs.Common.{◌≡◌, ◌<◌, ℕ, List, [], ◌∷◌, map, sym, ap, ◌∙◌, arith, Bor}
+use Rattle.std.proofs.Common.{◌≡◌, ℕ, List, [], ◌∷◌, map, sym, ap, ◌∙◌, arith, Bor}
 use mathlib.Core.List.{map-map}
 use lib.ListN.{length-map}
 use Rattle.std.proofs.lemmas.Slice.Zip.{length-zip}
-use Rattle.ids.specs.Limits.{most_held}
 use Rattle.std.proofs.lemmas.Iterator.{YieldsList-from_slice, YieldsList-from_zip}
 use Rattle.std.proofs.lemmas.Iterator.Consumers.{YieldsList-from_first, YieldsList-turn, YieldsList-end}
 use Rattle.lists.proofs.Views.{map-append}
@@ -14,11 +13,10 @@ use Rattle.snapshot.specs.declared.rowsets.HeldRowset.{HeldRowset}
 use Rattle.compactor.specs.Selection.{Sized, sized_as, taken, sized}
 use Rattle.compactor.proofs.Taking.{rowset_in, rowset_at, seen, take-one, take_none, zipped}
 use Rattle.compactor.proofs.take.Goals as goal
-use Rattle.compactor.proofs.take.Goals.{In-Some}
 
 -- there is room for one more
-room : (c : In-Some) → c.loop-rowset.count < most_held
-room c =
+pub push-requires : goal.push-requires
+push-requires c =
     let es = shown_rowsets c.args.shown in
     let road = YieldsList-from_zip {s = c.into_iter-rowset-iterator.result} (YieldsList-from_first rowset_of shown_rowsets es (cc)) (YieldsList-from_slice c.args.sizes.now (cc)) in
     let t = YieldsList-turn road c.loop-rowset.yielded c.loop-rowset.rowset-iterator c.loop-rowset.yielded_by _ c.next.new.self (c.in-Some.rowset, c.in-Some.size) c.in-Some.is c.next.ensures.steps in
@@ -26,16 +24,16 @@ room c =
 
 pub loop-rowset-preserved-then-size-left : goal.loop-rowset-preserved-then-size-left
 loop-rowset-preserved-then-size-left c =
-    rw (map-append seen c.loop-rowset.yielded ((c.in-Some.rowset, c.in-Some.size) ∷ []))
-    (take-one c.args.target c.loop-rowset.left c.loop-rowset.count (map seen c.loop-rowset.yielded) c.loop-rowset.chosen (seen (c.in-Some.rowset, c.in-Some.size)) c.loop-rowset.invariant c.if-size-left.true (room (goal.at.loop-rowset-preserved-then-size-left c).In-Some))
+    rw (map-append seen c.loop-rowset.yielded ((c.in-Some.rowset, c.in-Some.size) ∷ []), c.push.ensures.items)
+    (take-one c.args.target c.loop-rowset.left (map seen c.loop-rowset.yielded) c.loop-rowset.chosen.items (seen (c.in-Some.rowset, c.in-Some.size)) c.loop-rowset.invariant c.if-size-left.true)
 
 pub loop-rowset-preserved : goal.loop-rowset-preserved
 loop-rowset-preserved c =
     rw (map-append seen c.loop-rowset.yielded ((c.in-Some.rowset, c.in-Some.size) ∷ []))
-    (take_none c.args.target c.loop-rowset.left c.loop-rowset.count (map seen c.loop-rowset.yielded) c.loop-rowset.chosen (seen (c.in-Some.rowset, c.in-Some.size)) c.loop-rowset.invariant c.if-size-left.false)
+    (take_none c.args.target c.loop-rowset.left (map seen c.loop-rowset.yielded) c.loop-rowset.chosen.items (seen (c.in-Some.rowset, c.in-Some.size)) c.loop-rowset.invariant c.if-size-left.false)
 
-pub returns-clause-told : goal.returns-clause-told
-returns-clause-told c =
+pub returns : goal.returns
+returns c =
     let es = shown_rowsets c.args.shown in
     let road = YieldsList-from_zip {s = c.into_iter-rowset-iterator.result} (YieldsList-from_first rowset_of shown_rowsets es (cc)) (YieldsList-from_slice c.args.sizes.now (cc)) in
     let e = YieldsList-end road c.loop-rowset.yielded c.loop-rowset.rowset-iterator c.loop-rowset.yielded_by _ c.next.new.self c.in-None.is c.next.ensures.steps in

@@ -1,8 +1,8 @@
 -- `vacuum::listed` meets its contract.
 use mathlib.Core.Path.{◌≡◌}
-use lib.ListN.{length, take}
-use Rattle.ids.specs.Limits.{most_held}
+use mathlib.Core.List.{map}
+use Rattle.vacuum.proofs.Arranged.{listed_as}
 use Rattle.vacuum.proofs.listed.Given as goal
 
 abbrev pub invariant-loop-rowset : goal.invariant-loop-rowset
-invariant-loop-rowset l = (l.count ≡ length l.yielded) × (length l.gone ≡ most_held) × (take l.count l.gone ≡ l.yielded)
+invariant-loop-rowset l = l.gone.items ≡ map listed_as l.yielded
