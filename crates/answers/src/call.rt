@@ -2,7 +2,9 @@
 ghost use Rattle.std.specs.Prelude.{◌≡◌, ◌≤◌, IfOk, eqb, is_ok, length};
 
 use crate::output::Output;
+use crate::say;
 use crate::say::NO_CALL;
+use ids::limits::MOST_HELD;
 use ids::refusal::Refusal;
 use script::words::Words;
 
@@ -47,6 +49,23 @@ impl<'a> Call<'a> {
     {
         let n = script::numbers(self.rest, out).ok_or(NO_CALL)?;
         Ok(n.min(out.len()))
+    }
+
+    // A word and a list of pairs, which `fill` writes to columns of the call's room.
+    // Rattle asks for this clause of each function that calls a closure, so that no other form is plainer.
+    pub fn pairs<F: FnOnce(&mut [u32], &mut [u32]) -> Result<usize, Refusal> + Drop>(
+        self,
+        word: &str,
+        fill: F,
+    ) -> Result<(), Refusal>
+        requires { F.IsAlwaysCallable fill }
+    {
+        let mut tables = [0u32; MOST_HELD];
+        let mut rowsets = [0u32; MOST_HELD];
+        let n = self.room.min(MOST_HELD);
+        let n = fill(&mut tables[..n], &mut rowsets[..n])?;
+        say::list(word, n, tables.iter().zip(&rowsets), self.output);
+        Ok(())
     }
 
     // No more words.

@@ -10,12 +10,6 @@ use std::io::Write;
 // Of a line that is no call.
 pub const NO_CALL: Refusal = Refusal::Malformed(0);
 
-pub fn refusal(why: Refusal, output: &mut Output) {
-    let number = why.number();
-    let place = why.place();
-    let _ = writeln!(output, "refused,{number},{place}");
-}
-
 // One of a list, as it is printed behind a comma.
 pub trait Entry {
     fn say(self, output: &mut Output);

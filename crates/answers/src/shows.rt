@@ -40,14 +40,10 @@ impl Shown {
     }
 
     fn pairs(self, call: Call) -> Result<(), Refusal> {
-        let mut tables = [0u32; MOST_HELD];
-        let mut rowsets = [0u32; MOST_HELD];
-        let n = call.room.min(MOST_HELD);
-        let n = self
-            .manager
-            .show_pairs(self.book, self.epoch, &mut tables[..n], &mut rowsets[..n])?;
-        say::list("pairs", n, tables.iter().zip(&rowsets), call.output);
-        Ok(())
+        call.pairs("pairs", |tables, rowsets| {
+            self.manager
+                .show_pairs(self.book, self.epoch, tables, rowsets)
+        })
     }
 
     fn vectors(self, call: Call) -> Result<(), Refusal> {

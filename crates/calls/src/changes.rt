@@ -2,10 +2,8 @@
 use crate::world::World;
 use answers::call::Call;
 use answers::groups::Grouping;
-use answers::say;
 use answers::say::NO_CALL;
 use ids::TableNo;
-use ids::limits::MOST_HELD;
 use ids::refusal::Refusal;
 use pinning::Readiness;
 use script::handles;
@@ -35,18 +33,13 @@ impl World<'_> {
 
     pub fn vacuum(&mut self, call: Call) -> Result<(), Refusal> {
         call.alone()?;
-        let mut tables = [0u32; MOST_HELD];
-        let mut rowsets = [0u32; MOST_HELD];
-        let n = call.room.min(MOST_HELD);
-        let done = self
-            .manager
-            .vacuum(self.book, &mut tables[..n], &mut rowsets[..n]);
-        let n = self.taken(done)?;
-        say::list("vacuumed", n, tables.iter().zip(&rowsets), call.output);
-        Ok(())
+        call.pairs("vacuumed", |tables, rowsets| {
+            let done = self.manager.vacuum(self.book, tables, rowsets);
+            self.taken(done)
+        })
     }
 
-    // No type says that a closure can be called, so each function that takes one asks for it; a type for that would be no plainer.
+    // Rattle asks for this clause of each function that calls a closure, so that no other form is plainer.
     pub fn with_lock<F: FnOnce(VersionManager, TableNo) -> Locked + Drop>(
         &mut self,
         call: Call,

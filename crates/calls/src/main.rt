@@ -4,11 +4,8 @@
 
 use answers::call::Call;
 use answers::output::Output;
-use answers::say;
 use answers::say::NO_CALL;
 use ids::refusal::Refusal;
-use script::words;
-use script::words::Word;
 use status::Status;
 use std::io;
 use std::io::{ErrorKind, Read, Write};
@@ -23,34 +20,35 @@ mod world;
 
 impl World<'_> {
     // A match: the calls differ in their arguments, so a table of functions would be no plainer.
-    fn call(&mut self, word: Word, call: Call) -> Result<(), Refusal> {
+    fn call(&mut self, word: &[u8], call: Call) -> Result<(), Refusal> {
         match word {
-            Word::Fresh => self.fresh(call),
-            Word::Checkpoint => self.checkpoint(call),
-            Word::Reopen => self.reopen(call),
-            Word::Report => self.report(call),
-            Word::Commit => self.commit(call),
-            Word::Create => self.create(call),
-            Word::Drop => self.drop(call),
-            Word::Compact => self.compact(call),
-            Word::Draw => self.draw(call),
-            Word::Vacuum => self.vacuum(call),
-            Word::Lock => self.with_lock(call, |m, table| m.lock(table), "locked"),
-            Word::Unlock => self.with_lock(call, |m, table| m.unlock(table), "unlocked"),
-            Word::Group => self.group(call),
-            Word::Pin => self.pin(call),
-            Word::Unpin => self.unpin(call),
-            Word::Show => call.show(self.manager, self.book),
-            Word::Select => call.select(self.manager),
-            Word::State => call.state(self.manager),
-            Word::File => self.tell(call),
-            Word::Encode => call.encode(),
-            Word::Decode => call.decode(self.scratch),
-            Word::Mask => call.mask(self.scratch),
-            Word::Room => self.room(call),
-            Word::Cut => self.cut(call),
-            Word::Stale => self.stale(call),
-            Word::Write => self.write(call),
+            b"fresh" => self.fresh(call),
+            b"checkpoint" => self.checkpoint(call),
+            b"reopen" => self.reopen(call),
+            b"report" => self.report(call),
+            b"commit" => self.commit(call),
+            b"create" => self.create(call),
+            b"drop" => self.drop(call),
+            b"compact" => self.compact(call),
+            b"draw" => self.draw(call),
+            b"vacuum" => self.vacuum(call),
+            b"lock" => self.with_lock(call, |m, table| m.lock(table), "locked"),
+            b"unlock" => self.with_lock(call, |m, table| m.unlock(table), "unlocked"),
+            b"group" => self.group(call),
+            b"pin" => self.pin(call),
+            b"unpin" => self.unpin(call),
+            b"show" => call.show(self.manager, self.book),
+            b"select" => call.select(self.manager),
+            b"state" => call.state(self.manager),
+            b"file" => self.tell(call),
+            b"encode" => call.encode(),
+            b"decode" => call.decode(self.scratch),
+            b"mask" => call.mask(self.scratch),
+            b"room" => self.room(call),
+            b"cut" => self.cut(call),
+            b"stale" => self.stale(call),
+            b"write" => self.write(call),
+            _ => Err(NO_CALL),
         }
     }
 
@@ -59,7 +57,6 @@ impl World<'_> {
         let room = self.host.room;
         self.host.room = ENOUGH;
         let (word, rest) = script::cut_word(s);
-        let word = words::first_word(word).ok_or(NO_CALL)?;
         self.call(word, Call { rest, room, output })
     }
 
@@ -68,7 +65,7 @@ impl World<'_> {
             return;
         }
         if let Err(why) = self.answered(s, output) {
-            say::refusal(why, output);
+            let _ = writeln!(output, "{why}");
         }
     }
 
@@ -83,7 +80,7 @@ impl World<'_> {
     // Answers how many bytes stay.
     fn too_long(&mut self, input: &mut Line, output: &mut Output) -> usize {
         if !input.starts_with(b"#") {
-            say::refusal(NO_CALL, output);
+            let _ = writeln!(output, "{NO_CALL}");
             self.host.room = ENOUGH;
         }
         input[0] = b'#';

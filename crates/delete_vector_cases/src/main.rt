@@ -7,7 +7,8 @@ use ids::refusal::Refusal;
 use status::Status;
 use std::io;
 
-// What is lent: bytes, printed in hexadecimal, or rows. The two lines differ in the format, which cannot be a parameter.
+// What is lent: bytes, printed in hexadecimal, or rows. The two lines differ in the format, which cannot be a parameter. `transaction_cases` has these
+// lines too, with a sum: a crate for both would be no plainer.
 trait Item: Copy {
     fn show(self, rt: &impl Print) -> io::Result<()>;
 }
@@ -37,12 +38,12 @@ fn line<T: Item>(rt: &impl Print, items: &[T]) -> io::Result<()> {
 fn answer(rt: &impl Print, word: &str, answer: Result<usize, Refusal>) -> io::Result<()> {
     match answer {
         Ok(n) => println!(rt; "{word},{n}"),
-        Err(r) => println!(rt; "refused,{},{}", r.number(), r.place()),
+        Err(why) => println!(rt; "{why}"),
     }
 }
 
-// A call that is lent a buffer of its own. No type says that a closure can be called, so each function that takes one asks for it; a type for that
-// would be no plainer.
+// A call that is lent a buffer of its own.
+// Rattle asks for this clause of each function that calls a closure, so that no other form is plainer.
 fn case<T: Item, const N: usize, F: FnOnce(&mut [T]) -> Result<usize, Refusal>>(
     rt: &impl Print,
     word: &str,

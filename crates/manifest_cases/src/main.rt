@@ -35,16 +35,6 @@ fn show(rt: &impl Print, classes: &ByteClasses, s: &[u8]) -> io::Result<()> {
     }
 }
 
-// A function over lines for both programs would take the table and what is shown, and be no plainer.
-fn show_all(rt: &impl Print, s: &[u8]) -> io::Result<()> {
-    let classes = ByteClasses::new();
-    let lines = s.split_inclusive(|b| *b == b'\n');
-    for line in lines.filter_map(|line| line.strip_suffix(b"\n")) {
-        show(rt, &classes, line)?;
-    }
-    Ok(())
-}
-
 // A create with the first `len` of as many bytes `a` as a name may have.
 fn create(table: u32, len: usize) -> EpochOp {
     let name = Name {
@@ -77,10 +67,13 @@ fn show_changes(rt: &impl Print) -> io::Result<()> {
 }
 
 fn run(rt: &impl Print, s: &[u8]) -> io::Result<()> {
-    show_all(rt, s)?;
+    let classes = ByteClasses::new();
+    status::each_line(s, |line| show(rt, &classes, line))?;
     show_changes(rt)
 }
 
+// Each program names its own room; what the mains share is `status::answered`, and one that made the buffer too would be called by a line as long,
+// and be no plainer.
 fn main(rt: HostRuntime) -> Status {
     let mut buffer = [0u8; 4096];
     status::answered(&rt, &mut rt.stdin(), &mut buffer, |s| run(&rt, s))

@@ -2,16 +2,9 @@
 #![tactic(auto)]
 
 use ids::limits::{LONGEST_MANIFEST, LONGEST_REWRITTEN};
-use ids::refusal::Refusal;
 use status::Status;
 use std::io;
 use std::io::Input;
-
-fn say(rt: &impl Print, refusal: Refusal) -> io::Result<()> {
-    let number = refusal.number();
-    let place = refusal.place();
-    println!(rt; "refused,{number},{place}")
-}
 
 // What was written decides: all of it, or not.
 fn written(rt: &impl Eprint, all: io::Result<()>, status: Status) -> Status {
@@ -25,7 +18,7 @@ fn reopen(rt: &(impl Print + Eprint), src: &[u8], out: &mut [u8]) -> Status {
     let opened = storage::bootstrap(src, out);
     match opened.answer {
         Ok(n) => written(rt, rt.write_all(&out[..n]), Status::Done),
-        Err(refusal) => written(rt, say(rt, refusal), Status::Refused),
+        Err(refusal) => written(rt, println!(rt; "{refusal}"), Status::Refused),
     }
 }
 

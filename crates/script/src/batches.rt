@@ -5,9 +5,11 @@ use ids::{RowsetNo, TableNo, VectorNo};
 use manifest::operation::{Batch, EpochOp, ManifestOperation};
 use text::ByteClasses;
 
-// What stands for a word that is no operation: commit refuses it by 2 at its place.
+// What stands for a word that is no operation: commit refuses it by 2 at its place. `commit` has such a one too, private to it: made
+// public for this alone it would be no plainer.
 const NO_CHANGE: EpochOp = EpochOp::NextIds(TableNo(0), RowsetNo(0), VectorNo(0));
 
+// `commit` has such a function too, private to it, for a line that still ends in a newline: one for both would be told which, and be no plainer.
 fn change(classes: &ByteClasses, s: &[u8]) -> EpochOp {
     match manifest::parser::parse(classes, s) {
         Some(ManifestOperation::Epoch(op)) => op,

@@ -72,8 +72,8 @@ fn put(out: &mut [u32], k: usize, n: u32) {
     }
 }
 
-// A blank before each word, and every word a number, which is put where it belongs: how many there are. No type says that a closure can be called, so
-// each function that takes one asks for it; a type for that would be no plainer.
+// A blank before each word, and every word a number, which is put where it belongs: how many there are.
+// Rattle asks for this clause of each function that calls a closure, so that no other form is plainer.
 fn each<T: TryFrom<u64>, F: FnMut(usize, T)>(s: &[u8], mut put: F) -> Option<usize>
 where
     T::Error: Drop,

@@ -82,8 +82,20 @@ pub fn read_all(from: &mut impl Read, buf: &mut [u8]) -> io::Result<usize>
     Ok(filled)
 }
 
+// Shows each complete line, without its newline; what comes after the last newline is none.
+// Rattle asks for this clause of each function that calls a closure, so that no other form is plainer.
+pub fn each_line<F: FnMut(&[u8]) -> io::Result<()> + Drop>(s: &[u8], mut show: F) -> io::Result<()>
+    requires { F.IsAlwaysCallable show }
+{
+    let lines = s.split_inclusive(|b| *b == b'\n');
+    for line in lines.filter_map(|line| line.strip_suffix(b"\n")) {
+        show(line)?;
+    }
+    Ok(())
+}
+
 // What a program that refuses nothing answers to its input, as much of it as the buffer holds.
-// That a closure can be called is asked for, as no type says so, and one of its own would be no plainer.
+// Rattle asks for this clause of each function that calls a closure, so that no other form is plainer.
 pub fn answered<F: FnOnce(&[u8]) -> io::Result<()> + Drop>(
     rt: &impl Eprint,
     from: &mut impl Read,

@@ -8,7 +8,7 @@ fn answer(rt: &impl Print, answer: Result<usize, Refusal>, out: &[u8]) -> io::Re
     let n = match answer {
         Ok(n) => n.min(out.len()),
         Err(refusal) => {
-            print!(rt; "refused,{},{}", refusal.number(), refusal.place())?;
+            print!(rt; "{refusal}")?;
             0
         }
     };

@@ -114,10 +114,7 @@ fn run(rt: &impl Print, s: &[u8], src: &mut [u8]) -> io::Result<()> {
         src,
         read: 0,
     };
-    let lines = s.split_inclusive(|b| *b == b'\n');
-    for line in lines.filter_map(|line| line.strip_suffix(b"\n")) {
-        reading.line(rt, line)?;
-    }
+    status::each_line(s, |line| reading.line(rt, line))?;
     reading.finish(rt)
 }
 

@@ -66,7 +66,8 @@ fn items<T: Item>(rt: &impl Print, word: &str, s: &[T]) -> io::Result<()> {
     print!(rt; " ={sum}")
 }
 
-// Each program prints its own words; a shared function would take all of them, and be no plainer.
+// Each program prints its own words; a shared function would take all of them, and be no plainer. A refusal is told in words here, and not as its
+// Display has it, which would change what the program prints: a second Display would be no plainer.
 fn answer(rt: &impl Print, answer: Result<NewVectors, Refusal>) -> io::Result<()> {
     match answer {
         Ok(NewVectors { count, first }) => print!(rt; " vectors {count} first {}", first.0),
@@ -84,8 +85,7 @@ struct Room {
     rows: usize,
 }
 
-// Word by word, since the slices are of two types: one format of them all would need a type for each, and be
-// no plainer.
+// Word by word: a Display would hold the word, the items and the way of each in one type, and be no plainer.
 fn group(
     rt: &impl Print,
     word: &str,

@@ -14,7 +14,7 @@ fn printed(rt: &impl Print, book: PinBook) -> io::Result<()> {
     Ok(())
 }
 
-// No type says that a closure can be called, so each function that takes one asks for it; a type for that would be no plainer.
+// Rattle asks for this clause of each function that calls a closure, so that no other form is plainer.
 fn stepped<T, F: FnOnce(T) -> io::Result<()> + Drop>(
     rt: &impl Print,
     step: Stepped<T>,

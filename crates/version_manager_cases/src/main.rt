@@ -77,6 +77,8 @@ fn run(rt: &impl Print, s: &[u8]) -> io::Result<()> {
     Ok(())
 }
 
+// Each program names its own room; what the mains share is `status::answered`, and one that made the buffer too would be called by a line as long,
+// and be no plainer.
 fn main(rt: HostRuntime) -> Status {
     let mut buffer = [0u8; 65536];
     status::answered(&rt, &mut rt.stdin(), &mut buffer, |s| run(&rt, s))

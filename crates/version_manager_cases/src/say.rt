@@ -5,8 +5,9 @@ use std::fmt::Display;
 use std::io;
 use version_manager::{Answered, VersionManager};
 
-// What an accepted call gives, or the refusal. Each program prints its own words; a shared function would take all of them, and be no plainer. No
-// type says that a closure can be called, so each function that takes one asks for it.
+// What an accepted call gives, or the refusal, in words and not as its Display has it, which would change what the program prints. Each program
+// prints its own words; a shared function would take all of them, and be no plainer.
+// Rattle asks for this clause of each function that calls a closure, so that no other form is plainer.
 pub fn answer<T, F: FnOnce(T) -> io::Result<()> + Drop>(
     rt: &impl Print,
     answer: Result<T, Refusal>,
@@ -24,7 +25,8 @@ pub fn count(rt: &impl Print, word: &str, counted: Result<usize, Refusal>) -> io
     answer(rt, counted, |n| print!(rt; " {word} {n}"))
 }
 
-// The same, and the manager that is handed back. What is asked of the closure is as above: a type for that would be no plainer.
+// The same, and the manager that is handed back.
+// Rattle asks for this clause of each function that calls a closure, so that no other form is plainer.
 pub fn handed<T, F: FnOnce(T) -> io::Result<()> + Drop>(
     rt: &impl Print,
     done: Answered<T>,
