@@ -62,9 +62,6 @@ module _ (s : List ℕ) (room : ℕ) (m : VersionManagerInner) where
   too_many h = rw (lt-ltb most_operations (length os) h)
 
   module _ (few : length os ≤ most_operations) where
-    pub too-late : last_epoch ≤ m.epoch → outcome ≡ Err EpochsFull
-    too-late h = rw (le-ltb most_operations (length os) few, le-leb last_epoch m.epoch h)
-
     -- its steps, which left n
     module _ (early : m.epoch < last_epoch) (n : VersionManagerInner) where
       abbrev e : ℕ

@@ -1,13 +1,12 @@
 -- What the loops over bytes need: a record written, compared and read byte by byte. Assumes nothing.
 use mathlib.Core.Bool.{and-true}
-use Rattle.std.proofs.Common.{◌≡◌, ℕ, ◌+◌, ◌-◌, ◌*◌, ◌/◌, ◌%◌, ◌<◌, ◌≤◌, min, Bool, true, false, ◌&&◌, eqb, ltb, List, [], ◌∷◌, length, get_or, take, drop, set, sym, refl, ap, ◌++◌, reverse, ◌∙◌, add-one, arith, length-set, drop_of_length-le, drop-cons, ltb-false, ltb-true, eq-eqb, ne_eqb, eqb-true}
-use Rattle.std.proofs.lemmas.List.{reverse-append}
+use Rattle.std.proofs.Common.{◌≡◌, ℕ, ◌+◌, ◌-◌, ◌/◌, ◌%◌, ◌<◌, ◌≤◌, true, false, ◌&&◌, eqb, ltb, List, [], ◌∷◌, length, get_or, take, drop, set, sym, refl, ap, ◌∙◌, add-one, arith, length-set, drop_of_length-le, drop-cons, ltb-false, ltb-true, eq-eqb, ne_eqb, eqb-true}
 use Rattle.std.proofs.lemmas.Slice.{between_to_end}
 use borrow.Author.Tests.{eqb-false}
 use Rattle.lists.specs.Written.{written, Wrote}
 use Rattle.lists.proofs.Tests.{by_cases}
 use Rattle.lists.proofs.Written.{written_one, written_on}
-use Rattle.delete_vector.specs.Encoding.{varint, value_of}
+use Rattle.delete_vector.specs.Encoding.{varint}
 use Rattle.delete_vector.specs.Records.{row_limit, record_of, starts_with}
 use Rattle.delete_vector.proofs.Encoding.{varint-small, varint-big}
 use Rattle.delete_vector.proofs.Sizes.{record-zero, record-more, record-short}
@@ -44,10 +43,6 @@ starts-big s i n h l = rw (varint-big n h, drop-cons s i 0 l, add-one)
 
 pub starts-small : (s : List ℕ) (i n : ℕ) → n < 128 → i < length s → starts_with (varint n) (drop i s) ≡ eqb (get_or s i 0) n
 starts-small s i n h l = rw (varint-small n h, drop-cons s i 0 l) (and-true (eqb (get_or s i 0) n))
-
--- the groups, the last one first: l is what was looked at
-pub value-more : (l : List ℕ) (x v : ℕ) → v ≡ min (value_of (reverse l)) row_limit → min (v * 128 + x % 128) row_limit ≡ min (value_of (reverse (l ++ (x ∷ [])))) row_limit
-value-more l x v e = rw (reverse-append l (x ∷ [])) (omega arith)
 
 -- a record's first byte, and what follows it
 pub record-head : (row : ℕ) → row < row_limit → record_of row ≡ (length (record_of row) - 1) ∷ drop 1 (record_of row)

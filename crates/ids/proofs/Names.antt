@@ -1,12 +1,11 @@
 -- Laws of names. Assumes nothing.
 use mathlib.Core.Path.{◌≡◌, refl}
 use mathlib.Core.List.{List, [], ◌∷◌}
-use Prim.Native.Nat.{ℕ, ◌≤◌, ◌<◌}
+use Prim.Native.Nat.{ℕ, ◌≤◌}
 use native.Mathlib.Omega.{arith}
 use lib.Dec.{leb, eqb}
-use lib.ListN.{length, get_or, take, length-take}
+use lib.ListN.{length, length-take}
 use borrow.Author.Tests.{leb-true}
-use lib.Seq.{get_or-take}
 use Rattle.std.specs.Cmp.Lexicographic.{pointwise}
 use Rattle.std.proofs.Common.{nat_eq}
 use Rattle.lists.specs.Order.{same}
@@ -20,14 +19,6 @@ name-room n =
     by_cases (leb n.len longest_name)
     (λ e. rw (e, length-take) (omega (arith, leb-true n.len longest_name e)))
     (λ e. rw e (omega arith))
-
-pub name-at : (n : Name) (i d : ℕ) → i < length (name_of n) → get_or (name_of n) i d ≡ get_or n.bytes i d
-unfolding name_of
-name-at n i d h =
-    by_cases (leb n.len longest_name)
-    (λ e. let l : i < length (take n.len n.bytes) = rw e at h in
-    rw e (get_or-take n.len n.bytes i d (omega (arith, length-take n.len n.bytes))))
-    (λ e. let l : i < 0 = rw e at h in absurd (omega arith))
 
 -- what `==` says of two slices of numbers
 pub bytes-same : (a b : List ℕ) → pointwise nat_eq a b ≡ same a b

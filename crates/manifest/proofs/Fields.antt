@@ -42,14 +42,6 @@ drop_head (x ∷ s) (suc i) b t e = drop_head s i b t e
 pub drop_past : (s : List ℕ) (i : ℕ) (x t : List ℕ) → drop i s ≡ x ++ t → drop (i + length x) s ≡ t
 drop_past s i x t e = rw (← drop-drop (length x) i s, e) (drop-append_seam x t)
 
-pub empty-first : (s : List ℕ) → length s ≡ 0 → get_or s 0 0 ≡ 0
-empty-first [] e = refl
-empty-first (x ∷ s) e = absurd (omega arith)
-
-pub empty-torn : (s : List ℕ) → length s ≡ 0 → get_or s (length s - 1) 0 ≡ 0
-empty-torn [] e = refl
-empty-torn (x ∷ s) e = absurd (omega arith)
-
 pub rest_all : (s : List ℕ) (i : ℕ) → take (length s - i) (drop i s) ≡ drop i s
 rest_all s i = rw (← length-drop i s) (take-length (drop i s))
 

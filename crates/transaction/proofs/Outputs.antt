@@ -44,9 +44,6 @@ module _ (vs : List Vector) (v : Vectors) (s : Holds vs v) (os : List ℕ) (q : 
   judged-short : ltb (length r) v.count || (ltb (length l) v.count || (ltb (length c) v.count || (ltb (length f) b || ltb (length m) v.kept))) ≡ too_short vs (length r) (length l) (length c) (length f) (length m)
   judged-short = rw (← s.count, ← kept-told, ← (eb ∙ ap length q)) refl
 
-  pub out-short : ltb (length r) v.count || (ltb (length l) v.count || (ltb (length c) v.count || (ltb (length f) b || ltb (length m) v.kept))) ≡ true → HandedOut vs true r l c f m r l c f m
-  out-short e = record { told = sym e ∙ judged-short; rowsets = refl; lengths = refl; counts = refl; files = refl; memories = refl }
-
   pub out-done : (r' l' c' f' m' : List ℕ) → v.count ≤ length r → v.count ≤ length l → v.count ≤ length c → b ≤ length f → v.kept ≤ length m
       → r' ≡ over (take v.count v.rowsets) r → l' ≡ over (take v.count v.lengths) l → c' ≡ over (take v.count v.counts) c → f' ≡ over (records_of os) f → m' ≡ over (take v.kept v.held) m
       → HandedOut vs false r l c f m r' l' c' f' m'
