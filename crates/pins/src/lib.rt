@@ -20,7 +20,8 @@ pub struct Pin {
     pub count: u16,
 }
 
-// The place of a book for the pins on an epoch: a type of its own, so that what tells places apart stands here alone.
+// The place of a book for the pins on an epoch: a type of its own, so that what tells places apart stands here alone; one type with the tests of
+// epochs in `snapshot` would be no plainer.
 #[derive(Clone, Copy, PartialEq, Eq, PartialOrd, Ord)]
 pub struct Place {
     pub epoch: u32,

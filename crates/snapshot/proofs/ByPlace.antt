@@ -1,27 +1,27 @@
 -- Entries by place: what is held, what an epoch shows, and the run of a table. Assumes nothing.
 use mathlib.Core.Path.{◌≡◌, refl, sym, ap, ◌∙◌}
-use mathlib.Core.Bool.{Bool, true, false, ◌&&◌, and-true}
+use mathlib.Core.Bool.{Bool, true, false, ◌&&◌}
 use mathlib.Core.List.{List, [], ◌∷◌}
 use Prim.Native.Nat.{ℕ, ◌+◌, ◌≤◌, ◌<◌}
 use native.Mathlib.Omega.{arith}
 use native.Mathlib.Numerals.{add-one}
 use lib.Dec.{ltb, eqb}
-use lib.ListN.{length, get_or, take, drop, set}
-use borrow.Author.Tests.{ltb-true, ltb-false, lt-ltb, le-ltb, eq-eqb, ne_eqb}
+use lib.ListN.{length, get_or, take, drop}
+use borrow.Author.Tests.{ltb-true, ltb-false, lt-ltb, eq-eqb, ne_eqb}
 use Rattle.std.specs.Prelude.{Ok, Err, nat_eq}
 use Rattle.std.specs.List.{list_any}
 use Rattle.lists.specs.Order.{less, same}
-use Rattle.lists.specs.Keyed.{keep, any_of, is_at, has, put, changed, ascending, rank}
-use Rattle.lists.proofs.Tests.{by_cases, clash, neither, both}
-use Rattle.lists.proofs.Order.{same_true, less-same, less-trans, lex-last}
-use Rattle.lists.proofs.Keyed.{any-same, any_of-map, All, After, Ascending, ascend-to, ascend-from, after-absent, ascending-put, ascending-changed}
+use Rattle.lists.specs.Keyed.{keep, any_of, is_at, has, put, ascending, rank}
+use Rattle.lists.proofs.Tests.{by_cases, clash, neither}
+use Rattle.lists.proofs.Order.{same_true, less-same, less-trans}
+use Rattle.lists.proofs.Keyed.{any-same, any_of-map, All, After, Ascending, ascend-to, ascend-from, after-absent, ascending-put}
 use lib.Seq.{take_all}
 use Rattle.lists.proofs.Places.{has_here, drop-view, drop-end}
 use Rattle.columns.specs.Rows.{rows, column, across, plain, PutIn}
-use Rattle.columns.proofs.Rows.{rows-length, rows_at, rows_all, rows-map, rows-column, rows_seen, rows_end}
-use Rattle.snapshot.specs.Entries.{Entry, by_ids, nothing, added_at, deleted_at, of_table, entry_at, entries}
-use Rattle.snapshot.specs.Found.{FoundAt, drop_below, leads}
-use Rattle.snapshot.proofs.Entries.{AllPutIn, rank-ids, ascending-ids, held-ids, put-entry, delete-entry, changed-ids}
+use Rattle.columns.proofs.Rows.{rows_at, rows-map, rows-column, rows_seen, rows_end}
+use Rattle.snapshot.specs.Entries.{Entry, by_ids, nothing, added_at, of_table, entry_at, entries}
+use Rattle.snapshot.specs.Found.{FoundAt, BeforeTable, drop_below, leads}
+use Rattle.snapshot.proofs.Entries.{AllPutIn, rank-ids, ascending-ids, held-ids, put-entry}
 
 module _ {A : Type 0} (key : A → List ℕ) (p : A → Bool) (k : List ℕ) where
   pub none_kept : (l : List A) → has key k l ≡ false → has key k (keep p l) ≡ false
@@ -59,16 +59,12 @@ module _ (k : List ℕ) (l : List Entry) (n at : ℕ) (up : ascending by_ids l �
 
 -- one table's entries of a list in order stand in one run
 module _ (t : ℕ) (zs : List ℕ) (p : Entry → Bool) where
-  -- a key that tells tables apart
-  abbrev pub ByTable : ℕ → Entry → Type 0
-  ByTable u x = less x.ids (u ∷ zs) ≡ ltb (get_or x.ids 0 0) u
-
   later-rank : (u : List ℕ) (x : Entry) (l : List Entry) → After by_ids x.ids l → less x.ids u ≡ false → rank by_ids u l ≡ 0
   later-rank u x [] a h = refl
   later-rank u x (y ∷ l) a h =
       by_cases (less y.ids u) (λ e. clash (less-trans x.ids y.ids u a.0 e) h) (λ e. rw e)
 
-  later-out : (x : Entry) (l : List Entry) → After by_ids x.ids l → less x.ids ((t + 1) ∷ zs) ≡ false → All (ByTable (t + 1)) l → keep (of_table t) (keep p l) ≡ []
+  later-out : (x : Entry) (l : List Entry) → After by_ids x.ids l → less x.ids ((t + 1) ∷ zs) ≡ false → All (BeforeTable (t + 1) zs) l → keep (of_table t) (keep p l) ≡ []
   later-out x [] a h g = refl
   later-out x (y ∷ l) a h g =
       let z : ltb (get_or y.ids 0 0) (t + 1) ≡ false =
@@ -79,7 +75,7 @@ module _ (t : ℕ) (zs : List ℕ) (p : Entry → Bool) where
       (λ e. rw (e, ne) (later-out x l a.1 h g.1))
       (λ e. rw e (later-out x l a.1 h g.1))
 
-  pub one-run : (l : List Entry) → Ascending by_ids l → All (ByTable t) l → All (ByTable (t + 1)) l
+  pub one-run : (l : List Entry) → Ascending by_ids l → All (BeforeTable t zs) l → All (BeforeTable (t + 1) zs) l
       → keep p (drop (rank by_ids (t ∷ zs) l) (take (rank by_ids ((t + 1) ∷ zs) l) l)) ≡ keep (of_table t) (keep p l)
   one-run [] s f g = refl
   one-run (x ∷ l) s f g =
@@ -116,9 +112,6 @@ module _ (ks : List (List ℕ)) (a d : List ℕ) (n : ℕ) where
   pub rises-plain : ascending by_ids (entries ks a d n) ≡ true → ascending plain (rows (across ks) n) ≡ true
   rises-plain up = sym (ascending-ids ks a d n) ∙ up
 
-  pub entries-room : (end : ℕ) → end ≤ n → end ≤ length (entries ks a d n)
-  entries-room end h = let z = rows-length (entry_at ks a d) n in omega arith
-
   pub entry_there : (i : ℕ) → i < n → get_or (entries ks a d n) i nothing ≡ entry_at ks a d i
   entry_there i h = rows_at (entry_at ks a d) n i nothing h
 
@@ -138,41 +131,6 @@ module _ {A : Type 0} (key : A → List ℕ) (f : ℕ → A) (n i : ℕ) where
 
   pub leads_none : (p : A → Bool) (k : List ℕ) → n ≤ i → leads key p k (drop i (rows f n)) ≡ false
   leads_none p k h = rw (rows_end f n i h)
-
--- what comes first from a place on, in columns
-pub leads-columns : (ks : List (List ℕ)) (a d : List ℕ) (n at : ℕ) (p : Entry → Bool) (k : List ℕ)
-    → leads by_ids p k (drop at (entries ks a d n)) ≡ (ltb at n && same (across ks at) k) && p (get_or (entries ks a d n) at nothing)
-leads-columns ks a d n at p k =
-    by_cases (ltb at n)
-    (λ t. let h = ltb-true at n t in rw (t, entry_there ks a d n at h) (leads_at by_ids (entry_at ks a d) n at p k h))
-    (λ t. rw t (leads_none by_ids (entry_at ks a d) n at p k (ltb-false at n t)))
-
-module _ (ks : List (List ℕ)) (a d : List ℕ) (n : ℕ) where
-  module _ (k : List ℕ) (at : ℕ) (up : ascending by_ids (entries ks a d n) ≡ true) where
-    stood : at ≡ rank by_ids k (entries ks a d n) → has by_ids k (entries ks a d n) ≡ leads by_ids (λ x. true) k (drop at (entries ks a d n))
-    stood r = held-ids ks a d n k at (rises-plain ks a d n up) (r ∙ rank-ids ks a d n k) ∙ sym (leads-columns ks a d n at (λ x. true) k ∙ and-true _)
-
-    pub found : at ≡ rank by_ids k (entries ks a d n) → at ≤ n → leads by_ids (λ x. true) k (drop at (entries ks a d n)) ≡ true → FoundAt k (entries ks a d n) n (Ok at)
-    found r w t = (r, ltb-true at n (both (ltb at n) (same (across ks at) k) (sym (leads-columns ks a d n at (λ x. true) k ∙ and-true _) ∙ t)).0, stood r ∙ t)
-
-    pub missed : at ≡ rank by_ids k (entries ks a d n) → at ≤ n → leads by_ids (λ x. true) k (drop at (entries ks a d n)) ≡ false → FoundAt k (entries ks a d n) n (Err at)
-    missed r w t = (r, w, stood r ∙ t)
-
-    pub deleted-found : (e : ℕ) → n ≤ length d → FoundAt k (entries ks a d n) n (Ok at) → entries ks a (set d at e) n ≡ changed by_ids k (deleted_at e) (entries ks a d n)
-    deleted-found e w f =
-        let r = f.0 ∙ rank-ids ks a d n k in
-        delete-entry ks a d n at e f.1 w ∙ changed-ids ks a d n k at (rises-plain ks a d n up) r (deleted_at e) (sym (held-ids ks a d n k at (rises-plain ks a d n up) r) ∙ f.2)
-
-  pub deleted-rises : (k : List ℕ) (e : ℕ) → ascending by_ids (entries ks a d n) ≡ true → ascending by_ids (changed by_ids k (deleted_at e) (entries ks a d n)) ≡ true
-  deleted-rises k e up = ascend-from by_ids (changed by_ids k (deleted_at e) (entries ks a d n)) (ascending-changed by_ids k (deleted_at e) (λ x. refl) (entries ks a d n) (ascend-to by_ids (entries ks a d n) up))
-
--- pairs and vectors are told apart by tables
-module _ (x y a d : List ℕ) (n : ℕ) where
-  pub pairs_by_table : (t u : ℕ) → All (ByTable t (0 ∷ []) (λ x. true) u) (entries (x ∷ y ∷ []) a d n)
-  pairs_by_table t u = rows_all (entry_at (x ∷ y ∷ []) a d) (ByTable t (0 ∷ []) (λ x. true) u) (λ i. rw (lex-last (column y i) 0, le-ltb (column y i) 0 (omega arith)) (lex-last (column x i) u)) n
-
-  pub vectors_by_table : (z : List ℕ) (t u : ℕ) → All (ByTable t (0 ∷ 0 ∷ []) (λ x. true) u) (entries (x ∷ y ∷ z ∷ []) a d n)
-  vectors_by_table z t u = rows_all (entry_at (x ∷ y ∷ z ∷ []) a d) (ByTable t (0 ∷ 0 ∷ []) (λ x. true) u) (λ i. rw (lex-last (column z i) 0, le-ltb (column z i) 0 (omega arith), lex-last (column y i) 0, le-ltb (column y i) 0 (omega arith)) (lex-last (column x i) u)) n
 
 -- all of what an epoch shows, and what is left of it from a place on
 pub show_all : (p : Entry → Bool) (l : List Entry) (n : ℕ) → n ≡ length l → keep p (drop 0 (take n l)) ≡ keep p l

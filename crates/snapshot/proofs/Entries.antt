@@ -2,24 +2,22 @@
 use mathlib.Core.Path.{◌≡◌, refl, sym, ap, ap₂, ◌∙◌}
 use mathlib.Core.Bool.{Bool, true, false, ◌&&◌, not}
 use mathlib.Core.List.{List, [], ◌∷◌, map}
-use Prim.Native.Nat.{ℕ, zero, suc, ◌+◌, ◌≤◌, ◌<◌}
+use Prim.Native.Nat.{ℕ, ◌+◌, ◌≤◌, ◌<◌}
 use native.Mathlib.Omega.{arith}
-use native.Mathlib.Nat.{not-suc-le-zero, le_of_suc-le-suc}
 use native.Mathlib.Numerals.{add-one}
 use lib.Dec.{ltb, leb, eqb}
-use lib.ListN.{length, get_or, set}
-use lib.Seq.{get_or-set_same, get_or-set_other}
+use lib.ListN.{get_or}
 use borrow.Author.Tests.{ltb-true, ltb-false, lt-ltb, le-leb, ne_eqb}
 use Rattle.lists.specs.Order.{same}
-use Rattle.lists.specs.Keyed.{all_of, has, put, changed, ascending, rank}
-use Rattle.lists.specs.Places.{insert_at, change_at}
-use Rattle.lists.proofs.Tests.{by_cases, both, past}
+use Rattle.lists.specs.Keyed.{all_of, has, put, ascending, rank}
+use Rattle.lists.specs.Places.{insert_at}
+use Rattle.lists.proofs.Tests.{by_cases, past}
 use Rattle.lists.proofs.Keyed.{Ascending, ascend-to}
-use Rattle.lists.proofs.Places.{has_here, has_end, changed-at}
+use Rattle.lists.proofs.Places.{has_here, has_end}
 use Rattle.lists.proofs.Views.{put_other}
 use Rattle.columns.specs.Rows.{rows, column, across, plain, PutIn}
 use Rattle.snapshot.specs.Entries.{Entry, by_ids, deleted_at, entry_at, entries, added_at, gone_at, shown_at, shown_by}
-use Rattle.columns.proofs.Rows.{insert-below, insert-here, insert-after, rows-length, rows_at, rows-map, ascending-map, rank-map, rows-insert, rows-change, put-rows}
+use Rattle.columns.proofs.Rows.{insert-below, insert-here, insert-after, rows-length, rows_at, rows-map, ascending-map, rank-map, rows-insert, put-rows}
 
 -- a test of rows is the test of what is tested
 pub all_map : {A B : Type 0} (e : A → B) (p : B → Bool) (l : List A) → all_of (λ x. p (e x)) l ≡ all_of p (map e l)
@@ -67,27 +65,6 @@ module _ (ks : List (List ℕ)) (a d : List ℕ) (n : ℕ) where
         let g : at < n = omega arith in
         rw (p, rows_at (entry_at ks a d) n at e g) (past (ltb at n) (same (across ks at) k) t (lt-ltb at n g)))
         ∙ rw p refl)
-
-    -- an entry of a key that is held is changed at its place
-    pub changed-ids : (f : Entry → Entry) → ltb at n && same (across ks at) k ≡ true → set (entries ks a d n) at (f (entry_at ks a d at)) ≡ changed by_ids k f (entries ks a d n)
-    changed-ids f t =
-        let l = entries ks a d n in
-        let z = rows-length (entry_at ks a d) n in
-        let h = ltb-true at n (both (ltb at n) (same (across ks at) k) t).0 in
-        let p = place-ids in
-        sym (changed-at by_ids k f l rises (held-ids ∙ t) ∙ rw p (change-set l at f (omega arith) ∙ rw (rows_at (entry_at ks a d) n at (entry_at ks a d 0) h)))
-      where
-        change-set : (l : List Entry) (i : ℕ) (f : Entry → Entry) → i < length l → change_at i f l ≡ set l i (f (get_or l i (entry_at ks a d 0)))
-        change-set [] i f h = absurd (not-suc-le-zero h)
-        change-set (x ∷ l) zero f h = refl
-        change-set (x ∷ l) (suc i) f h = ap (λ (t : List Entry). x ∷ t) (change-set l i f (le_of_suc-le-suc h))
-
-  -- an epoch stored in the column of deletions
-  pub delete-entry : (at e : ℕ) → at < n → n ≤ length d → entries ks a (set d at e) n ≡ set (entries ks a d n) at (deleted_at e (entry_at ks a d at))
-  delete-entry at e h w =
-      rows-change (entry_at ks a d) (entry_at ks a (set d at e)) n at (deleted_at e (entry_at ks a d at)) h
-      (λ i q ne. rw (get_or-set_other d at i e 0 ne))
-      (rw (get_or-set_same d at e 0 (omega arith)))
 
 -- Each key column with its number put in at a place: how an insertion stands in all columns at once.
 pub data AllPutIn (n at : ℕ) : List (List ℕ) → List ℕ → List (List ℕ) → Type 0 where

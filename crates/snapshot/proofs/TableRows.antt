@@ -14,15 +14,15 @@ use Rattle.ids.specs.Names.{longest_name, name_in, name_of}
 use Rattle.ids.specs.declared.name.Name.{Name}
 use Rattle.ids.proofs.Names.{name-room}
 use Rattle.lists.specs.Order.{less, same}
-use Rattle.lists.specs.Keyed.{all_of, any_of, has, is_at, changed, ascending}
+use Rattle.lists.specs.Keyed.{all_of, any_of, has, is_at, changed}
 use Rattle.lists.specs.Written.{written}
 use Rattle.lists.proofs.Tests.{by_cases, tri}
 use Rattle.lists.proofs.Order.{lex-lt, lex-last}
 use Rattle.lists.proofs.Keyed.{any_of-map}
 use Rattle.lists.proofs.Written.{written-length}
-use Rattle.columns.specs.Rows.{rows, column, marks, across, plain}
-use Rattle.columns.proofs.Rows.{rows-length, rows_same, rows-map, rows_seen, rows_end, rows-change, ascending-map}
-use Rattle.snapshot.specs.Tables.{TableEntry, by_table, name_taken, with_lock, length_in, name_at, table_at, table_rows, name_bytes}
+use Rattle.columns.specs.Rows.{rows, column, marks, across}
+use Rattle.columns.proofs.Rows.{rows-length, rows_same, rows-map, rows-change}
+use Rattle.snapshot.specs.Tables.{TableEntry, by_table, with_lock, length_in, name_at, table_at, table_rows, name_bytes}
 use Rattle.snapshot.specs.declared.tables.Tables.{Tables}
 use Rattle.snapshot.specs.Views.{tables_of}
 use Rattle.snapshot.proofs.Entries.{all-rows}
@@ -43,9 +43,6 @@ module _ (ids shapes lengths names : List ℕ) (locked : List Bool) (n : ℕ) wh
       one-id : (l : List TableEntry) → has by_table (t ∷ []) l ≡ any_of (λ x. eqb x.table t) l
       one-id [] = refl
       one-id (x ∷ l) = rw (and-true (eqb x.table t)) (ap (λ (b : Bool). eqb x.table t || b) (one-id l))
-
-  pub ascending-tables : ascending by_table all ≡ ascending plain (rows (across (ids ∷ [])) n)
-  ascending-tables = ascending-map by_table all ∙ ap (ascending plain) keys
 
   pub below-tables : (m : ℕ) → all_of (λ t. ltb t.table m) all ≡ all_of (λ x. ltb x m) (rows (column ids) n)
   below-tables m = all-rows (table_at ids shapes lengths names locked) n (λ t. t.table) (λ x. ltb x m)

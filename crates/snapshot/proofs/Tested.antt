@@ -1,7 +1,7 @@
 -- What the library's calls over places answer of rows: whether all of them or one passes a test, whether they rise, and which is the first to pass. Assumes nothing.
 use mathlib.Core.Path.{◌≡◌, refl, ap, ap₂, ◌∙◌}
 use mathlib.Core.Bool.{Bool, true, false, ◌&&◌, ◌||◌}
-use mathlib.Core.List.{List, [], ◌∷◌}
+use mathlib.Core.List.{List}
 use Prim.Native.Nat.{ℕ, zero, suc, ◌+◌, ◌-◌, ◌≤◌, ◌<◌}
 use native.Mathlib.Omega.{arith}
 use native.Mathlib.Numerals.{add-one}
@@ -16,7 +16,7 @@ use Rattle.lists.specs.Keyed.{keep, all_of, any_of, above, ascending}
 use Rattle.lists.proofs.Tests.{by_cases}
 use Rattle.columns.specs.Rows.{rows_from, rows}
 use Rattle.snapshot.specs.Entries.{Entry, nothing}
-use Rattle.snapshot.specs.Found.{NextShown, drop_below}
+use Rattle.snapshot.specs.Found.{FirstPassing, drop_below}
 use Rattle.snapshot.proofs.ByPlace.{walk-stop, walk-on, walk-end, show-this, show-past, show_none}
 
 module _ {A : Type 0} (f : ℕ → A) (t : ℕ → Bool) (n : ℕ) where
@@ -82,7 +82,7 @@ module _ (p : Entry → Bool) (l : List Entry) (end : ℕ) (w : end ≤ length l
       rw z (show-past p l end i w (omega arith) (e i (omega arith) (omega arith)) ∙ skip-hidden m (i + 1) (omega arith) (λ j a b. e j (omega arith) (omega arith)))
 
   pub first-shown : (from : ℕ) (r : Option ℕ) → MatchOption r ((j : ℕ) → from ≤ j → j < end → p (get_or l j nothing) ≡ false) (λ i. (from ≤ i) × (i < end) × (p (get_or l i nothing) ≡ true) × ((j : ℕ) → from ≤ j → j < i → p (get_or l j nothing) ≡ false))
-      → NextShown p l from end r
+      → FirstPassing p l from end r
   first-shown from None h =
       by_cases (leb from end)
       (λ e. let v = leb-true from end e in let z : from + (end - from) ≡ end = omega arith in

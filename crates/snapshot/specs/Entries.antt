@@ -33,6 +33,10 @@ shown_at e a d = leb a e && not (gone_at e d)
 abbrev pub waits : Entry → Bool
 waits x = not (eqb x.deleted 0)
 
+-- its epochs pass a test
+abbrev pub passes : (ℕ → ℕ → Bool) → Entry → Bool
+passes t x = t x.added x.deleted
+
 abbrev pub gone_by : ℕ → Entry → Bool
 gone_by e x = gone_at e x.deleted
 

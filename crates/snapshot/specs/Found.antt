@@ -1,5 +1,5 @@
--- Where a key stands among entries that rise, as a search by halves answers it. Assumes nothing.
-use Rattle.std.specs.Prelude.{◌≡◌, Bool, true, false, cond, ◌&&◌, List, [], ◌∷◌, ℕ, ◌+◌, ◌<◌, ◌≤◌, Option, Some, None, Result, Ok, Err, get_or, take, drop}
+-- What searches among entries answer: where a key stands, the first that passes a test, and what is left of a list that is walked along another. Assumes nothing.
+use Rattle.std.specs.Prelude.{◌≡◌, Bool, true, false, cond, ◌&&◌, List, [], ◌∷◌, ℕ, ◌+◌, ◌<◌, ◌≤◌, Option, Some, None, Result, Ok, Err, get_or, take, drop, ltb}
 use Rattle.lists.specs.Order.{less, same}
 use Rattle.lists.specs.Keyed.{keep, has, rank}
 use Rattle.snapshot.specs.Entries.{Entry, by_ids, nothing}
@@ -10,9 +10,13 @@ FoundAt k l n (Ok at) = (at ≡ rank by_ids k l) × (at < n) × (has by_ids k l 
 FoundAt k l n (Err at) = (at ≡ rank by_ids k l) × (at ≤ n) × (has by_ids k l ≡ false)
 
 -- of those that pass a test from one place on and before another, the first, which stands at a place, or none
-abbrev pub NextShown : (Entry → Bool) → List Entry → ℕ → ℕ → Option ℕ → Type 0
-NextShown p l from end None = keep p (drop from (take end l)) ≡ []
-NextShown p l from end (Some i) = (i < end) × (keep p (drop from (take end l)) ≡ get_or l i nothing ∷ keep p (drop (i + 1) (take end l)))
+abbrev pub FirstPassing : (Entry → Bool) → List Entry → ℕ → ℕ → Option ℕ → Type 0
+FirstPassing p l from end None = keep p (drop from (take end l)) ≡ []
+FirstPassing p l from end (Some i) = (i < end) × (keep p (drop from (take end l)) ≡ get_or l i nothing ∷ keep p (drop (i + 1) (take end l)))
+
+-- an entry stands before the least ids of the table t, which are t and zeros, just where its own table is below t
+abbrev pub BeforeTable : ℕ → List ℕ → Entry → Type 0
+BeforeTable t zs x = less x.ids (t ∷ zs) ≡ ltb (get_or x.ids 0 0) t
 
 -- what is answered of a row is what a test of its entry says
 abbrev pub Tests : {R E : Type 0} → (R → Bool → Type 0) → (R → E) → (E → Bool) → Type 0

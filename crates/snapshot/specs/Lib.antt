@@ -3,5 +3,4 @@ pub mod Entries
 pub mod Tables
 pub mod Views
 pub mod Found
-pub mod Shown
-pub mod Gone
+pub mod Passing

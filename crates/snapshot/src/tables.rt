@@ -13,9 +13,9 @@ use ids::limits::{LONGEST_NAME, MOST_TABLES, NAME_BYTES};
 use ids::name::Name;
 
 // Live tables: the first `count` places of each column, ascending by id. A name has room for the longest one in `names`.
-// The C interface passes this struct by value, so the columns and the count stay as they lie, and each call asks that the count fits.
+// The C interface passes this struct by value, so that its layout is fixed, and each call asks that the count fits.
 #[repr(C)]
-#[derive(Clone, Copy)]
+#[derive(Clone, Copy, Default)]
 pub struct Tables {
     pub ids: [u32; MOST_TABLES],
     pub shapes: [u32; MOST_TABLES],
@@ -36,18 +36,10 @@ pub struct Table {
 
 // The columns are those of the C interface, so that each method names its own.
 impl Tables {
-    // Not Default, which promises columns of zeros: `none` promises that nothing is held, and Default would be no plainer.
     pub fn none() -> Tables
         ensures { (result.count ≡ 0) × (tables_of result ≡ []) }
     {
-        Tables {
-            ids: [0; MOST_TABLES],
-            shapes: [0; MOST_TABLES],
-            lengths: [0; MOST_TABLES],
-            names: [0; NAME_BYTES],
-            locked: [false; MOST_TABLES],
-            count: 0,
-        }
+        Tables::default()
     }
 
     // Internal, as are all that follow: the bytes of the name at place `i`.

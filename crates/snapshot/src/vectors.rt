@@ -1,26 +1,65 @@
 // The delete vectors that are held, in columns.
-ghost use Rattle.std.specs.Prelude.{◌≡◌, true, cond, not, [], ◌∷◌, ◌+◌, ◌≤◌, ◌<◌, eqb, Err, get_or, set, take, drop};
-ghost use Rattle.std.specs.Iterator.{YieldsFirstBy, item_count};
-ghost use Rattle.ids.specs.Ids.{is_id32};
+ghost use Rattle.std.specs.Prelude.{◌≡◌, true, [], ◌∷◌, ◌≤◌, eqb, get_or, take};
 ghost use Rattle.ids.specs.Limits.{most_held};
-ghost use Rattle.lists.specs.Keyed.{keep, all_of, any_of, has, put, changed, ascending, rank};
-ghost use Rattle.columns.specs.Rows.{column};
-ghost use Rattle.snapshot.specs.Entries.{by_ids, nothing, added_at, deleted_at, shown_by, gone_by, of_table, within};
-ghost use Rattle.snapshot.specs.Found.{FoundAt, NextShown, Tests, leads};
-ghost use Rattle.snapshot.specs.Views.{rowsets_of, vectors_of, vector_of};
-ghost use Rattle.snapshot.specs.Shown.{shown_vectors};
+ghost use Rattle.lists.specs.Keyed.{keep, any_of, has, ascending};
+ghost use Rattle.snapshot.specs.Entries.{by_ids};
+ghost use Rattle.snapshot.specs.Views.{rowsets_of, vectors_of, pair_ids, vector_ids};
 
-use crate::epoch::ShownVectors;
-use crate::rowsets::Rowsets;
-use crate::{gone, shown};
+use crate::counted::Counted;
+use crate::held::{Held, HeldColumns, HeldIds};
+use crate::rowsets::{RowsetIds, Rowsets};
 use ids::limits::MOST_HELD;
 use ids::{RowsetNo, TableNo, VectorNo};
 
-// Held delete vectors: the first `count` places of each column, ascending by table, rowset and vector. `deleted` is 0 while shown.
-// The C interface passes this struct by value, so the columns and the count stay as they lie, and each call asks that the count fits.
-// A trait over rowsets and vectors would leave these methods and their contracts with each type, and be longer than what it spares.
+// Of one vector that is held or looked for. `NextIds` has the ids to come: one type would be no plainer.
+#[derive(Clone, Copy, PartialEq, Eq, PartialOrd, Ord, Default)]
+pub struct VectorIds {
+    pub table: TableNo,
+    pub rowset: RowsetNo,
+    pub vector: VectorNo,
+}
+
+impl VectorIds {
+    // The table and the rowset alone: of a vector's ids, the rowset that it lies over.
+    pub fn pair(self) -> RowsetIds
+        ensures { pair_ids result ≡ take 2 (vector_ids self) }
+    {
+        RowsetIds {
+            table: self.table,
+            rowset: self.rowset,
+        }
+    }
+}
+
+impl HeldIds for VectorIds {
+    ghost use Rattle.std.specs.Prelude.{[], ◌∷◌};
+    ghost use Rattle.lists.proofs.Compared.{partial-three, same-three};
+
+    ghost numbers = { vector_ids };
+
+    ghost zeros = { 0 ∷ 0 ∷ [] };
+
+    fn first_of(table: TableNo) -> Self {
+        VectorIds {
+            table,
+            rowset: RowsetNo(0),
+            vector: VectorNo(0),
+        }
+    }
+
+    fn below(self, next: Self) -> bool {
+        self.table < next.table && self.rowset < next.rowset && self.vector < next.vector
+    }
+
+    ghost in_order = { λ a b. partial-three a.table.0 a.rowset.0 a.vector.0 b.table.0 b.rowset.0 b.vector.0 };
+
+    ghost alike = { λ a b. same-three a.table.0 a.rowset.0 a.vector.0 b.table.0 b.rowset.0 b.vector.0 };
+}
+
+// Held delete vectors: the first `count` places of each column, ascending by table, rowset and vector. `deleted` is 0 until it is deleted.
+// The C interface passes this struct by value, so that its layout is fixed.
 #[repr(C)]
-#[derive(Clone, Copy)]
+#[derive(Clone, Copy, Default)]
 pub struct Vectors {
     pub tables: [u32; MOST_HELD],
     pub rowsets: [u32; MOST_HELD],
@@ -30,272 +69,70 @@ pub struct Vectors {
     pub count: usize,
 }
 
-// One of them.
-#[derive(Clone, Copy)]
-pub struct HeldVector {
-    pub table: TableNo,
-    pub rowset: RowsetNo,
-    pub vector: VectorNo,
-    pub added: u32,
-    pub deleted: u32,
-}
+impl Counted for Vectors {
+    ghost entries = { vectors_of };
 
-impl HeldVector {
-    // Its epochs are at most the epoch, and its ids below the next ones.
-    // The ids of the columns that the C interface lays side by side, one by one.
-    fn within(self, epoch: u32, table: TableNo, rowset: RowsetNo, vector: VectorNo) -> bool
-        ensures { result ≡ within epoch (table.0 ∷ rowset.0 ∷ vector.0 ∷ []) (vector_of self) }
-    {
-        self.added <= epoch
-            && self.deleted <= epoch
-            && self.table < table
-            && self.rowset < rowset
-            && self.vector < vector
+    ghost count = { λ s. s.count };
+
+    fn count(&self) -> usize {
+        self.count
     }
 }
 
-// To do: one trait over rowsets and vectors, as at `Rowsets`. What each method asks for the structs of the C interface cannot say.
-impl Vectors {
-    // Not Default, which promises columns of zeros: `none` promises that nothing is held, and Default would be no plainer.
-    pub fn none() -> Vectors
-        ensures { (result.count ≡ 0) × (vectors_of result ≡ []) }
-    {
-        Vectors {
-            tables: [0; MOST_HELD],
-            rowsets: [0; MOST_HELD],
-            vectors: [0; MOST_HELD],
-            added: [0; MOST_HELD],
-            deleted: [0; MOST_HELD],
-            count: 0,
-        }
+impl HeldColumns for Vectors {
+    ghost use Rattle.std.specs.Prelude.{[], ◌∷◌};
+    ghost use Rattle.lists.proofs.Compared.{below-three};
+    ghost use Rattle.columns.specs.Rows.{column};
+    ghost use Rattle.columns.proofs.Rows.{rows-length, rows_at};
+    ghost use Rattle.snapshot.specs.Entries.{entry_at, nothing};
+
+    type Ids = VectorIds;
+
+    fn none() -> Self {
+        Vectors::default()
     }
 
-    // Internal, as are all that follow: the one at place `i`.
-    pub fn get(&self, i: usize) -> HeldVector
-        requires fits { self.now.count ≤ most_held }
-        requires inside { i < self.now.count }
-        ensures { vector_of result ≡ get_or (vectors_of self.now) i nothing }
-    {
-        HeldVector {
-            table: TableNo(self.tables[i]),
-            rowset: RowsetNo(self.rowsets[i]),
-            vector: VectorNo(self.vectors[i]),
+    fn get(&self, i: usize) -> Held<VectorIds> {
+        Held {
+            ids: VectorIds {
+                table: TableNo(self.tables[i]),
+                rowset: RowsetNo(self.rowsets[i]),
+                vector: VectorNo(self.vectors[i]),
+            },
             added: self.added[i],
             deleted: self.deleted[i],
         }
     }
 
-    // The ids at place `i`.
-    fn ids(&self, i: usize) -> (u32, u32, u64)
-        requires { i < most_held }
-        ensures { result ≡ (column self.now.tables i, column self.now.rowsets i, column self.now.vectors i) }
-    {
-        (self.tables[i], self.rowsets[i], self.vectors[i])
+    fn set(&mut self, i: usize, held: &Held<VectorIds>) {
+        self.tables[i] = held.ids.table.0;
+        self.rowsets[i] = held.ids.rowset.0;
+        self.vectors[i] = held.ids.vector.0;
+        self.added[i] = held.added;
+        self.deleted[i] = held.deleted;
     }
 
-    // The ids rise strictly.
-    pub fn is_ascending(&self) -> bool
-        requires fits { self.now.count ≤ most_held }
-        ensures { result ≡ ascending by_ids (vectors_of self.now) }
-    {
-        (1..self.count).all(|i| self.ids(i - 1) < self.ids(i))
-    }
-
-    // Each one's epochs are at most the epoch, and its ids below the next ones.
-    pub fn within(&self, epoch: u32, table: TableNo, rowset: RowsetNo, vector: VectorNo) -> bool
-        requires fits { self.now.count ≤ most_held }
-        ensures { result ≡ all_of (within epoch (table.0 ∷ rowset.0 ∷ vector.0 ∷ [])) (vectors_of self.now) }
-    {
-        (0..self.count).all(|i| self.get(i).within(epoch, table, rowset, vector))
-    }
-
-    // The place of the first one that is not before these ids.
-    fn place(&self, table: TableNo, rowset: RowsetNo, vector: VectorNo) -> usize
-        requires fits { self.now.count ≤ most_held }
-        requires rises { ascending by_ids (vectors_of self.now) ≡ true }
-        ensures told { result ≡ rank by_ids (table.0 ∷ rowset.0 ∷ vector.0 ∷ []) (vectors_of self.now) }
-        ensures inside { result ≤ self.now.count }
-    {
-        columns::place(self.count, |i| self.ids(i) < (table.0, rowset.0, vector.0))
-    }
-
-    // Whether it is at place `at`.
-    fn stands_at(&self, at: usize, table: TableNo, rowset: RowsetNo, vector: VectorNo) -> bool
-        requires fits { self.now.count ≤ most_held }
-        ensures { result ≡ leads by_ids (λ x. true) (table.0 ∷ rowset.0 ∷ vector.0 ∷ []) (drop at (vectors_of self.now)) }
-    {
-        at < self.count && self.ids(at) == (table.0, rowset.0, vector.0)
-    }
-
-    // Where it is, or else would go.
-    pub fn find(&self, table: TableNo, rowset: RowsetNo, vector: VectorNo) -> Result<usize, usize>
-        requires fits { self.now.count ≤ most_held }
-        requires rises { ascending by_ids (vectors_of self.now) ≡ true }
-        ensures { FoundAt (table.0 ∷ rowset.0 ∷ vector.0 ∷ []) (vectors_of self.now) self.now.count result }
-    {
-        let at = self.place(table, rowset, vector);
-        if self.stands_at(at, table, rowset, vector) {
-            Ok(at)
-        } else {
-            Err(at)
-        }
-    }
-
-    // Held, shown or waiting.
-    pub fn holds(&self, table: TableNo, rowset: RowsetNo, vector: VectorNo) -> bool
-        requires fits { self.now.count ≤ most_held }
-        requires rises { ascending by_ids (vectors_of self.now) ≡ true }
-        ensures { result ≡ has by_ids (table.0 ∷ rowset.0 ∷ vector.0 ∷ []) (vectors_of self.now) }
-    {
-        self.find(table, rowset, vector).is_ok()
-    }
-
-    // Whether the epoch shows the one at place `i`.
-    pub fn shown_at(&self, i: usize, epoch: u32) -> bool
-        requires fits { self.now.count ≤ most_held }
-        requires inside { i < self.now.count }
-        ensures { result ≡ shown_by epoch (get_or (vectors_of self.now) i nothing) }
-    {
-        shown(self.added[i], self.deleted[i], epoch)
-    }
-
-    // Held, and shown by the epoch.
-    pub fn shows(&self, table: TableNo, rowset: RowsetNo, vector: VectorNo, epoch: u32) -> bool
-        requires fits { self.now.count ≤ most_held }
-        requires rises { ascending by_ids (vectors_of self.now) ≡ true }
-        ensures { result ≡ has by_ids (table.0 ∷ rowset.0 ∷ vector.0 ∷ []) (keep (shown_by epoch) (vectors_of self.now)) }
-    {
-        match self.find(table, rowset, vector) {
-            Ok(at) => self.shown_at(at, epoch),
-            Err(_) => false,
-        }
-    }
-
-    // The first place, from `from` on and before `end`, that the epoch shows.
-    pub(crate) fn next_shown(&self, from: usize, end: usize, epoch: u32) -> Option<usize>
-        requires fits { self.now.count ≤ most_held }
-        requires inside { end ≤ self.now.count }
-        ensures { NextShown (shown_by epoch) (vectors_of self.now) from end result }
-    {
-        (from..end).find(|i| self.shown_at(*i, epoch))
-    }
-
-    // Those that the epoch shows, in order.
-    pub fn shown(&self, epoch: u32) -> ShownVectors<'_>
-        requires fits { self.now.count ≤ most_held }
-        ensures { shown_vectors result ≡ keep (shown_by epoch) (vectors_of self.now) }
-    {
-        ShownVectors {
-            held: self,
-            epoch,
-            next: 0,
-            end: self.count,
-        }
-    }
-
-    // Those of a table, which stand in one run.
-    pub fn shown_of(&self, table: TableNo, epoch: u32) -> ShownVectors<'_>
-        requires fits { self.now.count ≤ most_held }
-        requires rises { ascending by_ids (vectors_of self.now) ≡ true }
-        requires id { is_id32 table.0 ≡ true }
-        ensures { shown_vectors result ≡ keep (of_table table.0) (keep (shown_by epoch) (vectors_of self.now)) }
-    {
-        let next = self.place(table, RowsetNo(0), VectorNo(0));
-        let end = self.place(TableNo(table.0 + 1), RowsetNo(0), VectorNo(0));
-        ShownVectors {
-            held: self,
-            epoch,
-            next,
-            end,
-        }
-    }
-
-    // One that is not held is put in at its place, as added at the epoch.
-    pub fn insert(
-        &mut self,
-        at: usize,
-        table: TableNo,
-        rowset: RowsetNo,
-        vector: VectorNo,
-        epoch: u32,
-    )
-        requires room { self.old.count < most_held }
-        requires rises { ascending by_ids (vectors_of self.old) ≡ true }
-        requires place { FoundAt (table.0 ∷ rowset.0 ∷ vector.0 ∷ []) (vectors_of self.old) self.old.count (Err at) }
-        ensures told { vectors_of self.new ≡ put by_ids (added_at epoch (table.0 ∷ rowset.0 ∷ vector.0 ∷ [])) (vectors_of self.old) }
-        ensures count { self.new.count ≡ self.old.count + 1 }
-        ensures rises { ascending by_ids (vectors_of self.new) ≡ true }
-    {
+    fn insert(&mut self, at: usize, ids: VectorIds, epoch: u32) {
         let count = self.count;
-        columns::insert(&mut self.tables, count, at, table.0);
-        columns::insert(&mut self.rowsets, count, at, rowset.0);
-        columns::insert(&mut self.vectors, count, at, vector.0);
+        columns::insert(&mut self.tables, count, at, ids.table.0);
+        columns::insert(&mut self.rowsets, count, at, ids.rowset.0);
+        columns::insert(&mut self.vectors, count, at, ids.vector.0);
         columns::insert(&mut self.added, count, at, epoch);
         columns::insert(&mut self.deleted, count, at, 0);
         self.count = count + 1;
     }
 
-    // One that the epoch shows is deleted at it; answers whether it was shown.
-    pub fn delete(&mut self, table: TableNo, rowset: RowsetNo, vector: VectorNo, epoch: u32) -> bool
-        requires fits { self.old.count ≤ most_held }
-        requires rises { ascending by_ids (vectors_of self.old) ≡ true }
-        ensures told { result ≡ has by_ids (table.0 ∷ rowset.0 ∷ vector.0 ∷ []) (keep (shown_by epoch) (vectors_of self.old)) }
-        ensures left { vectors_of self.new ≡ cond result (changed by_ids (table.0 ∷ rowset.0 ∷ vector.0 ∷ []) (deleted_at epoch) (vectors_of self.old)) (vectors_of self.old) }
-        ensures count { self.new.count ≡ self.old.count }
-        ensures rises { ascending by_ids (vectors_of self.new) ≡ true }
-    {
-        match self.find(table, rowset, vector) {
-            Ok(at) if self.shown_at(at, epoch) => {
-                self.deleted[at] = epoch;
-                true
-            }
-            _ => false,
-        }
+    fn truncate(&mut self, end: usize) {
+        self.count = end;
     }
 
-    // Overwrites the one at place `i`.
-    fn set(&mut self, i: usize, held: HeldVector)
-        requires fits { self.old.count ≤ most_held }
-        requires inside { i < self.old.count }
-        ensures told { vectors_of self.new ≡ set (vectors_of self.old) i (vector_of held) }
-        ensures count { self.new.count ≡ self.old.count }
-    {
-        self.tables[i] = held.table.0;
-        self.rowsets[i] = held.rowset.0;
-        self.vectors[i] = held.vector.0;
-        self.added[i] = held.added;
-        self.deleted[i] = held.deleted;
-    }
+    ghost sized = { λ s. rows-length (entry_at (s.tables ∷ s.rowsets ∷ s.vectors ∷ []) s.added s.deleted) s.count };
 
-    // Keeps those that pass a test.
-    fn retain<F: Fn(HeldVector) -> bool>(&mut self, test: F)
-        requires fits { self.old.count ≤ most_held }
-        requires calls { F.IsAlwaysCallable test }
-        ensures told { (p : _) → Tests (F.post test) vector_of p → vectors_of self.new ≡ keep p (vectors_of self.old) }
-        ensures fewer { self.new.count ≤ self.old.count }
-    {
-        let mut left = 0;
-        // By places: one is read and an earlier one written, in all columns.
-        for i in 0..self.count {
-            let held = self.get(i);
-            if test(held) {
-                self.set(left, held);
-                left += 1;
-            }
-        }
-        self.count = left;
-    }
+    ghost before_table = { λ s t i h. rw (rows_at (entry_at (s.tables ∷ s.rowsets ∷ s.vectors ∷ []) s.added s.deleted) s.count i nothing h) (below-three (column s.tables i) (column s.rowsets i) (column s.vectors i) t) };
+}
 
-    // Without those that are gone by the epoch.
-    pub fn let_go(&mut self, epoch: u32)
-        requires fits { self.old.count ≤ most_held }
-        ensures told { vectors_of self.new ≡ keep (λ x. not (gone_by epoch x)) (vectors_of self.old) }
-        ensures fewer { self.new.count ≤ self.old.count }
-    {
-        self.retain(|held| !gone(held.deleted, epoch));
-    }
-
-    // A vector of any table has the id. One call of the library, as `Tables::holds` is.
+impl Vectors {
+    // A vector of any table has the id. One call of the library, as `Tables::holds` is: sharing it would be no plainer.
     pub fn numbered(&self, vector: VectorNo) -> bool
         requires fits { self.now.count ≤ most_held }
         ensures { result ≡ any_of (λ x. eqb (get_or (by_ids x) 2 0) vector.0) (vectors_of self.now) }
@@ -303,7 +140,7 @@ impl Vectors {
         self.vectors[..self.count].contains(&vector.0)
     }
 
-    // Without those whose rowset is not among the rowsets.
+    // Without those whose rowset is not among the rowsets, of which the structs of the C interface cannot say that they fit and rise.
     pub fn keep_over(&mut self, rowsets: &Rowsets)
         requires fits { self.old.count ≤ most_held }
         requires rowsets_fit { rowsets.now.count ≤ most_held }
@@ -311,21 +148,6 @@ impl Vectors {
         ensures told { vectors_of self.new ≡ keep (λ x. has by_ids (take 2 (by_ids x)) (rowsets_of rowsets.now)) (vectors_of self.old) }
         ensures fewer { self.new.count ≤ self.old.count }
     {
-        self.retain(|held| rowsets.holds(held.table, held.rowset));
-    }
-}
-
-// To do: one over a trait, as at `Rowsets`.
-impl<'a> Iterator for ShownVectors<'a> {
-    type Item = HeldVector;
-
-    ghost next_gives = { YieldsFirstBy vector_of shown_vectors };
-
-    ghost remaining = { item_count shown_vectors };
-
-    fn next(&mut self) -> Option<HeldVector> {
-        let i = self.held.next_shown(self.next, self.end, self.epoch)?;
-        self.next = i + 1;
-        Some(self.held.get(i))
+        self.retain(|held| rowsets.holds(held.ids.pair()));
     }
 }

@@ -1,5 +1,5 @@
 -- What the tests of 29 tell as facts. Assumes nothing.
-use mathlib.Core.Path.{◌≡◌, sym, ◌∙◌}
+use mathlib.Core.Path.{◌≡◌}
 use mathlib.Core.Bool.{true, false, not, ◌&&◌, ◌||◌}
 use mathlib.Core.List.{[], ◌∷◌}
 use Prim.Native.Nat.{◌<◌, ◌≤◌}
@@ -10,11 +10,6 @@ use Rattle.lists.proofs.Tests.{by_cases, both, neither}
 use Rattle.text.specs.Name.{is_name}
 use Rattle.snapshot.specs.Entries.{by_ids, within}
 use Rattle.snapshot.specs.Tables.{by_table}
-use Rattle.snapshot.specs.declared.tables.Tables.{Tables}
-use Rattle.snapshot.specs.declared.rowsets.Rowsets.{Rowsets}
-use Rattle.snapshot.proofs.Entries.{ascending-ids}
-use Rattle.snapshot.proofs.TableRows.{ascending-tables}
-use Rattle.columns.specs.Rows.{rows, across, plain}
 use Rattle.version_state.specs.declared.VersionManagerInner.{VersionManagerInner}
 use Rattle.version_state.specs.State.{State, state_of, counts_fit, Fit}
 use Rattle.ids.specs.Limits.{most_tables, most_held, longest_manifest}

@@ -2,28 +2,30 @@
 #![tactic(auto)]
 
 use ids::{RowsetNo, TableNo, VectorNo};
+use snapshot::held::HeldColumns;
 use snapshot::rowsets::Rowsets;
 use snapshot::tables::Tables;
-use snapshot::vectors::Vectors;
+use snapshot::vectors::{VectorIds, Vectors};
 
 pub mod limits;
 pub mod sound;
 pub mod stand;
 
-ghost use Rattle.std.specs.Prelude.{◌≡◌};
+ghost use Rattle.std.specs.Prelude.{◌≡◌, [], ◌∷◌};
+ghost use Rattle.snapshot.specs.Views.{vector_ids};
 ghost use Rattle.version_state.specs.State.{start, lengthened, Hands};
 ghost use Rattle.version_state.specs.Sound.{bad_inner};
 
-// The next id of each kind. A vector's own ids are of these types too, and say something else: one type would be no plainer.
+// The next id of each kind. `VectorIds` has the same fields, names one vector, and is no struct of the C interface: one type would be no plainer.
 #[repr(C)]
-#[derive(Clone, Copy)]
+#[derive(Clone, Copy, Default)]
 pub struct NextIds {
     pub table: TableNo,
     pub rowset: RowsetNo,
     pub vector: VectorNo,
 }
 
-// `fresh` is no Default, which promises zeros: it promises the state at the start, and Default would be no plainer.
+// `fresh` promises the state at the start, which a derived Default would not say, and be no plainer.
 #[repr(C)]
 #[derive(Clone, Copy)]
 pub struct VersionManagerInner {
@@ -36,24 +38,30 @@ pub struct VersionManagerInner {
     pub manifest: usize,
 }
 
+impl NextIds {
+    // As the type of held ids, to compare these with them.
+    pub(crate) fn ids(self) -> VectorIds
+        ensures { vector_ids result ≡ self.table.0 ∷ self.rowset.0 ∷ self.vector.0 ∷ [] }
+    {
+        VectorIds {
+            table: self.table,
+            rowset: self.rowset,
+            vector: self.vector,
+        }
+    }
+}
+
 impl VersionManagerInner {
+    // Other lists than those of a replay (`Sets::new`): one function would be no plainer.
     pub fn fresh() -> VersionManagerInner
         ensures { Hands result start }
     {
-        let next = NextIds {
-            table: TableNo(0),
-            rowset: RowsetNo(0),
-            vector: VectorNo(0),
-        };
-        let tables = Tables::none();
-        let rowsets = Rowsets::none();
-        let vectors = Vectors::none();
         VersionManagerInner {
             epoch: 0,
-            next,
-            tables,
-            rowsets,
-            vectors,
+            next: NextIds::default(),
+            tables: Tables::none(),
+            rowsets: Rowsets::none(),
+            vectors: Vectors::none(),
             manifest: 0,
         }
     }

@@ -8,6 +8,7 @@ ghost use Rattle.version_state.specs.Sound.{beyond_limits, out_of_order, above_o
 
 use crate::VersionManagerInner;
 use ids::limits::{LONGEST_MANIFEST, MOST_HELD, MOST_TABLES};
+use snapshot::held::HeldColumns;
 use text::ByteClasses;
 
 impl VersionManagerInner {
@@ -47,11 +48,9 @@ impl VersionManagerInner {
         requires { Fit self.now }
         ensures { result ≡ above_own (state_of self.now) }
     {
-        let next = self.next;
+        let next = self.next.ids();
         !(self.tables.all_below(next.table)
-            && self.rowsets.within(self.epoch, next.table, next.rowset)
-            && self
-                .vectors
-                .within(self.epoch, next.table, next.rowset, next.vector))
+            && self.rowsets.within(self.epoch, next.pair())
+            && self.vectors.within(self.epoch, next))
     }
 }

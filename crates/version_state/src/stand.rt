@@ -7,6 +7,7 @@ ghost use Rattle.version_state.specs.State.{State, state_of, Fit};
 ghost use Rattle.version_state.specs.Sound.{has_table, has_rowset, out_of_order, left_behind};
 
 use crate::VersionManagerInner;
+use snapshot::held::HeldColumns;
 
 impl VersionManagerInner {
     // Each vector that the epoch shows has its rowset among those that it shows. The two lists are walked side by side, as below: one
@@ -18,8 +19,9 @@ impl VersionManagerInner {
     {
         let mut at = 0;
         for v in self.vectors.shown(epoch) {
-            at = self.rowsets.from_on(at, v.table, v.rowset);
-            if !self.rowsets.shows_at(at, v.table, v.rowset, epoch) {
+            let pair = v.ids.pair();
+            at = self.rowsets.from_on(at, pair);
+            if !self.rowsets.shows_at(at, pair, epoch) {
                 return false;
             }
         }
@@ -35,8 +37,8 @@ impl VersionManagerInner {
     {
         let mut at = 0;
         for r in self.rowsets.shown(epoch) {
-            at = self.tables.from_on(at, r.table);
-            if !self.tables.stands_at(at, r.table) {
+            at = self.tables.from_on(at, r.ids.table);
+            if !self.tables.stands_at(at, r.ids.table) {
                 return false;
             }
         }

@@ -1,8 +1,8 @@
--- `snapshot::tables::Tables::none` meets its contract: no place is in use. Assumes nothing.
-use mathlib.Core.Path.{refl}
+-- `snapshot::tables::Tables::none` meets its contract: no place is in use. Over columns of its own, so that a shared lemma would be no plainer.
+use Rattle.std.proofs.Common.{◌≡◌, rules}
 use Rattle.columns.specs.Rows.{rows}
 use Rattle.snapshot.proofs.tables.Tables.none.Goals as goal
 
 pub returns : goal.returns
 unfolding rows
-returns c = (refl, refl)
+returns c = let n : c.default.result.count ≡ 0 = search rules in (n, rw n)

@@ -1,8 +1,0 @@
--- `snapshot::vectors::Vectors::none` meets its contract: no place is in use. Assumes nothing.
-use mathlib.Core.Path.{refl}
-use Rattle.columns.specs.Rows.{rows}
-use Rattle.snapshot.proofs.vectors.Vectors.none.Goals as goal
-
-pub returns : goal.returns
-unfolding rows
-returns c = (refl, refl)
