@@ -1,6 +1,6 @@
 -- An operation's verdict rests on the entries of its table. Assumes nothing.
 use mathlib.Core.Path.{◌≡◌, refl, sym, ap, ◌∙◌}
-use mathlib.Core.Bool.{Bool, true, false, ◌&&◌, and_comm}
+use mathlib.Core.Bool.{Bool, false, and_comm}
 use mathlib.Core.List.{List, [], ◌∷◌}
 use Prim.Native.Nat.{ℕ}
 use lib.Dec.{eqb}
@@ -10,9 +10,9 @@ use Rattle.lists.specs.Keyed.{keep, has}
 use Rattle.lists.proofs.Tests.{by_cases}
 use Rattle.lists.proofs.Keyed.{all_any, keep-keep, keep_same}
 use Rattle.manifest.specs.Operations.{create_table, drop_table, add_rowset, delete_rowset, add_vector, delete_vector, next_ids}
-use Rattle.snapshot.specs.Entries.{Entry, by_ids, shown_by}
+use Rattle.snapshot.specs.Entries.{Entry, by_ids, shown_by, of_table}
 use Rattle.operations.specs.Judge.{is_shown}
-use Rattle.operations.specs.Laws.{of_table, JudgedAlike}
+use Rattle.operations.specs.Laws.{JudgedAlike}
 
 apart : (t : ℕ) (k j : List ℕ) → eqb (get_or j 0 0) t ≡ false → same j (t ∷ k) ≡ false
 apart t k [] h = refl

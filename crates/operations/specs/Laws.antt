@@ -1,16 +1,13 @@
 -- What an operation's verdict rests on: the entries of its table, the held vector ids, the counts, the names and the next ids. Assumes nothing.
-use Rattle.std.specs.Prelude.{◌≡◌, Bool, List, ℕ, eqb, length, get_or}
+use Rattle.std.specs.Prelude.{◌≡◌, List, ℕ, length}
 use Rattle.lists.specs.Keyed.{keep}
 use Rattle.ids.specs.Verdicts.{judged}
 use Rattle.manifest.specs.Operations.{Operation}
 use Rattle.manifest.specs.Edits.{table_of}
-use Rattle.snapshot.specs.Entries.{Entry, by_ids}
+use Rattle.snapshot.specs.Entries.{of_table}
 use Rattle.snapshot.specs.Tables.{name_taken}
 use Rattle.version_state.specs.State.{State}
 use Rattle.operations.specs.Judge.{is_live, vector_held, op_rules}
-
-abbrev pub of_table : ℕ → Entry → Bool
-of_table t x = eqb (get_or (by_ids x) 0 0) t
 
 -- two states that an operation on the table t cannot tell apart
 pub record Alike (t : ℕ) (s u : State) : Type 0 where

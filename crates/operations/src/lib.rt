@@ -11,6 +11,8 @@ ghost use Rattle.operations.specs.Working.{Same};
 
 use ids::refusal::Refusal;
 use manifest::operation::EpochOp;
+use snapshot::rowsets::RowsetIds;
+use snapshot::vectors::VectorIds;
 use working::Working;
 
 mod pairs;
@@ -37,11 +39,29 @@ impl Working<'_> {
                 place, table, shape, name,
             ),
             EpochOp::DropTable(table) => self.drop_table(place, table),
-            EpochOp::AddRowSet(table, rowset) => self.add_rowset(place, table, rowset),
-            EpochOp::DeleteRowSet(table, rowset) => self.delete_rowset(place, table, rowset),
-            EpochOp::AddDV(table, rowset, vector) => self.add_dv(place, table, rowset, vector),
+            EpochOp::AddRowSet(table, rowset) => self.add_rowset(
+                place,
+                RowsetIds { table, rowset },
+            ),
+            EpochOp::DeleteRowSet(table, rowset) => self.delete_rowset(
+                place,
+                RowsetIds { table, rowset },
+            ),
+            EpochOp::AddDV(table, rowset, vector) => self.add_dv(
+                place,
+                VectorIds {
+                    table,
+                    rowset,
+                    vector,
+                },
+            ),
             EpochOp::DeleteDV(table, rowset, vector) => self.delete_dv(
-                place, table, rowset, vector,
+                place,
+                VectorIds {
+                    table,
+                    rowset,
+                    vector,
+                },
             ),
             EpochOp::NextIds(_, _, _) => Err(Refusal::Malformed(place)),
         }

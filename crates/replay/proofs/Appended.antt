@@ -7,9 +7,10 @@ use Rattle.lists.proofs.Keyed.{All, Ascending, ascend-to, ascend-from, ascending
 use Rattle.lists.proofs.Places.{has_end}
 use Rattle.lists.proofs.Views.{map-append}
 use Rattle.snapshot.specs.Entries.{Entry, by_ids}
+use Rattle.snapshot.specs.Views.{pair_ids, vector_ids}
+use Rattle.snapshot.specs.declared.rowsets.RowsetIds.{RowsetIds}
+use Rattle.snapshot.specs.declared.vectors.VectorIds.{VectorIds}
 use Rattle.version_state.specs.Sound.{has_rowset}
-use Rattle.replay.specs.declared.sets.LiveRowset.{LiveRowset}
-use Rattle.replay.specs.declared.sets.LiveVector.{LiveVector}
 use Rattle.replay.specs.Sets.{rowset_entry, vector_entry}
 use Rattle.replay.proofs.Maps.{ascending-mapped}
 use Rattle.replay.proofs.Entries.{has-rowset}
@@ -75,32 +76,32 @@ module _ {X A : Type 0} (f : X → A) (key : A → List ℕ) (kx : X → List �
   keep-more p false e = ap (keep p) taken-more ∙ keep_append p (map f (take i l)) (f (get_or l i d) ∷ []) ∙ rw e refl
 
 -- the next live rowset, after those that were put in
-module _ (l : List LiveRowset) (i : ℕ) (d : LiveRowset) (h : i < length l) where
-  pub rowset-next : (m : List LiveRowset) → l ≡ m → ascending (λ (x : LiveRowset). x.table.0 ∷ x.rowset.0 ∷ []) m ≡ true → AtEnd by_ids (map rowset_entry (take i l)) (rowset_entry (get_or l i d))
-  rowset-next m e up = at-place rowset_entry by_ids (λ (x : LiveRowset). x.table.0 ∷ x.rowset.0 ∷ []) (λ x y. refl) l i d h (rw e up)
+module _ (l : List RowsetIds) (i : ℕ) (d : RowsetIds) (h : i < length l) where
+  pub rowset-next : (m : List RowsetIds) → l ≡ m → ascending pair_ids m ≡ true → AtEnd by_ids (map rowset_entry (take i l)) (rowset_entry (get_or l i d))
+  rowset-next m e up = at-place rowset_entry by_ids pair_ids (λ x y. refl) l i d h (rw e up)
 
-  pub rowset-more : (m : List LiveRowset) → l ≡ m → ascending (λ (x : LiveRowset). x.table.0 ∷ x.rowset.0 ∷ []) m ≡ true
+  pub rowset-more : (m : List RowsetIds) → l ≡ m → ascending pair_ids m ≡ true
       → (a b : List Entry) → a ≡ map rowset_entry (take i l) → b ≡ put by_ids (rowset_entry (get_or l i d)) a → b ≡ map rowset_entry (take (i + 1) l)
   rowset-more m e up a b f g =
       g ∙ ap (put by_ids (rowset_entry (get_or l i d))) f ∙ (rowset-next m e up).appended
-      ∙ sym (taken-more rowset_entry by_ids (λ (x : LiveRowset). x.table.0 ∷ x.rowset.0 ∷ []) (λ x y. refl) l i d h)
+      ∙ sym (taken-more rowset_entry by_ids pair_ids (λ x y. refl) l i d h)
 
 -- the next live vector, after those that were put in: it is put in where its rowset is live
-module _ (ls : List LiveRowset) (l : List LiveVector) (i : ℕ) (d : LiveVector) (h : i < length l) where
-  pub vector-next : (m : List LiveVector) → l ≡ m → ascending (λ (x : LiveVector). x.table.0 ∷ x.rowset.0 ∷ x.vector.0 ∷ []) m ≡ true
+module _ (ls : List RowsetIds) (l : List VectorIds) (i : ℕ) (d : VectorIds) (h : i < length l) where
+  pub vector-next : (m : List VectorIds) → l ≡ m → ascending vector_ids m ≡ true
       → AtEnd by_ids (keep (has_rowset (map rowset_entry ls)) (map vector_entry (take i l))) (vector_entry (get_or l i d))
-  vector-next m e up = kept-at-place vector_entry by_ids (λ (x : LiveVector). x.table.0 ∷ x.rowset.0 ∷ x.vector.0 ∷ []) (λ x y. refl) l i d h (rw e up) (has_rowset (map rowset_entry ls))
+  vector-next m e up = kept-at-place vector_entry by_ids vector_ids (λ x y. refl) l i d h (rw e up) (has_rowset (map rowset_entry ls))
 
-  module _ (t b : Bool) (e : t ≡ has (λ (y : LiveRowset). y.table.0 ∷ y.rowset.0 ∷ []) ((get_or l i d).table.0 ∷ (get_or l i d).rowset.0 ∷ []) ls) (f : t ≡ b) where
+  module _ (t b : Bool) (e : t ≡ has pair_ids ((get_or l i d).table.0 ∷ (get_or l i d).rowset.0 ∷ []) ls) (f : t ≡ b) where
     more : keep (has_rowset (map rowset_entry ls)) (map vector_entry (take (i + 1) l)) ≡ keep (has_rowset (map rowset_entry ls)) (map vector_entry (take i l)) ++ cond b (vector_entry (get_or l i d) ∷ []) []
-    more = keep-more vector_entry by_ids (λ (x : LiveVector). x.table.0 ∷ x.rowset.0 ∷ x.vector.0 ∷ []) (λ x y. refl) l i d h (has_rowset (map rowset_entry ls)) b (has-rowset ls (get_or l i d) ∙ sym e ∙ f)
+    more = keep-more vector_entry by_ids vector_ids (λ x y. refl) l i d h (has_rowset (map rowset_entry ls)) b (has-rowset ls (get_or l i d) ∙ sym e ∙ f)
 
-  pub vector-more : (m : List LiveVector) → l ≡ m → ascending (λ (x : LiveVector). x.table.0 ∷ x.rowset.0 ∷ x.vector.0 ∷ []) m ≡ true
-      → (t : Bool) → t ≡ has (λ (y : LiveRowset). y.table.0 ∷ y.rowset.0 ∷ []) ((get_or l i d).table.0 ∷ (get_or l i d).rowset.0 ∷ []) ls → t ≡ true
+  pub vector-more : (m : List VectorIds) → l ≡ m → ascending vector_ids m ≡ true
+      → (t : Bool) → t ≡ has pair_ids ((get_or l i d).table.0 ∷ (get_or l i d).rowset.0 ∷ []) ls → t ≡ true
       → (a b : List Entry) → a ≡ keep (has_rowset (map rowset_entry ls)) (map vector_entry (take i l)) → b ≡ put by_ids (vector_entry (get_or l i d)) a
       → b ≡ keep (has_rowset (map rowset_entry ls)) (map vector_entry (take (i + 1) l))
   vector-more m e up t f g a b q r = r ∙ ap (put by_ids (vector_entry (get_or l i d))) q ∙ (vector-next m e up).appended ∙ sym (more t true f g)
 
-  pub vector-less : (t : Bool) → t ≡ has (λ (y : LiveRowset). y.table.0 ∷ y.rowset.0 ∷ []) ((get_or l i d).table.0 ∷ (get_or l i d).rowset.0 ∷ []) ls → t ≡ false
+  pub vector-less : (t : Bool) → t ≡ has pair_ids ((get_or l i d).table.0 ∷ (get_or l i d).rowset.0 ∷ []) ls → t ≡ false
       → (a : List Entry) → a ≡ keep (has_rowset (map rowset_entry ls)) (map vector_entry (take i l)) → a ≡ keep (has_rowset (map rowset_entry ls)) (map vector_entry (take (i + 1) l))
   vector-less t f g a q = q ∙ sym (more t false f g ∙ append-nil (keep (has_rowset (map rowset_entry ls)) (map vector_entry (take i l))))

@@ -6,10 +6,11 @@ use Rattle.lists.proofs.Keyed.{any_of-map}
 use Rattle.ids.specs.Names.{name_of}
 use Rattle.snapshot.specs.Entries.{by_ids}
 use Rattle.snapshot.specs.Tables.{TableEntry, by_table, name_taken}
+use Rattle.snapshot.specs.Views.{pair_ids, vector_ids}
+use Rattle.snapshot.specs.declared.rowsets.RowsetIds.{RowsetIds}
+use Rattle.snapshot.specs.declared.vectors.VectorIds.{VectorIds}
 use Rattle.version_state.specs.Sound.{has_table, has_rowset}
 use Rattle.replay.specs.declared.sets.LiveTable.{LiveTable}
-use Rattle.replay.specs.declared.sets.LiveRowset.{LiveRowset}
-use Rattle.replay.specs.declared.sets.LiveVector.{LiveVector}
 use Rattle.replay.specs.Sets.{table_entry, rowset_entry, vector_entry}
 use Rattle.replay.proofs.Maps.{map-put, map-without}
 
@@ -27,24 +28,24 @@ module _ (l : List LiveTable) where
   table-without k = sym (map-without table_entry (λ (x : LiveTable). x.table.0 ∷ []) by_table k k (λ u. refl) l)
 
 -- whether each rowset has its table
-pub has-tables : (ts : List LiveTable) (l : List LiveRowset) → all_of (has_table (map table_entry ts)) (map rowset_entry l) ≡ all_of (λ (x : LiveRowset). has (λ (y : LiveTable). y.table.0 ∷ []) (x.table.0 ∷ []) ts) l
+pub has-tables : (ts : List LiveTable) (l : List RowsetIds) → all_of (has_table (map table_entry ts)) (map rowset_entry l) ≡ all_of (λ (x : RowsetIds). has (λ (y : LiveTable). y.table.0 ∷ []) (x.table.0 ∷ []) ts) l
 has-tables ts [] = refl
 has-tables ts (x ∷ l) = rw (table-has, has-tables ts l) refl
 
-module _ (l : List LiveRowset) where
-  pub rowset-put : (x : LiveRowset) → map rowset_entry (put (λ (x : LiveRowset). x.table.0 ∷ x.rowset.0 ∷ []) x l) ≡ put by_ids (rowset_entry x) (map rowset_entry l)
-  rowset-put x = sym (map-put rowset_entry (λ (x : LiveRowset). x.table.0 ∷ x.rowset.0 ∷ []) by_ids (λ u v. refl) (λ u v. refl) x l)
+module _ (l : List RowsetIds) where
+  pub rowset-put : (x : RowsetIds) → map rowset_entry (put pair_ids x l) ≡ put by_ids (rowset_entry x) (map rowset_entry l)
+  rowset-put x = sym (map-put rowset_entry pair_ids by_ids (λ u v. refl) (λ u v. refl) x l)
 
-  pub rowset-without : (k : List ℕ) → map rowset_entry (without (λ (x : LiveRowset). x.table.0 ∷ x.rowset.0 ∷ []) k l) ≡ without by_ids k (map rowset_entry l)
-  rowset-without k = sym (map-without rowset_entry (λ (x : LiveRowset). x.table.0 ∷ x.rowset.0 ∷ []) by_ids k k (λ u. refl) l)
+  pub rowset-without : (k : List ℕ) → map rowset_entry (without pair_ids k l) ≡ without by_ids k (map rowset_entry l)
+  rowset-without k = sym (map-without rowset_entry pair_ids by_ids k k (λ u. refl) l)
 
-module _ (l : List LiveVector) where
-  pub vector-put : (x : LiveVector) → map vector_entry (put (λ (x : LiveVector). x.table.0 ∷ x.rowset.0 ∷ x.vector.0 ∷ []) x l) ≡ put by_ids (vector_entry x) (map vector_entry l)
-  vector-put x = sym (map-put vector_entry (λ (x : LiveVector). x.table.0 ∷ x.rowset.0 ∷ x.vector.0 ∷ []) by_ids (λ u v. refl) (λ u v. refl) x l)
+module _ (l : List VectorIds) where
+  pub vector-put : (x : VectorIds) → map vector_entry (put vector_ids x l) ≡ put by_ids (vector_entry x) (map vector_entry l)
+  vector-put x = sym (map-put vector_entry vector_ids by_ids (λ u v. refl) (λ u v. refl) x l)
 
-  pub vector-without : (k : List ℕ) → map vector_entry (without (λ (x : LiveVector). x.table.0 ∷ x.rowset.0 ∷ x.vector.0 ∷ []) k l) ≡ without by_ids k (map vector_entry l)
-  vector-without k = sym (map-without vector_entry (λ (x : LiveVector). x.table.0 ∷ x.rowset.0 ∷ x.vector.0 ∷ []) by_ids k k (λ u. refl) l)
+  pub vector-without : (k : List ℕ) → map vector_entry (without vector_ids k l) ≡ without by_ids k (map vector_entry l)
+  vector-without k = sym (map-without vector_entry vector_ids by_ids k k (λ u. refl) l)
 
 -- whether a vector's rowset is live
-pub has-rowset : (l : List LiveRowset) (x : LiveVector) → has_rowset (map rowset_entry l) (vector_entry x) ≡ has (λ (y : LiveRowset). y.table.0 ∷ y.rowset.0 ∷ []) (x.table.0 ∷ x.rowset.0 ∷ []) l
+pub has-rowset : (l : List RowsetIds) (x : VectorIds) → has_rowset (map rowset_entry l) (vector_entry x) ≡ has pair_ids (x.table.0 ∷ x.rowset.0 ∷ []) l
 has-rowset l x = any_of-map rowset_entry (is_at by_ids (x.table.0 ∷ x.rowset.0 ∷ [])) l

@@ -21,10 +21,9 @@ use Rattle.manifest.proofs.Split.{lines-from-start}
 use Rattle.manifest_lines.specs.declared.ManifestLines.{ManifestLines}
 use Rattle.manifest_lines.specs.Reader.{NextLine}
 use Rattle.snapshot.specs.Entries.{Entry, by_ids}
+use Rattle.snapshot.specs.Views.{pair_ids, vector_ids}
 use Rattle.version_state.specs.State.{State, with_pairs, with_vectors}
 use Rattle.replay.specs.declared.frame.Begun.{Begun}
-use Rattle.replay.specs.declared.sets.LiveRowset.{LiveRowset}
-use Rattle.replay.specs.declared.sets.LiveVector.{LiveVector}
 use Rattle.replay.specs.declared.sets.Sets.{Sets}
 use Rattle.replay.specs.Replay.{Frame, none, Carried, carried, at_start, framed, stands, settled, over_limit, limited, ended, line_read, lines_read}
 use Rattle.replay.specs.Sets.{table_entry, rowset_entry, vector_entry, state_in, RoomFor, framed_lightly}
@@ -41,8 +40,8 @@ keep-mapped f h (x ∷ l) = rw (h x) (ap (λ (m : List Entry). f x ∷ m) (keep-
 module _ (l : Sets) where
   rising-in : Rising (state_in l)
   rising-in = record {
-    pairs = ascending-mapped rowset_entry (λ (x : LiveRowset). x.table.0 ∷ x.rowset.0 ∷ []) by_ids (λ x y. refl) l.rowsets (ascend-to (λ (x : LiveRowset). x.table.0 ∷ x.rowset.0 ∷ []) l.rowsets l.rowsets_rise);
-    vectors = ascending-mapped vector_entry (λ (x : LiveVector). x.table.0 ∷ x.rowset.0 ∷ x.vector.0 ∷ []) by_ids (λ x y. refl) l.vectors (ascend-to (λ (x : LiveVector). x.table.0 ∷ x.rowset.0 ∷ x.vector.0 ∷ []) l.vectors l.vectors_rise);
+    pairs = ascending-mapped rowset_entry pair_ids by_ids (λ x y. refl) l.rowsets (ascend-to pair_ids l.rowsets l.rowsets_rise);
+    vectors = ascending-mapped vector_entry vector_ids by_ids (λ x y. refl) l.vectors (ascend-to vector_ids l.vectors l.vectors_rise);
   }
 
   settled-in : settled (state_in l) ≡ state_in l

@@ -9,22 +9,23 @@ use Rattle.ids.specs.declared.refusal.Refusal.TheVariants.{TableConflict}
 use Rattle.manifest.specs.Operations.{Operation}
 use Rattle.snapshot.specs.Entries.{Entry, added_at, by_ids}
 use Rattle.snapshot.specs.Tables.{TableEntry, created}
+use Rattle.snapshot.specs.Views.{pair_ids, vector_ids}
+use Rattle.snapshot.specs.declared.rowsets.RowsetIds.{RowsetIds}
+use Rattle.snapshot.specs.declared.vectors.VectorIds.{VectorIds}
 use Rattle.version_state.specs.State.{State}
 use Rattle.operations.specs.Effect.{edited, edited_by, raise}
 use Rattle.replay.specs.declared.sets.LiveTable.{LiveTable}
-use Rattle.replay.specs.declared.sets.LiveRowset.{LiveRowset}
-use Rattle.replay.specs.declared.sets.LiveVector.{LiveVector}
 use Rattle.replay.specs.declared.sets.Sets.{Sets}
 use Rattle.replay.specs.Replay.{reopened, conflicts}
 
 abbrev pub table_entry : LiveTable → TableEntry
 table_entry x = created x.table.0 x.shape (name_of x.name)
 
-abbrev pub rowset_entry : LiveRowset → Entry
-rowset_entry x = added_at reopened (x.table.0 ∷ x.rowset.0 ∷ [])
+abbrev pub rowset_entry : RowsetIds → Entry
+rowset_entry x = added_at reopened (pair_ids x)
 
-abbrev pub vector_entry : LiveVector → Entry
-vector_entry x = added_at reopened (x.table.0 ∷ x.rowset.0 ∷ x.vector.0 ∷ [])
+abbrev pub vector_entry : VectorIds → Entry
+vector_entry x = added_at reopened (vector_ids x)
 
 abbrev pub state_in : Sets → State
 state_in l =

@@ -7,11 +7,13 @@ ghost use Rattle.manifest.specs.Operations.{create_table, drop_table, operation_
 ghost use Rattle.snapshot.specs.Tables.{by_table, name_taken};
 ghost use Rattle.replay.specs.Sets.{state_in, RoomFor, one_of, left_by};
 
-use crate::sets::{LiveRowset, LiveTable, LiveVector, Sets};
+use crate::sets::{LiveTable, Sets};
 use ids::name::Name;
 use ids::refusal::Refusal;
 use ids::{RowsetNo, TableNo, VectorNo};
 use manifest::operation::EpochOp;
+use snapshot::rowsets::RowsetIds;
+use snapshot::vectors::VectorIds;
 
 // What puts an entry in asks for the room of one: see `Sets`.
 impl Sets {
@@ -25,7 +27,7 @@ impl Sets {
     fn clashes(&self, x: LiveTable) -> bool
         ensures { result ≡ has by_table (x.table.0 ∷ []) (state_in self.now).tables || name_taken (name_of x.name) (state_in self.now).tables }
     {
-        self.tables.holds(x.table.0) || self.name_taken(x.name)
+        self.tables.holds(x.table) || self.name_taken(x.name)
     }
 
     // `T`.
@@ -46,10 +48,10 @@ impl Sets {
     fn drop(&mut self, line: usize, table: TableNo) -> Result<(), Refusal>
         ensures { (one_of line (drop_table table.0) (state_in self.old)) ≡ left_by result self.new }
     {
-        if !self.tables.holds(table.0) {
+        if !self.tables.holds(table) {
             return Err(Refusal::TableConflict(line));
         }
-        self.tables.remove(table.0);
+        self.tables.remove(table);
         Ok(())
     }
 
@@ -65,12 +67,14 @@ impl Sets {
             }
             EpochOp::DropTable(table) => return self.drop(line, table),
             EpochOp::AddRowSet(table, rowset) => {
-                self.rowsets.put(LiveRowset { table, rowset });
+                self.rowsets.put(RowsetIds { table, rowset });
                 self.next.rowset = RowsetNo(self.next.rowset.0.max(rowset.0 + 1));
             }
-            EpochOp::DeleteRowSet(table, rowset) => self.rowsets.remove((table.0, rowset.0)),
+            EpochOp::DeleteRowSet(table, rowset) => self
+                .rowsets
+                .remove(RowsetIds { table, rowset }),
             EpochOp::AddDV(table, rowset, vector) => {
-                self.vectors.put(LiveVector {
+                self.vectors.put(VectorIds {
                     table,
                     rowset,
                     vector,
@@ -78,7 +82,11 @@ impl Sets {
                 self.next.vector = VectorNo(self.next.vector.0.max(vector.0 + 1));
             }
             EpochOp::DeleteDV(table, rowset, vector) => {
-                self.vectors.remove((table.0, rowset.0, vector.0));
+                self.vectors.remove(VectorIds {
+                    table,
+                    rowset,
+                    vector,
+                });
             }
             EpochOp::NextIds(table, rowset, vector) => {
                 self.next.table = self.next.table.max(table);

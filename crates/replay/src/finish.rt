@@ -10,6 +10,7 @@ ghost use Rattle.replay.specs.Sets.{table_entry, rowset_entry, vector_entry, sta
 
 use crate::sets::Sets;
 use ids::refusal::Refusal;
+use snapshot::held::HeldColumns;
 use snapshot::rowsets::Rowsets;
 use snapshot::tables::Tables;
 use snapshot::vectors::Vectors;
@@ -35,7 +36,7 @@ impl Sets {
     {
         let mut out = Rowsets::none();
         for (at, x) in self.rowsets.as_slice().iter().enumerate() {
-            out.insert(at, x.table, x.rowset, 1);
+            out.insert(at, *x, 1);
         }
         out
     }
@@ -48,9 +49,9 @@ impl Sets {
     {
         let mut out = Vectors::none();
         for x in self.vectors.as_slice() {
-            if self.rowsets.holds((x.table.0, x.rowset.0)) {
+            if self.rowsets.holds(x.pair()) {
                 let at = out.count;
-                out.insert(at, x.table, x.rowset, x.vector, 1);
+                out.insert(at, *x, 1);
             }
         }
         out
@@ -63,7 +64,7 @@ impl Sets {
         self.rowsets
             .as_slice()
             .iter()
-            .all(|x| self.tables.holds(x.table.0))
+            .all(|x| self.tables.holds(x.table))
     }
 
     // Room for a frame, so that each list is within what may be held: see `Sets`.

@@ -1,13 +1,15 @@
 // What a replay has read so far: the live tables, rowsets and vectors, each in a sorted list, and the next ids.
 ghost use Rattle.std.specs.Prelude.{◌≡◌, ◌∷◌, [], true};
 ghost use Rattle.lists.proofs.Compared.{compared-one};
-ghost use Rattle.replay_lists.proofs.Compared.{compared_two, compared_three};
 ghost use Rattle.lists.specs.Keyed.{ascending};
+ghost use Rattle.snapshot.specs.Views.{pair_ids, vector_ids};
 
+use ids::TableNo;
 use ids::limits::{MOST_HELD, MOST_OPERATIONS, MOST_TABLES};
 use ids::name::Name;
-use ids::{RowsetNo, TableNo, VectorNo};
 use replay_lists::{Keyed, SortedList};
+use snapshot::rowsets::RowsetIds;
+use snapshot::vectors::VectorIds;
 use version_state::NextIds;
 
 // A list has room for what may be held, and for a frame's operations on top.
@@ -22,59 +24,17 @@ pub struct LiveTable {
     pub name: Name,
 }
 
-#[derive(Clone, Copy, Default)]
-pub struct LiveRowset {
-    pub table: TableNo,
-    pub rowset: RowsetNo,
-}
-
-// The ids of one vector. `NextIds` has the same fields for ids to come: one type for both would be no plainer.
-#[derive(Clone, Copy, Default)]
-pub struct LiveVector {
-    pub table: TableNo,
-    pub rowset: RowsetNo,
-    pub vector: VectorNo,
-}
-
 impl Keyed for LiveTable {
-    type Key = u32;
+    type Key = TableNo;
 
-    ghost key = { λ x. x.table.0 };
+    ghost key = { λ x. x.table };
 
-    ghost numbers = { λ k. k ∷ [] };
+    ghost numbers = { λ k. k.0 ∷ [] };
 
-    ghost in_order = { compared-one };
+    ghost in_order = { λ a b. compared-one a.0 b.0 };
 
-    fn key(&self) -> u32 {
-        self.table.0
-    }
-}
-
-impl Keyed for LiveRowset {
-    type Key = (u32, u32);
-
-    ghost key = { λ x. (x.table.0, x.rowset.0) };
-
-    ghost numbers = { λ k. k.0 ∷ k.1 ∷ [] };
-
-    ghost in_order = { compared_two };
-
-    fn key(&self) -> (u32, u32) {
-        (self.table.0, self.rowset.0)
-    }
-}
-
-impl Keyed for LiveVector {
-    type Key = (u32, u32, u64);
-
-    ghost key = { λ x. (x.table.0, x.rowset.0, x.vector.0) };
-
-    ghost numbers = { λ k. k.0 ∷ k.1 ∷ k.2 ∷ [] };
-
-    ghost in_order = { compared_three };
-
-    fn key(&self) -> (u32, u32, u64) {
-        (self.table.0, self.rowset.0, self.vector.0)
+    fn key(&self) -> TableNo {
+        self.table
     }
 }
 
@@ -84,12 +44,12 @@ impl Keyed for LiveVector {
 #[derive(Drop)]
 pub struct Sets {
     pub tables: SortedList<LiveTable, TABLE_ROOM>,
-    pub rowsets: SortedList<LiveRowset, HELD_ROOM>,
-    pub vectors: SortedList<LiveVector, HELD_ROOM>,
+    pub rowsets: SortedList<RowsetIds, HELD_ROOM>,
+    pub vectors: SortedList<VectorIds, HELD_ROOM>,
     pub next: NextIds,
     ghost tables_rise: { ascending (λ x. x.table.0 ∷ []) tables ≡ true },
-    ghost rowsets_rise: { ascending (λ x. x.table.0 ∷ x.rowset.0 ∷ []) rowsets ≡ true },
-    ghost vectors_rise: { ascending (λ x. x.table.0 ∷ x.rowset.0 ∷ x.vector.0 ∷ []) vectors ≡ true },
+    ghost rowsets_rise: { ascending pair_ids rowsets ≡ true },
+    ghost vectors_rise: { ascending vector_ids vectors ≡ true },
 }
 
 impl Sets {
@@ -97,6 +57,7 @@ impl Sets {
     ghost use Rattle.replay.specs.Replay.{at_start};
     ghost use Rattle.replay.specs.Sets.{state_in, RoomFor};
 
+    // Other lists than those of `VersionManagerInner::fresh`: one function would be no plainer.
     pub fn new() -> Sets
         ensures start { state_in result ≡ at_start.state }
         ensures room { RoomFor most_operations result }
@@ -105,11 +66,7 @@ impl Sets {
             tables: SortedList::new(),
             rowsets: SortedList::new(),
             vectors: SortedList::new(),
-            next: NextIds {
-                table: TableNo(0),
-                rowset: RowsetNo(0),
-                vector: VectorNo(0),
-            },
+            next: NextIds::default(),
         }
     }
 }

@@ -7,7 +7,7 @@ use Rattle.std.specs.Ordering.{ordering_index}
 use Rattle.std.specs.declared.cmp.Ordering.{Ordering}
 use Rattle.std.specs.declared.cmp.Ordering.TheVariants.{Less, Equal, Greater}
 use Rattle.lists.specs.Order.{less, same, compared}
-use Rattle.lists.specs.Keyed.{has, rank, put, without, ascending}
+use Rattle.lists.specs.Keyed.{rank, put, without, ascending}
 use Rattle.lists.specs.Places.{insert_at, remove_at}
 use Rattle.lists.proofs.Tests.{by_cases, clash}
 use Rattle.lists.proofs.Order.{less-irrefl, less-trans, less-asym, same_true, same_refl}

@@ -9,6 +9,8 @@ ghost use Rattle.replay_lists.specs.Entries.{by, StandsAt, MissingAt};
 use arrayvec::ArrayVec;
 use std::marker::Model;
 
+mod own_keys;
+
 // What has a key: some numbers, and keys are in the order of these.
 pub trait Keyed {
     type Key: Ord + Copy;
@@ -67,6 +69,7 @@ impl<T: Keyed, const N: usize> SortedList<T, N> {
         self.as_slice().binary_search_by_key(&key, |x| x.key())
     }
 
+    // One call, as `HeldColumns::holds` of `snapshot` is: sharing it would be no plainer.
     pub fn holds(&self, key: T::Key) -> bool
         ensures { result ≡ has (by T.numbers T.key) (T.numbers key) self.now }
     {

@@ -18,11 +18,11 @@ insert-requires-clause-place c =
 pub loop-x-preserved : goal.loop-x-preserved
 loop-x-preserved c = elim c.if-holds.branch [
   | then-holds w ↦ record {
-    told = rw w.out-is (vector-more _ _ _ _ c.loop-x-test.true _ c.as_slice-x-items.ensures.all c.as_slice-x-items.ensures.rising _ c.holds.ensures w.if-holds.true _ _ c.loop-x.invariant.told w.insert.ensures.told);
+    told = rw w.out-is (vector-more _ _ _ _ c.loop-x-test.true _ c.as_slice-x-items.ensures.all c.as_slice-x-items.ensures.rising _ (rw c.pair.ensures at c.holds.ensures) w.if-holds.true _ _ c.loop-x.invariant.told w.insert.ensures.told);
     count = rw w.out-is (omega (arith, w.insert.ensures.count, c.loop-x.invariant.count));
   }
   | else-holds w ↦ record {
-    told = rw w.out-is (vector-less _ _ _ _ c.loop-x-test.true _ c.holds.ensures w.if-holds.false _ c.loop-x.invariant.told);
+    told = rw w.out-is (vector-less _ _ _ _ c.loop-x-test.true _ (rw c.pair.ensures at c.holds.ensures) w.if-holds.false _ c.loop-x.invariant.told);
     count = rw w.out-is (omega (arith, c.loop-x.invariant.count));
   }
 ]
