@@ -19,6 +19,8 @@ use ids::limits::{LAST_EPOCH, LINE_BYTES, LONGEST_MANIFEST, MOST_HELD, MOST_OPER
 use ids::refusal::Refusal;
 use ids::{RowsetNo, TableNo};
 use manifest::operation::EpochOp;
+use snapshot::held::HeldColumns;
+use snapshot::rowsets::RowsetIds;
 use version_state::sound::SoundState;
 
 mod over;
@@ -69,7 +71,10 @@ impl Compaction<'_> {
         if self.new.is_some_and(|r| inner.next.rowset <= r) {
             return Err(Refusal::IdNotDrawn(0));
         }
-        if self.new.is_some_and(|r| inner.rowsets.holds(table, r)) {
+        if self
+            .new
+            .is_some_and(|rowset| inner.rowsets.holds(RowsetIds { table, rowset }))
+        {
             return Err(Refusal::StillHeld(0));
         }
         if LAST_EPOCH <= inner.epoch {

@@ -10,6 +10,7 @@ use crate::Compaction;
 use frames::Lines;
 use ids::limits::LINE_BYTES;
 use manifest::operation::EpochOp;
+use snapshot::held::HeldColumns;
 
 impl Compaction<'_> {
     // How many the epoch shows.
@@ -20,11 +21,11 @@ impl Compaction<'_> {
             .inner
             .vectors
             .shown_of(self.table, self.state.inner.epoch)
-            .filter(|v| self.takes(v.rowset))
+            .filter(|v| self.takes(v.ids.rowset))
             .count()
     }
 
-    // Their `W` lines.
+    // Their `W` lines. The filter is written again: its type has no name that a method could answer.
     pub(crate) fn put_over(&self, lines: &mut Lines<LINE_BYTES>)
         requires room { length lines.old + longest_line * length (keep (is_over self.now.table.0 self.now.taken.now) (vectors_at self.now.state.inner.now.epoch (state_of self.now.state.inner.now))) ≤ most_operations * longest_line }
         ensures added { lines.new ≡ lines.old ++ texts_of (map delete_vector_of (keep (is_over self.now.table.0 self.now.taken.now) (vectors_at self.now.state.inner.now.epoch (state_of self.now.state.inner.now)))) }
@@ -35,9 +36,9 @@ impl Compaction<'_> {
             .inner
             .vectors
             .shown_of(self.table, self.state.inner.epoch)
-            .filter(|v| self.takes(v.rowset));
+            .filter(|v| self.takes(v.ids.rowset));
         for v in over {
-            lines.put_line(EpochOp::DeleteDV(v.table, v.rowset, v.vector));
+            lines.put_line(EpochOp::DeleteDV(v.ids.table, v.ids.rowset, v.ids.vector));
         }
     }
 }

@@ -14,6 +14,8 @@ use frames::Lines;
 use ids::RowsetNo;
 use ids::limits::LINE_BYTES;
 use manifest::operation::EpochOp;
+use snapshot::held::HeldColumns;
+use snapshot::rowsets::RowsetIds;
 
 // Ids, each above the one before it.
 pub(crate) fn rising(taken: &[u32]) -> bool
@@ -35,7 +37,13 @@ impl Compaction<'_> {
         ensures { result ≡ all_of (λ x. is_shown self.now.state.inner.now.epoch (self.now.table.0 ∷ x ∷ []) (rowsets_of self.now.state.inner.now.rowsets)) self.now.taken.now }
     {
         let inner = self.state.inner;
-        self.taken.iter().all(|x| inner.rowsets.shows(self.table, RowsetNo(*x), inner.epoch))
+        self.taken.iter().all(|x| {
+            let pair = RowsetIds {
+                table: self.table,
+                rowset: RowsetNo(*x),
+            };
+            inner.rowsets.shows(pair, inner.epoch)
+        })
     }
 
     // Their `D` lines.

@@ -9,7 +9,8 @@ use Rattle.std.specs.List.{zip}
 use Rattle.std.proofs.lemmas.List.{length_push}
 use Rattle.lists.proofs.Views.{map-append}
 use Rattle.snapshot.specs.Entries.{Entry}
-use Rattle.snapshot.specs.declared.rowsets.HeldRowset.{HeldRowset}
+use Rattle.snapshot.specs.declared.held.Held.{Held}
+use Rattle.snapshot.specs.declared.rowsets.RowsetIds.{RowsetIds}
 use Rattle.compactor.specs.Selection.{Sized, sized_as, taken, sized}
 use Rattle.compactor.specs.Laws.{total}
 use Rattle.compactor.proofs.Laws.{taken-fitting, taken-unfitting}
@@ -21,8 +22,8 @@ abbrev pub rowset_at : Entry → ℕ
 rowset_at x = get_or x.ids 1 0
 
 -- a rowset and its size, as a turn sees them
-abbrev pub seen : HeldRowset × Bor ℕ → Sized
-seen p = sized_as p.0.rowset.0 p.1.now
+abbrev pub seen : Held RowsetIds × Bor ℕ → Sized
+seen p = sized_as p.0.ids.rowset.0 p.1.now
 
 total-snoc : (l : List Sized) (x : Sized) → total (l ++ (x ∷ [])) ≡ total l + x.size
 total-snoc [] x = omega arith

@@ -3,7 +3,7 @@
 
 ghost use Rattle.std.specs.Prelude.{◌≡◌, cond, ◌≤◌, [], map, leb, length, get_or};
 ghost use Rattle.ids.specs.Limits.{most_held};
-ghost use Rattle.snapshot.specs.Shown.{shown_rowsets};
+ghost use Rattle.snapshot.specs.Passing.{to_come};
 ghost use Rattle.version_state.specs.State.{state_of};
 ghost use Rattle.compactor.specs.Selection.{taken, sized};
 ghost use Rattle.compactor.specs.Says.{SelectIs};
@@ -13,7 +13,10 @@ use arrayvec::ArrayVec;
 use ids::TableNo;
 use ids::limits::MOST_HELD;
 use ids::refusal::Refusal;
-use snapshot::epoch::ShownRowsets;
+use snapshot::epoch::ShownBy;
+use snapshot::held::HeldColumns;
+use snapshot::passing::Passing;
+use snapshot::rowsets::Rowsets;
 use version_state::sound::SoundState;
 
 // The laws of what is taken.
@@ -23,15 +26,19 @@ pub fn holds()
 
 // Internal, as is all that follows. Of the rowsets with their sizes, those that are taken. What is left of the target is counted down, so that no
 // sum of sizes can overflow.
-fn take(shown: ShownRowsets<'_>, sizes: &[u64], target: u64) -> ArrayVec<u32, MOST_HELD>
+fn take(
+    shown: Passing<'_, Rowsets, ShownBy>,
+    sizes: &[u64],
+    target: u64,
+) -> ArrayVec<u32, MOST_HELD>
     requires { length sizes.now ≤ most_held }
-    ensures { result.items ≡ map (λ x. x.rowset) (taken target (sized (map (λ x. get_or x.ids 1 0) (shown_rowsets shown.entry)) sizes.now)) }
+    ensures { result.items ≡ map (λ x. x.rowset) (taken target (sized (map (λ x. get_or x.ids 1 0) (to_come shown.entry)) sizes.now)) }
 {
     let mut left = target;
     let mut chosen = ArrayVec::new();
     for (rowset, size) in shown.zip(sizes.iter()) {
         if *size <= left {
-            chosen.push(rowset.rowset.0);
+            chosen.push(rowset.ids.rowset.0);
             left -= *size;
         }
     }

@@ -18,6 +18,7 @@ use ids::limits::LONGEST_REWRITTEN;
 use ids::name::Name;
 use ids::refusal::Refusal;
 use manifest::operation::EpochOp;
+use snapshot::held::HeldColumns;
 use version_state::{NextIds, VersionManagerInner};
 
 // A rewritten manifest never has more bytes than the longest one.
@@ -51,15 +52,15 @@ fn put_tables(inner: &VersionManagerInner, lines: &mut Lines<LONGEST_REWRITTEN>)
     }
 }
 
-// The `A` lines of what is shown now. Its own loop: a shared one, handed the operations, would not know how long their lines are, and
-// be no plainer.
+// The `A` lines of what is shown now. Its own loop: a shared one, handed the operations, would want a clause on how long their lines are,
+// and be no plainer.
 fn put_pairs(inner: &VersionManagerInner, lines: &mut Lines<LONGEST_REWRITTEN>)
     requires fits { Fit inner.now }
     requires room { length lines.old + longest_add * most_held ≤ longest_rewritten }
     ensures { (lines.new ≡ lines.old ++ texts_of (map add_of (pairs_at inner.now.epoch (state_of inner.now)))) × (length lines.new ≤ length lines.old + longest_add * most_held) }
 {
     for r in inner.rowsets.shown(inner.epoch) {
-        lines.put_line(EpochOp::AddRowSet(r.table, r.rowset));
+        lines.put_line(EpochOp::AddRowSet(r.ids.table, r.ids.rowset));
     }
 }
 
@@ -70,7 +71,7 @@ fn put_vectors(inner: &VersionManagerInner, lines: &mut Lines<LONGEST_REWRITTEN>
     ensures { (lines.new ≡ lines.old ++ texts_of (map add_vector_of (vectors_at inner.now.epoch (state_of inner.now)))) × (length lines.new ≤ length lines.old + longest_add_vector * most_held) }
 {
     for v in inner.vectors.shown(inner.epoch) {
-        lines.put_line(EpochOp::AddDV(v.table, v.rowset, v.vector));
+        lines.put_line(EpochOp::AddDV(v.ids.table, v.ids.rowset, v.ids.vector));
     }
 }
 

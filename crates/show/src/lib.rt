@@ -13,6 +13,7 @@ ghost use Rattle.show.specs.Says.{ShowPairsIs, ShowVectorsIs, ShowTablesIs};
 use ids::limits::LONGEST_NAME;
 use ids::refusal::Refusal;
 use pins::PinBook;
+use snapshot::held::HeldColumns;
 use version_state::sound::SoundState;
 
 // Refusals 28, 24 and 9, in this order.
@@ -47,8 +48,8 @@ pub fn show_pairs(
     let room = tables.len().min(rowsets.len());
     judge(inner.epoch, book, unseen, room < count)?;
     for (i, pair) in inner.rowsets.shown(epoch).enumerate() {
-        tables[i] = pair.table.0;
-        rowsets[i] = pair.rowset.0;
+        tables[i] = pair.ids.table.0;
+        rowsets[i] = pair.ids.rowset.0;
     }
     Ok(count)
 }
@@ -70,9 +71,9 @@ pub fn show_vectors(
     let room = tables.len().min(rowsets.len()).min(vectors.len());
     judge(inner.epoch, book, unseen, room < count)?;
     for (i, vector) in inner.vectors.shown(epoch).enumerate() {
-        tables[i] = vector.table.0;
-        rowsets[i] = vector.rowset.0;
-        vectors[i] = vector.vector.0;
+        tables[i] = vector.ids.table.0;
+        rowsets[i] = vector.ids.rowset.0;
+        vectors[i] = vector.ids.vector.0;
     }
     Ok(count)
 }

@@ -1,24 +1,27 @@
 -- The lines of a drop: how many bytes one has at most, and how many they are. Assumes nothing.
-use mathlib.Core.Bool.{Bool}
+use mathlib.Core.Path.{◌≡◌}
+use mathlib.Core.Bool.{Bool, true}
 use mathlib.Core.List.{[], ◌∷◌}
 use Prim.Native.Nat.{ℕ, ◌≤◌}
 use native.Mathlib.Omega.{arith}
+use borrow.Author.Tests.{ltb-true}
 use lib.ListN.{length}
 use Rattle.lists.specs.Keyed.{keep}
 use Rattle.lists.proofs.Keyed.{length-keep}
 use Rattle.columns.specs.Rows.{rows}
 use Rattle.rewrite.proofs.Lines.{kept-few}
-use Rattle.ids.specs.Ids.{largest32, largest64}
+use Rattle.ids.specs.Ids.{largest32, largest64, is_id32}
 use Rattle.ids.specs.Limits.{longest_line}
 use Rattle.manifest.specs.Operations.{drop_table, delete_rowset, delete_vector}
 use Rattle.manifest.proofs.Texts.{drop-room, delete-room, delete-vector-room}
 use Rattle.frames.specs.Frames.{texts_of}
 use Rattle.frames.proofs.Texts.{texts-cons}
 
--- of numbers of their widths, with its newline
-pub drop-line : (t : ℕ) → t ≤ largest32 → length (texts_of (drop_table t ∷ [])) ≤ longest_line
-drop-line t h = omega (arith, drop-room t h, texts-cons (drop_table t) [])
+-- of an id, with its newline
+pub drop-line : (t : ℕ) → is_id32 t ≡ true → length (texts_of (drop_table t ∷ [])) ≤ longest_line
+drop-line t h = let n = ltb-true t largest32 h in omega (arith, drop-room t (omega (arith, n)), texts-cons (drop_table t) [])
 
+-- of numbers of their widths, with its newline
 module _ (t r : ℕ) (p : t ≤ largest32) (q : r ≤ largest32) where
   pub delete-line : length (texts_of (delete_rowset t r ∷ [])) ≤ longest_line
   delete-line = omega (arith, delete-room t r p q, texts-cons (delete_rowset t r) [])

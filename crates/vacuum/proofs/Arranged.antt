@@ -24,7 +24,8 @@ use Rattle.pins.proofs.Seen.{before}
 use Rattle.snapshot.specs.Entries.{Entry, gone_by, by_deletion, entry_at}
 use Rattle.snapshot.specs.Views.{rowsets_of, rowset_of}
 use Rattle.snapshot.specs.declared.rowsets.Rowsets.{Rowsets}
-use Rattle.snapshot.specs.declared.rowsets.HeldRowset.{HeldRowset}
+use Rattle.snapshot.specs.declared.held.Held.{Held}
+use Rattle.snapshot.specs.declared.rowsets.RowsetIds.{RowsetIds}
 use Rattle.vacuum.specs.LetGo.{deletion_of}
 
 module _ {A : Type 0} (key : A → List ℕ) where
@@ -127,11 +128,11 @@ compared x y =
     ∙ ap (lex x.0 y.0) (lt-lex x.1 y.1 _ ∙ ap (lex x.1 y.1) (before x.2 y.2))
 
 -- a rowset as it is listed
-abbrev pub listed_as : HeldRowset → ℕ × ℕ × ℕ
+abbrev pub listed_as : Held RowsetIds → ℕ × ℕ × ℕ
 listed_as x = deletion_of (rowset_of x)
 
 -- what is gone, sorted, is the vacuum's list
-module _ (hs : List HeldRowset) (ks : List (ℕ × ℕ × ℕ)) (l : List Entry) (e : map rowset_of hs ≡ l) (p : IsPermutation (map listed_as hs) ks) (up : IsSortedBy sooner ks) where
+module _ (hs : List (Held RowsetIds)) (ks : List (ℕ × ℕ × ℕ)) (l : List Entry) (e : map rowset_of hs ≡ l) (p : IsPermutation (map listed_as hs) ks) (up : IsSortedBy sooner ks) where
   same-keys : map by_its ks ≡ map by_deletion (arranged by_deletion l)
   same-keys =
       sorted-alike by_its by_deletion ks (arranged by_deletion l)

@@ -17,6 +17,7 @@ use arrayvec::ArrayVec;
 use ids::limits::MOST_HELD;
 use ids::refusal::Refusal;
 use pins::PinBook;
+use snapshot::held::HeldColumns;
 use snapshot::rowsets::Rowsets;
 use version_state::VersionManagerInner;
 
@@ -42,7 +43,7 @@ fn listed(rowsets: &Rowsets, epoch: u32) -> ArrayVec<(u32, u32, u32), MOST_HELD>
 {
     let mut gone = ArrayVec::new();
     for rowset in rowsets.gone(epoch) {
-        gone.push((rowset.deleted, rowset.table.0, rowset.rowset.0));
+        gone.push((rowset.deleted, rowset.ids.table.0, rowset.ids.rowset.0));
     }
     gone.sort_unstable();
     gone

@@ -5,7 +5,7 @@ use lib.ListN.{length-map}
 use Rattle.std.proofs.lemmas.Iterator.Consumers.{YieldsList-from_first, count_from_yields_List}
 use Rattle.snapshot.specs.Entries.{Entry}
 use Rattle.snapshot.specs.Views.{rowset_of}
-use Rattle.snapshot.specs.Shown.{shown_rowsets}
+use Rattle.snapshot.specs.Passing.{to_come}
 use Rattle.version_state.specs.State.{state_of}
 use Rattle.version_state.proofs.Facts.{sound-of}
 use Rattle.compactor.specs.Selection.{taken, sized, rowsets_now, selected}
@@ -17,7 +17,7 @@ use Rattle.compactor.proofs.select.Goals.{After-count, After-compacted-chosen}
 -- how many are shown
 shown-count : (c : After-count) → c.count.result ≡ length (rowsets_now c.args.table.0 (state_of c.args.state.inner.now))
 shown-count c =
-    count_from_yields_List c.shown_of.result _ c.count.ensures.ran (YieldsList-from_first rowset_of shown_rowsets _ c.shown_of.ensures)
+    count_from_yields_List c.shown_of.result _ c.count.ensures.ran (YieldsList-from_first rowset_of to_come _ c.shown_of.ensures)
     ∙ sym (length-map _ rowset_at)
     ∙ ap length (rowsets-shown c.args.table.0 (state_of c.args.state.inner.now))
 

@@ -11,7 +11,7 @@ use Rattle.table.proofs.drop.Goals.{After-as_slice}
 
 left : (c : After-as_slice) → judged (drop_rules (state_of c.args.state.inner.now) c.args.table.0 c.args.room) ≡ judged (drop_left c.args.state.inner.now c.args.room (length c.as_slice.result.now))
 left c =
-    drop-judged c.args.state.inner.now c.args.table.0 c.args.room (sym c.is_id.ensures ∙ c.if-not-is_id.false) (sym c.holds.ensures ∙ c.if-not-holds.false) c.if-inner-ge-LAST_EPOCH.false _ (c.as_slice.ensures ∙ c.put_drop.ensures)
+    drop-judged c.args.state.inner.now c.args.table.0 c.args.room (sym c.is_id.ensures ∙ c.if-not-is_id.false) (sym c.holds.ensures ∙ c.if-not-holds.false) c.if-inner-ge-LAST_EPOCH.false _ (c.as_slice.ensures ∙ c.put.ensures)
 
 pub returns-then-inner-size-gt-LONGEST_MANIFEST : goal.returns-then-inner-size-gt-LONGEST_MANIFEST
 returns-then-inner-size-gt-LONGEST_MANIFEST c =
@@ -25,4 +25,4 @@ pub returns : goal.returns
 returns c =
     made-yes
     (left (goal.at.returns c).After-as_slice ∙ rw (le-ltb _ _ c.if-inner-size-gt-LONGEST_MANIFEST.false, le-ltb _ _ c.if-room-size.false))
-    c.put_drop.ensures
+    c.put.ensures

@@ -8,7 +8,7 @@ use Rattle.lists.specs.Keyed.{keep}
 use Rattle.lists.proofs.Views.{map-append}
 use Rattle.snapshot.specs.Entries.{gone_by}
 use Rattle.snapshot.specs.Views.{rowsets_of, rowset_of}
-use Rattle.snapshot.specs.Gone.{gone_rowsets}
+use Rattle.snapshot.specs.Passing.{to_come}
 use Rattle.vacuum.proofs.Arranged.{gone-few, listed_as, in-turn}
 use Rattle.vacuum.proofs.listed.Goals as goal
 
@@ -17,7 +17,7 @@ pub push-requires : goal.push-requires
 push-requires c =
     let s = c.args.rowsets.now in
     let l = keep (gone_by c.args.epoch) (rowsets_of s) in
-    let road = YieldsList-from_first rowset_of gone_rowsets {s = c.into_iter-rowset-iterator.result} l (cc) in
+    let road = YieldsList-from_first rowset_of to_come {s = c.into_iter-rowset-iterator.result} l (ap to_come c.into_iter-rowset-iterator.ensures.into_iter_gives ∙ c.gone-rowset-items.ensures) in
     let t = YieldsList-turn road c.loop-rowset.yielded c.loop-rowset.rowset-iterator c.loop-rowset.yielded_by _ c.next.new.self c.in-Some.rowset c.in-Some.is c.next.ensures.steps in
     omega (arith, t.0, gone-few c.args.epoch s, ap length c.loop-rowset.invariant, length-map c.loop-rowset.yielded listed_as)
 
@@ -33,7 +33,7 @@ pub returns : goal.returns
 returns c =
     let s = c.args.rowsets.now in
     let l = keep (gone_by c.args.epoch) (rowsets_of s) in
-    let road = YieldsList-from_first rowset_of gone_rowsets {s = c.into_iter-rowset-iterator.result} l (cc) in
+    let road = YieldsList-from_first rowset_of to_come {s = c.into_iter-rowset-iterator.result} l (ap to_come c.into_iter-rowset-iterator.ensures.into_iter_gives ∙ c.gone-rowset-items.ensures) in
     let e = YieldsList-end road c.loop-rowset.yielded c.loop-rowset.rowset-iterator c.loop-rowset.yielded_by _ c.next.new.self c.in-None.is c.next.ensures.steps in
     let z = c.sort_unstable.ensures in
     let n = z.len ∙ ap length c.deref_mut.ensures.value in
