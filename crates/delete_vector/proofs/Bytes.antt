@@ -1,15 +1,16 @@
 -- What the loops over bytes need: a record written, compared and read byte by byte. Assumes nothing.
 use mathlib.Core.Bool.{and-true}
-use Rattle.std.proofs.Common.{◌≡◌, ℕ, ◌+◌, ◌-◌, ◌/◌, ◌%◌, ◌<◌, ◌≤◌, true, false, ◌&&◌, eqb, ltb, List, [], ◌∷◌, length, get_or, take, drop, set, sym, refl, ap, ◌∙◌, add-one, arith, length-set, drop_of_length-le, drop-cons, ltb-false, ltb-true, eq-eqb, ne_eqb, eqb-true}
+use Rattle.std.proofs.Common.{◌≡◌, ℕ, zero, suc, ◌+◌, ◌-◌, ◌/◌, ◌%◌, ◌<◌, ◌≤◌, true, false, ◌&&◌, eqb, ltb, List, [], ◌∷◌, length, get_or, take, drop, set, sym, refl, ap, ◌++◌, ◌∙◌, add-one, arith, length-set, drop_of_length-le, drop-cons, ltb-false, ltb-true, eq-eqb, ne_eqb}
 use Rattle.std.proofs.lemmas.Slice.{between_to_end}
-use borrow.Author.Tests.{eqb-false}
 use Rattle.lists.specs.Written.{written, Wrote}
 use Rattle.lists.proofs.Tests.{by_cases}
 use Rattle.lists.proofs.Written.{written_one, written_on}
 use Rattle.delete_vector.specs.Encoding.{varint}
-use Rattle.delete_vector.specs.Records.{row_limit, record_of, starts_with}
+use Rattle.delete_vector.specs.Records.{row_limit, record_of, starts_with, row_in, is_record, size_in}
 use Rattle.delete_vector.proofs.Encoding.{varint-small, varint-big}
-use Rattle.delete_vector.proofs.Sizes.{record-zero, record-more, record-short}
+use Rattle.delete_vector.specs.Sizes.{varint_size}
+use Rattle.delete_vector.proofs.Sizes.{varint-size, record-zero, record-more, record-short}
+use Rattle.delete_vector.proofs.Records.{good}
 
 -- to write a run is to write its first element, and then the rest after it
 pub written_step : {A : Type 0} (s : List A) (at : ℕ) (x : A) (l : List A) → at + 1 + length l ≤ length s → written (set s at x) (at + 1) l ≡ written s at (x ∷ l)
@@ -44,24 +45,26 @@ starts-big s i n h l = rw (varint-big n h, drop-cons s i 0 l, add-one)
 pub starts-small : (s : List ℕ) (i n : ℕ) → n < 128 → i < length s → starts_with (varint n) (drop i s) ≡ eqb (get_or s i 0) n
 starts-small s i n h l = rw (varint-small n h, drop-cons s i 0 l) (and-true (eqb (get_or s i 0) n))
 
--- a record's first byte, and what follows it
-pub record-head : (row : ℕ) → row < row_limit → record_of row ≡ (length (record_of row) - 1) ∷ drop 1 (record_of row)
-record-head row h =
-    by_cases (eqb row 0)
-    (λ e. rw (eqb-true row 0 e, record-zero))
-    (λ e. let z = eqb-false row 0 e in
-    let p : 0 < row = by_cases (ltb 0 row) (ltb-true 0 row) (λ u. absurd (z (omega (arith, ltb-false 0 row u)))) in
-    rw (record-more row p h) (ap (λ (k : ℕ). k ∷ (8 ∷ varint row)) (omega arith)))
+-- a record's first byte
+record-head : (row : ℕ) → row < row_limit → record_of row ≡ (length (record_of row) - 1) ∷ drop 1 (record_of row)
+record-head zero h = rw record-zero
+record-head (suc row) h = rw (record-more (suc row) (omega arith) h) (ap (λ (k : ℕ). k ∷ (8 ∷ varint (suc row))) (omega arith))
 
-pub record-tail : (row : ℕ) → row < row_limit → (row ≡ 0 → ⊥) → drop 1 (record_of row) ≡ 8 ∷ varint row
-record-tail row h z =
-    let p : 0 < row = by_cases (ltb 0 row) (ltb-true 0 row) (λ u. absurd (z (omega (arith, ltb-false 0 row u)))) in
-    ap (drop 1) (record-more row p h)
+pub size-first : (s : List ℕ) → is_record s ≡ true → size_in s ≡ 1 + get_or s 0 0
+unfolding size_in
+size-first s h =
+    let g = good s h in
+    let e : get_or s 0 0 ≡ length (record_of (row_in s)) - 1 = ap (λ (t : List ℕ). get_or t 0 0) (g.bytes ∙ ap (λ (p : List ℕ). p ++ drop (size_in s) s) (record-head (row_in s) g.small)) in
+    let b = record-short (row_in s) g.small in
+    omega arith
 
-pub tail-length : (row : ℕ) → row < row_limit → (row ≡ 0 → ⊥) → length (record_of row) ≡ 2 + length (varint row)
-tail-length row h z =
-    let p : 0 < row = by_cases (ltb 0 row) (ltb-true 0 row) (λ u. absurd (z (omega (arith, ltb-false 0 row u)))) in
-    ap length (record-more row p h) ∙ omega arith
+-- the record of a row that is not 0
+module _ (row : ℕ) (h : row < row_limit) (z : row ≡ 0 → ⊥) where
+  pub more-bytes : record_of row ≡ (1 + varint_size row) ∷ (8 ∷ varint row)
+  more-bytes = record-more row (omega arith) h ∙ ap (λ (k : ℕ). (1 + k) ∷ (8 ∷ varint row)) (varint-size row)
+
+  pub more-length : length (record_of row) ≡ 2 + length (varint row)
+  more-length = ap length more-bytes ∙ omega arith
 
 -- what is left after a file's first byte
 abbrev pub rest_of : List ℕ → List ℕ
@@ -79,50 +82,54 @@ starts-none [] row h l = ap (λ (p : List ℕ). starts_with p []) (record-head r
 starts-none (b ∷ s) row h l = absurd (omega arith)
 
 module _ (s : List ℕ) (row : ℕ) (h : row < row_limit) (l : 1 ≤ length s) where
-  first : starts_with (record_of row) s ≡ eqb (get_or s 0 0) (length (record_of row) - 1) && starts_with (drop 1 (record_of row)) (rest_of s)
-  first = ap (starts_with (record_of row)) (rest-cons s l) ∙ ap (λ (p : List ℕ). starts_with p (get_or s 0 0 ∷ rest_of s)) (record-head row h)
+  pub starts-zero : row ≡ 0 → starts_with (record_of row) s ≡ eqb (get_or s 0 0) 0
+  starts-zero z =
+      ap (λ (k : ℕ). starts_with (record_of k) s) z
+      ∙ ap (λ (p : List ℕ). starts_with p s) record-zero
+      ∙ ap (starts_with (0 ∷ [])) (rest-cons s l)
+      ∙ and-true (eqb (get_or s 0 0) 0)
 
-  pub starts-differ : (get_or s 0 0 ≡ length (record_of row) - 1 → ⊥) → starts_with (record_of row) s ≡ false
-  starts-differ n = first ∙ rw (ne_eqb _ _ n)
+  module _ (z : row ≡ 0 → ⊥) where
+    first : starts_with (record_of row) s ≡ eqb (get_or s 0 0) (1 + varint_size row) && starts_with (8 ∷ varint row) (rest_of s)
+    first = ap (λ (p : List ℕ). starts_with p s) (more-bytes row h z) ∙ ap (starts_with ((1 + varint_size row) ∷ (8 ∷ varint row))) (rest-cons s l)
 
-  pub starts-zero : get_or s 0 0 ≡ length (record_of row) - 1 → row ≡ 0 → starts_with (record_of row) s ≡ true
-  starts-zero e z = first ∙ rw (eq-eqb _ _ e) (ap (λ (k : ℕ). starts_with (drop 1 (record_of k)) (rest_of s)) z ∙ rw record-zero)
+    pub starts-differ : (get_or s 0 0 ≡ 1 + varint_size row → ⊥) → starts_with (record_of row) s ≡ false
+    starts-differ n = first ∙ rw (ne_eqb _ _ n)
 
-  module _ (e : get_or s 0 0 ≡ length (record_of row) - 1) (z : row ≡ 0 → ⊥) where
-    second : starts_with (record_of row) s ≡ starts_with (8 ∷ varint row) (rest_of s)
-    second = first ∙ rw (eq-eqb _ _ e) (ap (λ (p : List ℕ). starts_with p (rest_of s)) (record-tail row h z))
+    module _ (e : get_or s 0 0 ≡ 1 + varint_size row) where
+      second : starts_with (record_of row) s ≡ starts_with (8 ∷ varint row) (rest_of s)
+      second = first ∙ rw (eq-eqb _ _ e)
 
-    pub starts-short : length (rest_of s) < 1 → starts_with (record_of row) s ≡ false
-    starts-short n = second ∙ ap (starts_with (8 ∷ varint row)) (none (rest_of s) n)
-      where
-        none : (t : List ℕ) → length t < 1 → t ≡ []
-        none [] n = refl
-        none (b ∷ t) n = absurd (omega arith)
+      pub starts-short : length (rest_of s) < 1 → starts_with (record_of row) s ≡ false
+      starts-short n = second ∙ ap (starts_with (8 ∷ varint row)) (none (rest_of s) n)
+        where
+          none : (t : List ℕ) → length t < 1 → t ≡ []
+          none [] n = refl
+          none (b ∷ t) n = absurd (omega arith)
 
-    module _ (n : 1 ≤ length (rest_of s)) where
-      pub starts-key : (get_or (rest_of s) 0 0 ≡ 8 → ⊥) → starts_with (record_of row) s ≡ false
-      starts-key k = second ∙ ap (starts_with (8 ∷ varint row)) (rest-cons (rest_of s) n) ∙ rw (ne_eqb _ _ k)
+      module _ (n : 1 ≤ length (rest_of s)) where
+        pub starts-key : (get_or (rest_of s) 0 0 ≡ 8 → ⊥) → starts_with (record_of row) s ≡ false
+        starts-key k = second ∙ ap (starts_with (8 ∷ varint row)) (rest-cons (rest_of s) n) ∙ rw (ne_eqb _ _ k)
 
-      pub starts-rest : get_or (rest_of s) 0 0 ≡ 8 → starts_with (record_of row) s ≡ starts_with (varint row) (rest_of (rest_of s))
-      starts-rest k = second ∙ ap (starts_with (8 ∷ varint row)) (rest-cons (rest_of s) n) ∙ rw (eq-eqb _ _ k)
+        pub starts-rest : get_or (rest_of s) 0 0 ≡ 8 → starts_with (record_of row) s ≡ starts_with (varint row) (rest_of (rest_of s))
+        starts-rest k = second ∙ ap (starts_with (8 ∷ varint row)) (rest-cons (rest_of s) n) ∙ rw (eq-eqb _ _ k)
 
 -- a record is written at a place
-module _ (s : List ℕ) (at row : ℕ) (h : row < row_limit) (l : at + length (record_of row) ≤ length s) where
-  pub wrote-zero : row ≡ 0 → Wrote s at (record_of row) (set s at (length (record_of row) - 1)) (at + 1)
+module _ (s : List ℕ) (at row : ℕ) (l : at + length (record_of row) ≤ length s) where
+  pub wrote-zero : row ≡ 0 → Wrote s at (record_of row) (set s at 0) (at + 1)
   wrote-zero z =
-      let b = record-short row h in
-      let e : record_of row ≡ (length (record_of row) - 1) ∷ [] = ap record_of z ∙ record-zero ∙ sym (ap (λ (p : List ℕ). (length p - 1) ∷ []) (ap record_of z ∙ record-zero)) in
+      let e : record_of row ≡ 0 ∷ [] = ap record_of z ∙ record-zero in
+      let n = ap length e in
       record {
-        content = written_one s at (length (record_of row) - 1) (omega arith) ∙ ap (λ (p : List ℕ). written s at p) (sym e);
-        next = let n : length (record_of row) ≡ 1 = ap length e in omega arith;
+        content = written_one s at 0 (omega arith) ∙ ap (λ (p : List ℕ). written s at p) (sym e);
+        next = omega arith;
       }
 
-  pub wrote-more : (t : List ℕ) (i : ℕ) → (row ≡ 0 → ⊥)
-      → Wrote (set (set s at (length (record_of row) - 1)) (at + 1) 8) (at + 2) (varint row) t i → Wrote s at (record_of row) t i
-  wrote-more t i z w =
-      let x = length (record_of row) - 1 in
-      let n = tail-length row h z in
-      let e : record_of row ≡ x ∷ (8 ∷ varint row) = record-head row h ∙ ap (λ (p : List ℕ). x ∷ p) (record-tail row h z) in
+  pub wrote-more : (t : List ℕ) (i : ℕ) → row < row_limit → (row ≡ 0 → ⊥)
+      → Wrote (set (set s at (1 + varint_size row)) (at + 1) 8) (at + 2) (varint row) t i → Wrote s at (record_of row) t i
+  wrote-more t i h z w =
+      let x = 1 + varint_size row in
+      let n = more-length row h z in
       let k : at + 2 ≡ at + 1 + 1 = omega arith in
       let ls = length-set s at x in
       record {
@@ -131,6 +138,6 @@ module _ (s : List ℕ) (at row : ℕ) (h : row < row_limit) (l : at + length (r
             ∙ ap (λ (j : ℕ). written (set (set s at x) (at + 1) 8) j (varint row)) k
             ∙ written_step (set s at x) (at + 1) 8 (varint row) (omega arith)
             ∙ written_step s at x (8 ∷ varint row) (omega arith)
-            ∙ ap (λ (p : List ℕ). written s at p) (sym e);
+            ∙ ap (λ (p : List ℕ). written s at p) (sym (more-bytes row h z));
         next = let q = w.next in omega arith;
       }

@@ -1,8 +1,6 @@
 -- What the loops over a file's records need. Assumes nothing.
-use Rattle.std.proofs.Common.{◌≡◌, ℕ, ◌+◌, ◌<◌, ◌≤◌, min, true, false, List, [], ◌∷◌, ◌++◌, length, get_or, take, drop, set, ◌-◌, suc, sym, refl, ap, ◌∙◌, add-one, arith, length-append, length-drop, drop_of_length-le, drop-cons, take-suc, take-suc-set, take_all, Bool, Result, MatchOption, le-ltb, lt-ltb, Ok, Err}
-use Rattle.std.specs.Bool.{then_some}
+use Rattle.std.proofs.Common.{◌≡◌, ℕ, ◌+◌, ◌<◌, ◌≤◌, min, true, false, List, [], ◌∷◌, ◌++◌, length, get_or, take, drop, set, ◌-◌, suc, sym, refl, ap, ◌∙◌, add-one, arith, length-append, length-drop, drop_of_length-le, drop-cons, take-suc, take-suc-set, take_all, Result, le-ltb, lt-ltb, Ok, Err}
 use Rattle.std.proofs.lemmas.Slice.{between_to_end}
-use Rattle.ids.specs.declared.RowNo.{RowNo}
 use Rattle.lists.specs.Written.{written, Wrote}
 use Rattle.lists.proofs.Tests.{by_cases, clash}
 use Rattle.lists.proofs.Written.{written_on}
@@ -44,10 +42,6 @@ unfolding is_record
 judge s v e h =
     let q = in-limit s v e h in
     rw (lt-ltb (row_in s) row_limit (omega arith)) (ap (λ (k : ℕ). starts_with (record_of k) s) q)
-
-pub size_of : (s : List ℕ) (v : ℕ) → row_in s ≡ v → size_in s ≡ length (record_of v)
-unfolding size_in
-size_of s v e = ap (λ (k : ℕ). length (record_of k)) e
 
 pub value_of : (s : List ℕ) (v : ℕ) → v ≡ min (row_in s) row_limit → is_record s ≡ true → (row_in s ≡ v) × (v < row_limit)
 value_of s v e h = let g = (good s h).small in (omega arith, omega arith)
@@ -99,6 +93,13 @@ after s k = take (length s - k) (drop k s)
 left : (file s : List ℕ) (k : ℕ) → length s ≤ length file → k ≤ length s → (after s k ≡ drop k s) × (length file - length (after s k) ≡ length file - length s + k)
 left file s k h l = let e = between_to_end s k (length s) (omega arith) in (e, rw e (omega (arith, length-drop k s)))
 
+pub after-less : (s : List ℕ) (k : ℕ) → is_record s ≡ true → size_in s ≡ k → length (after s k) < length s
+after-less s k g z =
+    let o = good s g in
+    let f = o.fits in
+    let q = o.positive in
+    rw ((left s s k (omega arith) (omega arith)).0) (omega (arith, length-drop k s))
+
 pub scan-turn : (file s : List ℕ) (n k : ℕ) (r : Result ℕ ℕ) → 0 < length s → is_record s ≡ true → size_in s ≡ k → n + length s ≤ length file → scanned_of n (records_at s (length file - length s)) ≡ r
     → (n + 1 + length (after s k) ≤ length file) × (scanned_of (n + 1) (records_at (after s k) (length file - length (after s k))) ≡ r)
 scan-turn file s n k r p g z h e =
@@ -126,15 +127,15 @@ module _ (file rows s : List ℕ) (i : ℕ) (out : List ℕ) (h : i < length row
   pub placing-record : is_record s ≡ true
   placing-record = good-here s (length file - length s) some w.good
 
-  module _ (v k : ℕ) (q : row_in s ≡ v) (z : size_in s ≡ k) where
+  module _ (k : ℕ) (z : size_in s ≡ k) where
     pub placing-room : k ≤ length s
     placing-room = let f = (good s placing-record).fits in omega arith
 
     next : row_in s ∷ rows_in (records_at (drop k s) (length file - length s + k)) ≡ get_or rows i 0 ∷ drop (suc i) rows
     next = sym (rows-here s (length file - length s) some k z w.good) ∙ w.left ∙ drop-cons rows i 0 h
 
-    pub placing-more : length rows ≡ length out → Placing file rows (after s k) (i + 1) (set out i v)
-    placing-more l =
+    pub placing-more : (v : ℕ) → row_in s ≡ v → length rows ≡ length out → Placing file rows (after s k) (i + 1) (set out i v)
+    placing-more v q l =
         let b = w.within in
         let t = left file s k b placing-room in
         let e = next in
@@ -154,9 +155,3 @@ placing-start file out h =
 
 pub placing-done : (file rows s : List ℕ) (i : ℕ) (out : List ℕ) → length rows ≤ i → length rows ≡ length out → Placing file rows s i out → out ≡ rows
 placing-done file rows s i out h l w = sym (take_all i out (omega arith)) ∙ w.put ∙ take_all i rows h
-
--- the first record's row
-pub found : (s : List ℕ) (v : ℕ) → v ≡ min (row_in s) row_limit → v < row_limit → (b : Bool) → b ≡ starts_with (record_of v) s
-    → MatchOption (then_some b (record { 0 = v })) (is_record s ≡ false) (λ (r : RowNo). (is_record s ≡ true) × (r.0 ≡ row_in s))
-found s v e h true q = (judge s v e h ∙ sym q, sym (in-limit s v e h))
-found s v e h false q = judge s v e h ∙ sym q

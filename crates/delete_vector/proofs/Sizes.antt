@@ -1,52 +1,111 @@
--- The size of a record. Assumes nothing.
-use Rattle.std.proofs.Common.{◌≡◌, ℕ, zero, suc, ◌+◌, ◌-◌, ◌*◌, ◌/◌, ◌^◌, ◌<◌, ◌≤◌, eqb, ltb, leb, [], ◌∷◌, length, get_or, ap, ◌∙◌, arith, pow_mono, pow-add, ltb-false, ltb-true, ne_eqb, eqb-true, leb-false, leb-true}
+-- The sizes of a varint and of a record are those of the formulas. Assumes nothing.
+use Rattle.std.proofs.Common.{◌≡◌, ℕ, zero, suc, ◌+◌, ◌*◌, ◌/◌, ◌^◌, ◌<◌, ◌≤◌, ltb, [], ◌∷◌, length, refl, ap, ◌∙◌, arith, pow-add, ltb-false, ltb-true, ne_eqb}
 use lib.Count.{count_leading_zeros, leading_length}
-use borrow.Author.Tests.{eqb-false}
+use Rattle.std.specs.Int.{div_ceil}
 use Rattle.lists.proofs.Tests.{by_cases}
-use Rattle.lists.proofs.Tabled.{rule}
 use Rattle.delete_vector.specs.Encoding.{varint, uint_field, delimited}
-use Rattle.delete_vector.specs.Records.{record_of, row_limit}
-use Rattle.delete_vector.specs.Sizes.{row_bits, Significant, size_of_bits, size_table}
+use Rattle.delete_vector.specs.Records.{row_limit, record_of}
+use Rattle.delete_vector.specs.Sizes.{bits_by, significant_bits, varint_size, record_size}
 use Rattle.delete_vector.proofs.Encoding.{varint-small, varint-big}
 
--- a varint has a byte for each seven bits begun
-groups-by : (f n b : ℕ) → b ≤ f → 0 < b → n < 2 ^ b → 2 ^ b ≤ 2 * n + 1 → length (varint n) ≡ (b + 6) / 7
-groups-by zero n b l p w h = absurd (omega arith)
-groups-by (suc f) n b l p w h =
-    by_cases (leb b 7)
-    (λ e. let k = leb-true b 7 e in
-    let m : 2 ^ b ≤ 2 ^ 7 = pow_mono k in
-    rw (varint-small n (omega arith)) (omega arith))
-    (λ e. let k = leb-false b 7 e in
-    let m : 2 ^ 1 ≤ 2 ^ (b - 7) = pow_mono {i = 1} {j = b - 7} (omega arith) in
-    let q : 2 ^ b ≡ 2 ^ (b - 7) * 128 = ap (λ (x : ℕ). 2 ^ x) (omega arith) ∙ pow-add 2 (b - 7) 7 in
-    rw (varint-big n (omega arith), groups-by f (n / 128) (b - 7) (omega arith) (omega arith) (omega arith) (omega arith)) (omega arith))
+-- a count of bits does not depend on the bound
+none : (f : ℕ) → bits_by f 0 ≡ 0
+unfolding bits_by
+none zero = refl
+none (suc f) = refl
 
-pub varint-length : (n b : ℕ) → 0 < n → Significant n b → length (varint n) ≡ (b + 6) / 7
-varint-length n b p s =
-    let positive : 0 < b = by_cases (eqb b 0) (λ e. let z : n < 2 ^ 0 = rw (eqb-true b 0 e) at s.within in absurd (omega arith)) (λ e. let z = eqb-false b 0 e in by_cases (ltb 0 b) (ltb-true 0 b) (λ u. absurd (z (omega (arith, ltb-false 0 b u))))) in
-    groups-by b n b (omega arith) positive s.within s.needed
+bound : (f g n : ℕ) → n ≤ f → n ≤ g → bits_by f n ≡ bits_by g n
+unfolding bits_by
+bound zero zero n p q = refl
+bound zero (suc g) zero p q = refl
+bound zero (suc g) (suc n) p q = absurd (omega arith)
+bound (suc f) zero zero p q = refl
+bound (suc f) zero (suc n) p q = absurd (omega arith)
+bound (suc f) (suc g) zero p q = refl
+bound (suc f) (suc g) (suc n) p q = ap (λ (b : ℕ). 1 + b) (bound f g (suc n / 2) (omega arith) (omega arith))
 
--- a number of 32 bits has at most 32 significant ones, which the zeros before them tell
-pub significant : (n : ℕ) → n < 2 ^ 32 → (count_leading_zeros 32 n ≤ 32) × Significant n (32 - count_leading_zeros 32 n)
-significant n h =
-    let s = leading_length 32 n h in
-    let e : 32 - count_leading_zeros 32 n ≡ s.0 = let q = s.1 in omega arith in
-    (let q = s.1 in omega arith, record { within = rw e s.2; needed = rw e s.3 })
+-- zero has no bits, and halving takes one off
+pub bits-zero : significant_bits 0 ≡ 0
+unfolding significant_bits
+bits-zero = none 0
+
+pub bits-half : (n : ℕ) → 0 < n → significant_bits n ≡ 1 + significant_bits (n / 2)
+unfolding significant_bits bits_by
+bits-half zero p = absurd (omega arith)
+bits-half (suc n) p = ap (λ (b : ℕ). 1 + b) (bound n (suc n / 2) (suc n / 2) (omega arith) (omega arith))
+
+twice : (b : ℕ) → 2 ^ suc b ≡ 2 * 2 ^ b
+twice b = ap (λ (k : ℕ). 2 ^ k) (omega arith) ∙ pow-add 2 1 b
+
+-- the zeros before the significant bits of a number of k bits are the rest
+pub zeros-bits : (k n : ℕ) → n < 2 ^ k → count_leading_zeros k n + significant_bits n ≡ k
+unfolding count_leading_zeros
+zeros-bits zero zero h = rw bits-zero
+zeros-bits zero (suc n) h = absurd (omega arith)
+zeros-bits (suc k) zero h = rw bits-zero (omega arith)
+zeros-bits (suc k) (suc n) h =
+    let p = twice k in
+    let e = zeros-bits k (suc n / 2) (omega arith) in
+    let b = bits-half (suc n) (omega arith) in
+    omega arith
+
+-- the bits of a number are those that it needs
+below : (n : ℕ) → n < 2 ^ n
+below zero = omega arith
+below (suc n) = let p = twice n in let h = below n in omega arith
+
+pub bits-counted : (n : ℕ) → (n < 2 ^ significant_bits n) × (2 ^ significant_bits n ≤ 2 * n + 1)
+bits-counted n =
+    let l = leading_length n n (below n) in
+    let z = zeros-bits n n (below n) in
+    let e : significant_bits n ≡ l.0 = let q = l.1 in omega arith in
+    rw e (l.2, l.3)
+
+pub bits-within : (k n : ℕ) → n < 2 ^ k → significant_bits n ≤ k
+bits-within k n h = let e = zeros-bits k n h in omega arith
+
+-- each group of a varint takes seven bits off
+seven : (n : ℕ) → 128 ≤ n → significant_bits n ≡ 7 + significant_bits (n / 128)
+seven n h =
+    let a = bits-half n (omega arith) in
+    let b = bits-half (n / 2) (omega arith) in
+    let c = bits-half (n / 2 / 2) (omega arith) in
+    let d = bits-half (n / 2 / 2 / 2) (omega arith) in
+    let e = bits-half (n / 2 / 2 / 2 / 2) (omega arith) in
+    let f = bits-half (n / 2 / 2 / 2 / 2 / 2) (omega arith) in
+    let g = bits-half (n / 2 / 2 / 2 / 2 / 2 / 2) (omega arith) in
+    let r : n / 2 / 2 / 2 / 2 / 2 / 2 / 2 ≡ n / 128 = omega arith in
+    let q = ap significant_bits r in
+    omega arith
+
+groups-by : (f n : ℕ) → n ≤ f → 0 < n → length (varint n) ≡ div_ceil (significant_bits n) 7
+groups-by zero n l p = absurd (omega arith)
+groups-by (suc f) n l p =
+    by_cases (ltb n 128)
+    (λ e. let h = ltb-true n 128 e in
+    let b = bits-half n p in
+    let w = bits-within 7 n h in
+    rw (varint-small n h) (omega arith))
+    (λ e. let h = ltb-false n 128 e in
+    let s = seven n h in
+    let r = groups-by f (n / 128) (omega arith) (omega arith) in
+    rw (varint-big n h) (omega arith))
+
+pub varint-groups : (n : ℕ) → 0 < n → length (varint n) ≡ div_ceil (significant_bits n) 7
+varint-groups n p = groups-by n n (omega arith) p
+
+pub varint-size : (n : ℕ) → length (varint n) ≡ varint_size n
+unfolding varint_size
+varint-size zero = ap length (varint-small 0 (omega arith))
+varint-size (suc n) = rw (ne_eqb (suc n) 0 (λ e. omega arith)) (varint-groups (suc n) (omega arith))
 
 pub varint-short : (n : ℕ) → n < row_limit → (1 ≤ length (varint n)) × (length (varint n) ≤ 5)
-varint-short n h =
-    by_cases (ltb n 128)
-    (λ e. rw (varint-small n (ltb-true n 128 e)) (omega arith, omega arith))
-    (λ e. let g = significant n h in
-    let p : 0 < n = omega (arith, ltb-false n 128 e) in
-    let l = varint-length n (32 - count_leading_zeros 32 n) p g.1 in
-    let b : 1 ≤ 32 - count_leading_zeros 32 n = one (32 - count_leading_zeros 32 n) p g.1 in
-    (omega arith, omega arith))
-  where
-    one : (b : ℕ) → 0 < n → Significant n b → 1 ≤ b
-    one zero p s = let w : n < 2 ^ 0 = s.within in absurd (omega arith)
-    one (suc b) p s = omega arith
+varint-short zero h = rw (varint-small 0 (omega arith)) (omega arith, omega arith)
+varint-short (suc n) h =
+    let l = varint-groups (suc n) (omega arith) in
+    let b = bits-half (suc n) (omega arith) in
+    let w = bits-within 32 (suc n) h in
+    (omega arith, omega arith)
 
 -- a record's bytes
 pub record-zero : record_of 0 ≡ 0 ∷ []
@@ -59,32 +118,12 @@ record-more row p h =
     let b = varint-short row h in
     rw (ne_eqb row 0 (λ e. omega arith), varint-small 8 (omega arith), varint-small (length (8 ∷ varint row)) (omega arith)) (ap (λ (x : ℕ). x ∷ (8 ∷ varint row)) (omega arith))
 
--- its size is what the table says
-pub record-size : (row b : ℕ) → row < row_limit → Significant row b → length (record_of row) ≡ size_of_bits b
-record-size row zero h s =
-    let w : row < 2 ^ 0 = s.within in
-    let z : row ≡ 0 = omega arith in
-    rw (z, record-zero)
-record-size row (suc b) h s =
-    let p : 0 < row = let n : 2 ^ suc b ≤ 2 * row + 1 = s.needed in let m : 2 ^ 1 ≤ 2 ^ suc b = pow_mono {i = 1} {j = suc b} (omega arith) in omega arith in
-    rw (record-more row p h, varint-length row (suc b) p s, ne_eqb (suc b) 0 (λ e. omega arith)) (omega arith)
+-- their number is what the formula says
+pub record-size : (row : ℕ) → row < row_limit → length (record_of row) ≡ record_size row
+unfolding record_size
+record-size zero h = ap length record-zero
+record-size (suc row) h = let v = varint-size (suc row) in rw (record-more (suc row) (omega arith) h, ne_eqb (suc row) 0 (λ e. omega arith)) (omega arith)
 
 pub record-short : (row : ℕ) → row < row_limit → (1 ≤ length (record_of row)) × (length (record_of row) ≤ 7)
-record-short row h =
-    by_cases (eqb row 0)
-    (λ e. rw (eqb-true row 0 e, record-zero) (omega arith, omega arith))
-    (λ e. let z = eqb-false row 0 e in
-    let p : 0 < row = by_cases (ltb 0 row) (ltb-true 0 row) (λ u. absurd (z (omega (arith, ltb-false 0 row u)))) in
-    let b = varint-short row h in
-    rw (record-more row p h) (omega arith, omega arith))
-
-pub row-of-bits : (row b : ℕ) → b ≤ row_bits → Significant row b → row < row_limit
-row-of-bits row b h s =
-    let m : 2 ^ b ≤ 2 ^ 32 = pow_mono h in
-    let w = s.within in
-    omega arith
-
--- a table's entry is what its rule says there
-pub size-rule : (k : ℕ) → k ≤ row_bits → get_or size_table k 0 ≡ size_of_bits k
-unfolding size_table
-size-rule k h = rule size_of_bits (row_bits + 1) k (omega arith)
+record-short zero h = rw record-zero (omega arith, omega arith)
+record-short (suc row) h = let b = varint-short (suc row) h in rw (record-more (suc row) (omega arith) h) (omega arith, omega arith)

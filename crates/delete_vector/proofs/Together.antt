@@ -5,6 +5,7 @@ use Rattle.lists.proofs.Keyed.{All, all_map, all_of-all, all-all_of}
 use Rattle.delete_vector.specs.Records.{row_limit, records_of, Records, Rows, Bad, records_in}
 use Rattle.delete_vector.specs.Memory.{row_key, is_in}
 use Rattle.delete_vector.specs.Laws.{are_rows, BadFrom, Laws}
+use Rattle.delete_vector.proofs.Sizes.{bits-counted, varint-size, record-size}
 use Rattle.delete_vector.proofs.Records.{reads-back, Holds, holds}
 use Rattle.delete_vector.proofs.InMemory.{memory-ascending, memory-same-set, memory-ext, memory-own}
 
@@ -44,6 +45,9 @@ has_key l m h (a ∷ (b ∷ k)) = none l ∙ sym (none m)
 
 pub laws-hold : Laws
 laws-hold = record {
+  bits_counted = bits-counted;
+  varint_sized = varint-size;
+  record_sized = record-size;
   reads_back = λ rows h. reads-back rows 0 (rows_all rows h);
   only_written = only-written;
   first_bad = first-bad;

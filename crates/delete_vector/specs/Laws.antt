@@ -1,6 +1,8 @@
 -- What the definitions say together: the reader and the writer are each other's inverse, and in memory is the same set. Assumes nothing.
-use Rattle.std.specs.Prelude.{◌≡◌, ℕ, ◌<◌, Bool, true, List, ◌++◌, length, ◌≢◌, nat_lt}
+use Rattle.std.specs.Prelude.{◌≡◌, ℕ, ◌+◌, ◌*◌, ◌^◌, ◌<◌, ◌≤◌, Bool, true, List, ◌++◌, length, ◌≢◌, nat_lt}
 use Rattle.lists.specs.Keyed.{all_of, ascending}
+use Rattle.delete_vector.specs.Encoding.{varint}
+use Rattle.delete_vector.specs.Sizes.{significant_bits, varint_size, record_size}
 use Rattle.delete_vector.specs.Records.{row_limit, record_of, records_of, Rows, Bad, records_in}
 use Rattle.delete_vector.specs.Memory.{row_key, is_in, in_memory}
 
@@ -19,6 +21,11 @@ pub record BadFrom (file : List ℕ) (place : ℕ) : Type 0 where
   pub none : (row : ℕ) (t : List ℕ) → row < row_limit → rest ≢ record_of row ++ t
 
 pub record Laws : Type 0 where
+  -- the significant bits are those that a number needs
+  pub bits_counted : (n : ℕ) → (n < 2 ^ significant_bits n) × (2 ^ significant_bits n ≤ 2 * n + 1)
+  -- the sizes by the formulas are the counts of the bytes
+  pub varint_sized : (n : ℕ) → length (varint n) ≡ varint_size n
+  pub record_sized : (row : ℕ) → row < row_limit → length (record_of row) ≡ record_size row
   -- what the writer writes reads back to the same rows in the same order
   pub reads_back : (rows : List ℕ) → are_rows rows ≡ true → records_in (records_of rows) ≡ Rows rows
   -- what the reader accepts is exactly what the writer writes

@@ -1,5 +1,5 @@
 -- A vector's file: what is written of rows, and what is read of bytes. Assumes nothing.
-use Rattle.std.specs.Prelude.{◌≡◌, ℕ, zero, suc, ◌+◌, ◌<◌, ◌≤◌, Bool, true, false, cond, ◌&&◌, List, [], ◌∷◌, ◌++◌, length, take, drop, ◌==◌, nat_lt}
+use Rattle.std.specs.Prelude.{ℕ, zero, suc, ◌+◌, Bool, true, false, cond, ◌&&◌, List, [], ◌∷◌, ◌++◌, length, take, drop, ◌==◌, nat_lt}
 use Rattle.delete_vector.specs.Encoding.{value_of, uint_field, delimited}
 
 -- row numbers are below this
@@ -9,13 +9,6 @@ row_limit = 4294967296
 -- a record, `DeleteRecord { uint32 row_id = 1 }`: a length byte, then the tag byte and the row, both left out for row 0
 unfoldable pub record_of : ℕ → List ℕ
 record_of row = delimited (uint_field 1 row)
-
--- the size of a row's record
-pub record Sized (row size : ℕ) : Type 0 where
-  pub exact : size ≡ length (record_of row)
-  pub in_range : row < row_limit
-  pub least : 1 ≤ size
-  pub most : size ≤ 7
 
 -- the file of rows, in the order given, repeats kept
 abbrev pub records_of : List ℕ → List ℕ

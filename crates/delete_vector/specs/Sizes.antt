@@ -1,20 +1,21 @@
--- A record's size by the count of significant bits of its row. Assumes nothing.
-use Rattle.std.specs.Prelude.{ℕ, ◌+◌, ◌*◌, ◌/◌, ◌^◌, ◌<◌, ◌≤◌, cond, List, ◌==◌}
-use Rattle.lists.specs.Tabled.{tabled}
+-- The sizes of a varint and of a record, by formula. Assumes nothing.
+use Rattle.std.specs.Prelude.{ℕ, zero, suc, ◌+◌, ◌/◌, cond, ◌==◌}
+use Rattle.std.specs.Int.{div_ceil}
 
--- the bits of a row number
-abbrev pub row_bits : ℕ
-row_bits = 32
+-- f bounds the count of halvings
+unfoldable pub bits_by : ℕ → ℕ → ℕ
+bits_by zero n = 0
+bits_by (suc f) zero = 0
+bits_by (suc f) (suc n) = 1 + bits_by f (suc n / 2)
 
--- n has b significant bits
-pub record Significant (n b : ℕ) : Type 0 where
-  pub within : n < 2 ^ b
-  pub needed : 2 ^ b ≤ 2 * n + 1
+-- the count of n's significant bits: none for zero, else one more than half of n has
+unfoldable pub significant_bits : ℕ → ℕ
+significant_bits n = bits_by n n
 
--- a length byte, and where there is a row, the tag byte and a byte for each seven bits begun
-abbrev pub size_of_bits : ℕ → ℕ
-size_of_bits b = cond (b == 0) 1 (2 + (b + 6) / 7)
+-- the size of n's varint: one byte for zero, else the significant bits divided by seven, rounded up
+unfoldable pub varint_size : ℕ → ℕ
+varint_size n = cond (n == 0) 1 (div_ceil (significant_bits n) 7)
 
--- the table of sizes, for every count of bits that a row number can have
-unfoldable pub size_table : List ℕ
-size_table = tabled size_of_bits 0 (row_bits + 1)
+-- the size of a row's record: one byte for row 0, else two more than its varint's
+unfoldable pub record_size : ℕ → ℕ
+record_size row = cond (row == 0) 1 (2 + varint_size row)

@@ -7,7 +7,6 @@ ghost use Rattle.delete_vector.specs.Says.{most_records, WriteSays, ReadSays, Me
 
 use ids::RowNo;
 use ids::refusal::Refusal;
-use record::Sizes;
 
 pub mod digits;
 pub mod file;
@@ -25,12 +24,11 @@ pub fn write_all(rows: &[u32], out: &mut [u8]) -> Result<usize, Refusal>
     if rows.len() > MOST_RECORDS {
         return Err(Refusal::WrongCount);
     }
-    let sizes = Sizes::new();
-    let size = file::file_size(rows, &sizes);
+    let size = file::file_size(rows);
     if out.len() < size {
         return Err(Refusal::OutputTooShort);
     }
-    file::put_records(rows, out, 0, &sizes);
+    file::put_records(rows, out, 0);
     Ok(size)
 }
 
@@ -39,15 +37,14 @@ pub fn write_all(rows: &[u32], out: &mut [u8]) -> Result<usize, Refusal>
 pub fn read_all(bytes: &[u8], rows: &mut [u32]) -> Result<usize, Refusal>
     ensures { ReadSays bytes.now rows.old result rows.new }
 {
-    let sizes = Sizes::new();
-    let count = file::scan(bytes, &sizes).map_err(Refusal::BadRecord)?;
+    let count = file::scan(bytes).map_err(Refusal::BadRecord)?;
     if count > MOST_RECORDS {
         return Err(Refusal::WrongCount);
     }
     if rows.len() < count {
         return Err(Refusal::OutputTooShort);
     }
-    file::put_rows(bytes, &mut rows[..count], &sizes);
+    file::put_rows(bytes, &mut rows[..count]);
     Ok(count)
 }
 

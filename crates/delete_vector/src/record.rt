@@ -1,14 +1,11 @@
 // One delete record: its size, its bytes written, compared and read.
-ghost use Rattle.std.specs.Prelude.{◌≡◌, ◌+◌, ◌<◌, ◌≤◌, min, length, MatchOption, true, false};
+ghost use Rattle.std.specs.Prelude.{◌≡◌, ◌+◌, ◌≤◌, min, length, true};
 ghost use Rattle.lists.specs.Written.{Wrote};
 ghost use Rattle.delete_vector.specs.Encoding.{varint, value_of};
-ghost use Rattle.delete_vector.specs.Sizes.{row_bits, Significant, size_table};
-ghost use Rattle.delete_vector.specs.Records.{row_limit, record_of, Sized, starts_with, row_in, is_record};
+ghost use Rattle.delete_vector.specs.Sizes.{significant_bits, varint_size, record_size};
+ghost use Rattle.delete_vector.specs.Records.{row_limit, record_of, starts_with, row_in, is_record, size_in};
 
 use ids::RowNo;
-
-// The bits of a row number.
-pub const ROW_BITS: usize = 32;
 
 // Row numbers are below this.
 pub const ROW_LIMIT: u64 = 4294967296;
@@ -16,37 +13,32 @@ pub const ROW_LIMIT: u64 = 4294967296;
 // The byte that begins a record's field: field 1, of wire type 0.
 const KEY: u8 = 8;
 
-// The size of a record by the count of significant bits of its row. An entry point makes it once and lends it: a constant that is
-// indexed is stored to the stack at each read. `text::ByteClasses` has the same form round another rule, which as a parameter
-// would be no plainer.
-#[derive(Drop)]
-pub struct Sizes {
-    table: [usize; ROW_BITS + 1],
-    ghost rule: { table ≡ size_table },
-}
-
-impl Sizes {
-    pub fn new() -> Sizes {
-        Sizes {
-            table: [
-                1, 3, 3, 3, 3, 3, 3, 3, 4, 4, 4, 4, 4, 4, 4, 5, 5, 5, 5, 5, 5, 5, 6, 6, 6, 6, 6, 6,
-                6, 7, 7, 7, 7,
-            ],
-        }
-    }
-
-    // The one place that says how long a record is.
-    pub fn of(&self, row: RowNo) -> usize
-        ensures { Sized row.0 result }
-    {
-        self.table[significant_bits(row)]
-    }
-}
-
 fn significant_bits(row: RowNo) -> usize
-    ensures { (result ≤ row_bits) × Significant row.0 result }
+    ensures { result ≡ significant_bits row.0 }
 {
-    ROW_BITS - row.0.leading_zeros() as usize
+    (u32::BITS - row.0.leading_zeros()) as usize
+}
+
+// The size of the row's number as a varint, which has a byte for each seven bits begun.
+pub fn varint_size(row: RowNo) -> usize
+    ensures { (result ≡ varint_size row.0) × (result ≤ 5) }
+{
+    if row.0 == 0 {
+        1
+    } else {
+        // `div_ceil` was measured slower.
+        (significant_bits(row) - 1) / 7 + 1
+    }
+}
+
+// The size of the row's record: for row 0 the length byte alone, else the tag byte and the varint, too.
+pub fn record_size(row: RowNo) -> usize
+    ensures { (result ≡ record_size row.0) × (result ≤ 7) }
+{
+    if row.0 == 0 {
+        return 1;
+    }
+    2 + varint_size(row)
 }
 
 // Internal: the caller has checked that there is room.
@@ -67,15 +59,15 @@ fn put_varint(n: u32, out: &mut [u8], at: usize) -> usize
 }
 
 // Internal: the caller has checked that there is room.
-pub fn put_record(row: RowNo, out: &mut [u8], at: usize, sizes: &Sizes) -> usize
+pub fn put_record(row: RowNo, out: &mut [u8], at: usize) -> usize
     requires { at + length (record_of row.0) ≤ length out.old }
     ensures { Wrote out.old at (record_of row.0) out.new result }
 {
-    let size = sizes.of(row);
-    out[at] = (size - 1) as u8;
     if row.0 == 0 {
+        out[at] = 0;
         return at + 1;
     }
+    out[at] = (1 + varint_size(row)) as u8;
     out[at + 1] = KEY;
     put_varint(row.0, out, at + 2)
 }
@@ -99,17 +91,17 @@ fn holds_varint(file: &[u8], n: u32) -> bool
 
 // Whether the file begins with what the writer makes of the row. Byte by byte, since each says whether the next is read: one expression would be no
 // plainer.
-fn holds_record(file: &[u8], row: RowNo, sizes: &Sizes) -> bool
+fn holds_record(file: &[u8], row: RowNo) -> bool
     ensures { result ≡ starts_with (record_of row.0) file.now }
 {
     let [size, field @ ..] = file else {
         return false;
     };
-    if usize::from(*size) != sizes.of(row) - 1 {
-        return false;
-    }
     if row.0 == 0 {
-        return true;
+        return *size == 0;
+    }
+    if usize::from(*size) != 1 + varint_size(row) {
+        return false;
     }
     let [key, groups @ ..] = field else {
         return false;
@@ -142,13 +134,20 @@ pub(crate) fn row_in(file: &[u8]) -> u64
     }
 }
 
-// The row of the file's first record, where the file begins with what the writer makes of a row.
-pub(crate) fn first_row(file: &[u8], sizes: &Sizes) -> Option<RowNo>
-    ensures { MatchOption result (is_record file.now ≡ false) (λ r. (is_record file.now ≡ true) × (r.0 ≡ row_in file.now)) }
+// Whether the file begins with what the writer makes of a row.
+pub(crate) fn is_record(file: &[u8]) -> bool
+    ensures { result ≡ is_record file.now }
 {
     let Ok(row) = u32::try_from(row_in(file)) else {
-        return None;
+        return false;
     };
-    let row = RowNo(row);
-    holds_record(file, row, sizes).then_some(row)
+    holds_record(file, RowNo(row))
+}
+
+// The size of the file's first record, which its length byte tells.
+pub(crate) fn size_in(file: &[u8]) -> usize
+    requires { is_record file.now ≡ true }
+    ensures { result ≡ size_in file.now }
+{
+    1 + usize::from(file[0])
 }

@@ -4,20 +4,18 @@ use mathlib.Core.Bool.{true, false}
 use mathlib.Core.List.{List, [], ◌∷◌, ◌++◌}
 use Prim.Native.Nat.{ℕ, zero, suc, ◌+◌, ◌-◌, ◌*◌, ◌/◌, ◌%◌, ◌^◌, ◌<◌, ◌≤◌}
 use native.Mathlib.Omega.{arith}
-use native.Mathlib.Numerals.{add-one}
-use lib.Count.{count_leading_zeros, leading_top}
+use lib.Count.{count_leading_zeros}
 use lib.Dec.{ltb, eqb}
 use lib.ListN.{length, length-append}
-use lib.Pow.{pow-add}
 use borrow.Author.Tests.{lt-ltb, le-ltb, ltb-true, ltb-false, eqb-true, eqb-false, eq-eqb, ne_eqb}
 use Rattle.lists.proofs.Tests.{by_cases}
 use Rattle.lists.proofs.Keyed.{All}
 use Rattle.delete_vector.specs.Encoding.{varint}
 use Rattle.delete_vector.specs.Records.{row_limit, record_of, records_of}
-use Rattle.delete_vector.specs.Sizes.{Significant}
+use Rattle.delete_vector.specs.Sizes.{significant_bits}
 use Rattle.delete_vector.proofs.Encoding.{varint-small, varint-big}
 use Rattle.delete_vector.proofs.Bytes.{big-length}
-use Rattle.delete_vector.proofs.Sizes.{varint-length, varint-short, record-zero, record-more, record-short}
+use Rattle.delete_vector.proofs.Sizes.{bits-zero, bits-half, zeros-bits, bits-within, varint-groups, varint-short, record-zero, record-more, record-short}
 use Rattle.risinglight.specs.Maps.{Outcome, ok, and_then}
 use Rattle.risinglight.specs.DeleteVector.{Read, read, varint_within, merge_next, fields_within, merge_delimited, decode_length_delimited, records_within, encoded_len_varint, encoded_len, varint_bytes, encode_varint, encode_raw, encode_length_delimited, write_all}
 
@@ -41,27 +39,20 @@ positive : (row : ℕ) → eqb row 0 ≡ false → 0 < row
 positive zero e = absurd (eqb-false 0 0 e refl)
 positive (suc row) e = omega arith
 
-twice-more : (j : ℕ) → 2 ^ suc j ≡ 2 ^ j * 2
-twice-more j = ap (λ (k : ℕ). 2 ^ k) (sym (add-one j)) ∙ pow-add 2 j 1
-
--- prost counts a varint's bytes by its bits
+-- prost counts a varint's bytes by the bits of its number, of which it takes the lowest as set
 counted : (value : ℕ) → value < row_limit → encoded_len_varint value ≡ length (varint value)
 counted value h =
     let a = value / 2 * 2 + 1 in
     let w : row_limit ≤ 2 ^ 64 = omega arith in
-    let t = leading_top 64 a (omega arith) (omega arith) in
-    let e = t.1 in
-    let q : 63 - count_leading_zeros 64 a ≡ t.0 = omega arith in
-    ap (λ (k : ℕ). (k * 9 + 73) / 64) q ∙ by_bits t.0 (omega arith) t.2 t.3
+    let z = zeros-bits 64 a (omega arith) in
+    let b : significant_bits a ≡ 1 + significant_bits (value / 2) = bits-half a (omega arith) ∙ ap (λ (n : ℕ). 1 + significant_bits n) (omega arith) in
+    let l = bits-within 31 (value / 2) (omega arith) in
+    let q : 63 - count_leading_zeros 64 a ≡ significant_bits (value / 2) = omega arith in
+    ap (λ (k : ℕ). (k * 9 + 73) / 64) q ∙ by_bits value l
   where
-    by_bits : (j : ℕ) → j ≤ 63 → 2 ^ j ≤ value / 2 * 2 + 1 → value / 2 * 2 + 1 < 2 ^ suc j → (j * 9 + 73) / 64 ≡ length (varint value)
-    by_bits zero l p q = let m = varint-small value (omega arith) in rw m
-    by_bits (suc j) l p q =
-        let e : 2 ^ suc j ≡ 2 ^ j * 2 = twice-more j in
-        let f : 2 ^ suc (suc j) ≡ 2 ^ suc j * 2 = twice-more (suc j) in
-        let s : Significant value (suc (suc j)) = record { within = omega arith; needed = omega arith } in
-        let k : (suc j * 9 + 73) / 64 ≡ (suc (suc j) + 6) / 7 = omega arith in
-        k ∙ sym (varint-length value (suc (suc j)) (omega arith) s)
+    by_bits : (value : ℕ) → significant_bits (value / 2) ≤ 31 → (significant_bits (value / 2) * 9 + 73) / 64 ≡ length (varint value)
+    by_bits zero l = rw (bits-zero, varint-small 0 (omega arith))
+    by_bits (suc n) l = let b = bits-half (suc n) (omega arith) in let g = varint-groups (suc n) (omega arith) in omega arith
 
 encoded : (row : ℕ) → row < row_limit → encode_length_delimited row ≡ record_of row
 encoded row h =

@@ -25,8 +25,7 @@ const NEWLINE: u8 = 5;
 const MARK: u8 = 6;
 
 // The table of classes. The compiler copies a constant array wherever it is indexed, so a call makes one of these and lends it to
-// all that looks at bytes. The table of record sizes in `delete_vector` is made alike; one type for both would need the rule as a
-// parameter, and be no plainer.
+// all that looks at bytes.
 #[derive(Drop)]
 pub struct ByteClasses {
     table: [u8; 256],

@@ -9,7 +9,6 @@ ghost use Rattle.transaction.specs.Groups.{handle_of, handles_of};
 ghost use Rattle.transaction.specs.Says.{no_id, GroupIs};
 ghost use Rattle.transaction.specs.Laws.{GroupLaws};
 
-use delete_vector::record::Sizes;
 use ids::limits::LARGEST_64;
 use ids::refusal::Refusal;
 use ids::{RowNo, RowsetNo, SecondaryRowHandler};
@@ -59,16 +58,15 @@ fn grouped(
     let mut ordered = [SecondaryRowHandler::default(); MOST_HANDLES];
     let ordered = &mut ordered[..n];
     given.by_rowset(ordered);
-    let sizes = Sizes::new();
     let mut rows = [0u32; MOST_HANDLES];
     let rows = &mut rows[..n];
     vectors::put_rows(ordered, rows);
-    let vectors = Vectors::of(&FewHandles { handles: ordered }, rows, &sizes);
+    let vectors = Vectors::of(&FewHandles { handles: ordered }, rows);
     let count = vectors.count;
     if LARGEST_64 - next < count as u64 {
         return Err(Refusal::IdsUsedUp);
     }
-    vectors.hand_out(rows, rs, ls, cs, fs, ms, &sizes)?;
+    vectors.hand_out(rows, rs, ls, cs, fs, ms)?;
     Ok(count)
 }
 

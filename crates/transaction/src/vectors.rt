@@ -8,7 +8,6 @@ ghost use Rattle.transaction.specs.Orders.{From};
 
 use super::MOST_HANDLES;
 use crate::order::FewHandles;
-use delete_vector::record::Sizes;
 use delete_vector::{file, memory};
 use ids::refusal::Refusal;
 use ids::{RowsetNo, SecondaryRowHandler};
@@ -68,11 +67,11 @@ impl Vectors {
     }
 
     // The vector of one more rowset, of these rows.
-    fn add(&mut self, rowset: RowsetNo, rows: &[u32], spare: &mut [u32], sizes: &Sizes)
+    fn add(&mut self, rowset: RowsetNo, rows: &[u32], spare: &mut [u32])
         requires { (self.old.count < most_handles) × (self.old.kept + length rows.now ≤ most_handles) × (length spare.old ≡ most_handles) }
         ensures { (self.new.kept ≤ self.old.kept + length rows.now) × ((vs : List Vector) → Holds vs self.old → Holds (vs ++ (record { rowset = rowset.0; file = records_of rows.now; memory = in_memory rows.now } ∷ [])) self.new) }
     {
-        let bytes = file::file_size(rows, sizes);
+        let bytes = file::file_size(rows);
         let count = ascend(rows, &mut self.held[self.kept..], spare);
         self.rowsets[self.count] = rowset.0;
         self.lengths[self.count] = bytes as u32;
@@ -82,7 +81,7 @@ impl Vectors {
     }
 
     // The vectors of handles that are in the order of their rowsets, and have these rows.
-    pub fn of(ordered: &FewHandles, rows: &[u32], sizes: &Sizes) -> Vectors
+    pub fn of(ordered: &FewHandles, rows: &[u32]) -> Vectors
         requires { From 0 (map handle_of ordered.now.handles.now) × (rows.now ≡ map (λ (h : Handle). h.row) (map handle_of ordered.now.handles.now)) }
         ensures { Holds (vectors_of (map handle_of ordered.now.handles.now)) result × (records_of rows.now ≡ files_in (vectors_of (map handle_of ordered.now.handles.now))) }
     {
@@ -94,7 +93,7 @@ impl Vectors {
             .chunk_by(|a, b| a.rowset_id() == b.rowset_id())
         {
             let end = at + run.len();
-            vectors.add(run[0].rowset_id(), &rows[at..end], &mut spare, sizes);
+            vectors.add(run[0].rowset_id(), &rows[at..end], &mut spare);
             at = end;
         }
         vectors
@@ -109,13 +108,12 @@ impl Vectors {
         cs: &mut [u32],
         fs: &mut [u8],
         ms: &mut [u32],
-        sizes: &Sizes,
     ) -> Result<(), Refusal>
         requires { length rows.now ≤ most_handles }
         ensures { (vs : List Vector) → Holds vs self.now → records_of rows.now ≡ files_in vs → Handed vs result rs.old ls.old cs.old fs.old ms.old rs.new ls.new cs.new fs.new ms.new }
     {
         let n = self.count;
-        let bytes = file::file_size(rows, sizes);
+        let bytes = file::file_size(rows);
         if rs.len() < n
             || ls.len() < n
             || cs.len() < n
@@ -127,7 +125,7 @@ impl Vectors {
         rs[..n].copy_from_slice(&self.rowsets[..n]);
         ls[..n].copy_from_slice(&self.lengths[..n]);
         cs[..n].copy_from_slice(&self.counts[..n]);
-        file::put_records(rows, fs, 0, sizes);
+        file::put_records(rows, fs, 0);
         ms[..self.kept].copy_from_slice(&self.held[..self.kept]);
         Ok(())
     }
