@@ -1,6 +1,7 @@
 -- What the loops over bytes need: a record written, compared and read byte by byte. Assumes nothing.
 use mathlib.Core.Bool.{and-true}
-use Rattle.std.proofs.Common.{◌≡◌, ℕ, zero, suc, ◌+◌, ◌-◌, ◌/◌, ◌%◌, ◌<◌, ◌≤◌, true, false, ◌&&◌, eqb, ltb, List, [], ◌∷◌, length, get_or, take, drop, set, sym, refl, ap, ◌++◌, ◌∙◌, add-one, arith, length-set, drop_of_length-le, drop-cons, ltb-false, ltb-true, eq-eqb, ne_eqb}
+use Rattle.std.proofs.Common.{◌≡◌, ℕ, zero, suc, ◌+◌, ◌-◌, ◌/◌, ◌%◌, ◌<◌, ◌≤◌, true, false, ◌&&◌, eqb, ltb, List, [], ◌∷◌, length, get_or, take, drop, set, sym, ap, ◌++◌, ◌∙◌, add-one, arith, length-set, drop_of_length-le, drop-cons, ltb-false, ltb-true, eq-eqb, ne_eqb}
+use Rattle.std.proofs.lemmas.List.{nil_from_length}
 use Rattle.std.proofs.lemmas.Slice.{between_to_end}
 use Rattle.lists.specs.Written.{written, Wrote}
 use Rattle.lists.proofs.Tests.{by_cases}
@@ -101,11 +102,7 @@ module _ (s : List ℕ) (row : ℕ) (h : row < row_limit) (l : 1 ≤ length s) w
       second = first ∙ rw (eq-eqb _ _ e)
 
       pub starts-short : length (rest_of s) < 1 → starts_with (record_of row) s ≡ false
-      starts-short n = second ∙ ap (starts_with (8 ∷ varint row)) (none (rest_of s) n)
-        where
-          none : (t : List ℕ) → length t < 1 → t ≡ []
-          none [] n = refl
-          none (b ∷ t) n = absurd (omega arith)
+      starts-short n = second ∙ ap (starts_with (8 ∷ varint row)) (nil_from_length (rest_of s) (omega arith))
 
       module _ (n : 1 ≤ length (rest_of s)) where
         pub starts-key : (get_or (rest_of s) 0 0 ≡ 8 → ⊥) → starts_with (record_of row) s ≡ false

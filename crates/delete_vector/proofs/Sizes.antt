@@ -1,5 +1,6 @@
 -- The sizes of a varint and of a record are those of the formulas. Assumes nothing.
-use Rattle.std.proofs.Common.{◌≡◌, ℕ, zero, suc, ◌+◌, ◌*◌, ◌/◌, ◌^◌, ◌<◌, ◌≤◌, ltb, [], ◌∷◌, length, refl, ap, ◌∙◌, arith, pow-add, ltb-false, ltb-true, ne_eqb}
+use Rattle.std.proofs.Common.{◌≡◌, ℕ, zero, suc, ◌+◌, ◌*◌, ◌/◌, ◌^◌, ◌<◌, ◌≤◌, ltb, [], ◌∷◌, length, refl, ap, arith, ltb-false, ltb-true, ne_eqb}
+use native.Mathlib.Nat.{pow-suc}
 use lib.Count.{count_leading_zeros, leading_length}
 use Rattle.std.specs.Int.{div_ceil}
 use Rattle.lists.proofs.Tests.{by_cases}
@@ -34,9 +35,6 @@ unfolding significant_bits bits_by
 bits-half zero p = absurd (omega arith)
 bits-half (suc n) p = ap (λ (b : ℕ). 1 + b) (bound n (suc n / 2) (suc n / 2) (omega arith) (omega arith))
 
-twice : (b : ℕ) → 2 ^ suc b ≡ 2 * 2 ^ b
-twice b = ap (λ (k : ℕ). 2 ^ k) (omega arith) ∙ pow-add 2 1 b
-
 -- the zeros before the significant bits of a number of k bits are the rest
 pub zeros-bits : (k n : ℕ) → n < 2 ^ k → count_leading_zeros k n + significant_bits n ≡ k
 unfolding count_leading_zeros
@@ -44,7 +42,7 @@ zeros-bits zero zero h = rw bits-zero
 zeros-bits zero (suc n) h = absurd (omega arith)
 zeros-bits (suc k) zero h = rw bits-zero (omega arith)
 zeros-bits (suc k) (suc n) h =
-    let p = twice k in
+    let p = pow-suc 2 k in
     let e = zeros-bits k (suc n / 2) (omega arith) in
     let b = bits-half (suc n) (omega arith) in
     omega arith
@@ -52,7 +50,7 @@ zeros-bits (suc k) (suc n) h =
 -- the bits of a number are those that it needs
 below : (n : ℕ) → n < 2 ^ n
 below zero = omega arith
-below (suc n) = let p = twice n in let h = below n in omega arith
+below (suc n) = let p = pow-suc 2 n in let h = below n in omega arith
 
 pub bits-counted : (n : ℕ) → (n < 2 ^ significant_bits n) × (2 ^ significant_bits n ≤ 2 * n + 1)
 bits-counted n =
