@@ -331,8 +331,15 @@ impl Both {
             0 => self.random.below(3) as usize,
             _ => shown,
         };
-        let sizes: Vec<u64> = (0..sizes).map(|_| self.random.number() as u64).collect();
-        let target = self.random.number() as u64 * (1 + self.random.below(9));
+        let mut sizes: Vec<u64> = (0..sizes).map(|_| self.random.number() as u64).collect();
+        let mut target = self.random.number() as u64 * (1 + self.random.below(9));
+        // In some one alone is taken.
+        if !sizes.is_empty() && self.random.below(4) == 0 {
+            let alone = self.random.below(sizes.len() as u64) as usize;
+            sizes.fill(1);
+            sizes[alone] = 0;
+            target = 0;
+        }
         let room = self.room(20);
         let (mut x, mut y) = (vec![0u32; room], vec![0u32; room]);
         let p = port::select(self.port, table, target, &sizes, &mut x);

@@ -168,7 +168,12 @@ pub fn tables(rows: &mut Rows) {
         );
     }
     let full = reopened(&texts::one_table(256));
-    select(rows, "select, 256 rowsets".into(), full);
+    let mut random = crate::agree::Random(88172645463325252);
+    let sizes: Vec<u64> = (0..256).map(|_| random.below(1000)).collect();
+    let target = sizes.iter().sum::<u64>() / 3;
+    select(rows, "select, 256 rowsets".into(), full, sizes, target);
+    let last = (0..256).map(|i| u64::from(i < 255)).collect();
+    select(rows, "select, one of 256 rowsets".into(), full, last, 0);
     making(
         rows,
         "drop of a table of 256".into(),
@@ -245,11 +250,8 @@ fn making(
     );
 }
 
-// Of sizes at random about half are taken.
-fn select(rows: &mut Rows, name: String, m: port::Manager) {
-    let mut random = crate::agree::Random(88172645463325252);
-    let sizes = kept((0..256).map(|_| random.below(1000)).collect::<Vec<u64>>());
-    let target = sizes.iter().sum::<u64>() / 3;
+fn select(rows: &mut Rows, name: String, m: port::Manager, sizes: Vec<u64>, target: u64) {
+    let sizes = kept(sizes);
     let (m, c, out) = (kept(m), kept(m), buffer::<u32>(MOST_HELD));
     let p = port::select(*m, 0, target, sizes, at(out));
     let taken = copied(out);

@@ -418,8 +418,9 @@ impl VersionManager {
     }
 
     /// Which of the table's rowsets a compaction is to take, given the size of each, ascending by their ids: as many as
-    /// have at most `target` together, from the lowest id on. One or none means that there is nothing to do, and none
-    /// is answered. Refused by [`Refusal::WrongCount`] where the table's rowsets are others by now.
+    /// have at most `target` together, from the lowest id on. None is answered where there is nothing to do: none fits, or
+    /// one alone does and no delete vector that is shown now lies over it. Refused by [`Refusal::WrongCount`] where the
+    /// table's rowsets are others by now.
     pub fn select(&self, table_id: TableId, target: u64, sizes: &[(RowsetId, u64)]) -> StorageResult<Vec<RowsetId>> {
         let numbers: Vec<u64> = sizes.iter().map(|(_, size)| *size).collect();
         let mut inner = self.inner();

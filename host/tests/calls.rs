@@ -222,6 +222,7 @@ fn selection_and_compaction() {
     let dvs = manager.group_deletes(&[SecondaryRowHandler(RowsetId(0), RowId(1))]).expect("a vector");
     let dv_id = dvs[0].vector.dv_id();
     manager.commit_changes([EpochOp::add_dv(SLOTS, RowsetId(0), dv_id)]).expect("a commit");
+    assert_eq!(manager.select(SLOTS, 59, &sized).expect("a selection"), [RowsetId(0)], "a vector lies over it");
     let lock = manager.lock_table(SLOTS).expect("a lock");
     let new = manager.draw_rowset_id().expect("an id");
     assert_eq!(number(manager.compact(&lock, Some(new), &[RowsetId(2), RowsetId(0)])), (2, 0), "they have to rise");
@@ -236,6 +237,17 @@ fn selection_and_compaction() {
     assert_eq!(done.dvs, [(SLOTS, RowsetId(0), dv_id)]);
 
     let other = store(1);
+    let alone = [(RowsetId(0), 9)];
+    assert_eq!(other.select(SLOTS, 9, &alone).expect("a selection"), []);
+    let over = other.group_deletes(&[SecondaryRowHandler(RowsetId(0), RowId(1))]).expect("a vector")[0].vector.dv_id();
+    other.commit_changes([EpochOp::add_dv(SLOTS, RowsetId(0), over)]).expect("a commit");
+    assert_eq!(other.select(SLOTS, 9, &alone).expect("a selection"), [RowsetId(0)]);
+    assert_eq!(other.select(SLOTS, 8, &alone).expect("a selection"), [], "it does not fit");
+    let pin = other.pin().expect("a pin");
+    other.commit_changes([EpochOp::delete_dv(SLOTS, RowsetId(0), over)]).expect("a commit");
+    assert_eq!(other.select(SLOTS, 9, &alone).expect("a selection"), [], "the vector waits");
+    drop(pin);
+
     let foreign = other.lock_table(SLOTS).expect("a lock");
     assert_eq!(number(manager.compact(&foreign, None, &[])), (27, 0), "another store's lock");
 }

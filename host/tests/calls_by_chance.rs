@@ -210,7 +210,9 @@ impl Writer {
             })
             .map(|(r, _)| *r)
             .collect();
-        assert_eq!(taken, if by_hand.len() > 1 { by_hand } else { vec![] });
+        let covered = |r: &RowsetId| self.model.sets.vectors.iter().any(|v| (v.0, v.1) == (table, r.0));
+        let enough = by_hand.len() > 1 || by_hand.iter().any(covered);
+        assert_eq!(taken, if enough { by_hand } else { vec![] });
         let new = match self.random.one_in(4) {
             true => None,
             false => {

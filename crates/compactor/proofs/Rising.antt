@@ -1,6 +1,6 @@
 -- What is selected of a state that passes 29 rises strictly. Assumes nothing.
 use mathlib.Core.Path.{◌≡◌, refl, sym, subst, ◌∙◌}
-use mathlib.Core.Bool.{true, false}
+use mathlib.Core.Bool.{true, false, ◌||◌}
 use mathlib.Core.List.{List, [], ◌∷◌, map}
 use Prim.Native.Nat.{ℕ}
 use lib.Dec.{leb}
@@ -14,10 +14,10 @@ use Rattle.lists.proofs.Keyed.{All, Ascending, all_keep, all-mapped, kept-all, a
 use Rattle.columns.proofs.Rows.{rows_all}
 use Rattle.snapshot.specs.Entries.{Entry, by_ids, shown_by, of_table, entry_at}
 use Rattle.version_state.specs.declared.VersionManagerInner.{VersionManagerInner}
-use Rattle.version_state.specs.State.{state_of}
+use Rattle.version_state.specs.State.{State, state_of}
 use Rattle.version_state.specs.Sound.{bad_inner}
 use Rattle.version_state.proofs.Facts.{sound-of}
-use Rattle.compactor.specs.Selection.{Sized, taken, compacted, sized, rowsets_now, selected}
+use Rattle.compactor.specs.Selection.{Sized, taken, sized, rowsets_now, taken_now, any_over, compacted, selected}
 use Rattle.compactor.specs.Laws.{by_rowset, Part, none, more, past}
 use Rattle.compactor.proofs.Taking.{rowset_in, rowset_at}
 use Rattle.compactor.proofs.Selecting.{rowsets-shown}
@@ -47,8 +47,8 @@ sized-rising [] ns h = tt
 sized-rising (r ∷ rs) [] h = tt
 sized-rising (r ∷ rs) (n ∷ ns) h = (sized-all (λ y. less (by_rowset r) (by_rowset y) ≡ true) rs ns h.0, sized-rising rs ns h.1)
 
-compacted-rising : (l : List Sized) → Ascending by_sized l → Ascending by_sized (compacted l)
-compacted-rising l h = by_cases (leb (length l) 1) (λ e. rw e tt) (λ e. rw e h)
+compacted-rising : (t : ℕ) (rs : List ℕ) (s : State) → Ascending by_rowset rs → Ascending by_rowset (compacted t rs s)
+compacted-rising t rs s h = by_cases (leb 2 (length rs) || any_over t rs s) (λ e. rw e h) (λ e. rw e tt)
 
 mapped-rising : (l : List Sized) → Ascending by_sized l → Ascending by_rowset (map rowset_in l)
 mapped-rising [] h = tt
@@ -73,16 +73,21 @@ module _ (t : ℕ) where
   run-rising (x ∷ l) s h p =
       (all-mapped (λ y. less (by_rowset (rowset_at x)) (by_rowset y) ≡ true) rowset_at l (after-it x l p.0 h.0 s.0 h.1 p.1), run-rising l s.1 h.1 p.1)
 
-pub selected-rises : (m : VersionManagerInner) → bad_inner m ≡ false → (t target : ℕ) (ns : List ℕ) → ascending by_rowset (selected t target ns (state_of m)) ≡ true
-selected-rises m h t target ns =
-    let p = m.rowsets in
-    let held = (state_of m).pairs in
-    let shown = keep (shown_by m.epoch) held in
-    let pairs : All Pair held = rows_all (entry_at (p.tables ∷ p.rowsets ∷ []) p.added p.deleted) Pair (λ i. refl) p.count in
-    let run = run-rising t (keep (of_table t) shown)
-    (ascending-keep by_ids (of_table t) shown (ascending-keep by_ids (shown_by m.epoch) held (ascend-to by_ids held (sound-of m h).ordered.pairs)))
-    (kept-all (of_table t) shown)
-    (all_keep Pair (of_table t) shown (all_keep Pair (shown_by m.epoch) held pairs)) in
-    let now : Ascending by_rowset (rowsets_now t (state_of m)) = subst (Ascending by_rowset) (rowsets-shown t (state_of m)) run in
-    let l = sized (rowsets_now t (state_of m)) ns in
-    ascend-from by_rowset (selected t target ns (state_of m)) (mapped-rising (compacted (taken target l)) (compacted-rising (taken target l) (part-rising (part-on target 0 l) (sized-rising (rowsets_now t (state_of m)) ns now))))
+module _ (m : VersionManagerInner) (h : bad_inner m ≡ false) (t : ℕ) where
+  pub rowsets-rise : Ascending by_rowset (rowsets_now t (state_of m))
+  rowsets-rise =
+      let p = m.rowsets in
+      let held = (state_of m).pairs in
+      let shown = keep (shown_by m.epoch) held in
+      let pairs : All Pair held = rows_all (entry_at (p.tables ∷ p.rowsets ∷ []) p.added p.deleted) Pair (λ i. refl) p.count in
+      let run = run-rising t (keep (of_table t) shown)
+      (ascending-keep by_ids (of_table t) shown (ascending-keep by_ids (shown_by m.epoch) held (ascend-to by_ids held (sound-of m h).ordered.pairs)))
+      (kept-all (of_table t) shown)
+      (all_keep Pair (of_table t) shown (all_keep Pair (shown_by m.epoch) held pairs)) in
+      subst (Ascending by_rowset) (rowsets-shown t (state_of m)) run
+
+  pub selected-rises : (target : ℕ) (ns : List ℕ) → ascending by_rowset (selected t target ns (state_of m)) ≡ true
+  selected-rises target ns =
+      let l = sized (rowsets_now t (state_of m)) ns in
+      let rising = mapped-rising (taken target l) (part-rising (part-on target 0 l) (sized-rising (rowsets_now t (state_of m)) ns rowsets-rise)) in
+      ascend-from by_rowset (selected t target ns (state_of m)) (compacted-rising t (taken_now t target ns (state_of m)) (state_of m) rising)

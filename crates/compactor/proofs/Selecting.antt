@@ -1,16 +1,14 @@
 -- What a selection is where it refuses and where it accepts. Assumes nothing.
 use mathlib.Core.Path.{◌≡◌, sym, ap, ◌∙◌}
-use mathlib.Core.Bool.{true, false, cond}
-use mathlib.Core.List.{List, [], map, map-map}
+use mathlib.Core.Bool.{true, false}
+use mathlib.Core.List.{List, map, map-map}
 use Prim.Native.Nat.{ℕ, ◌≤◌, ◌<◌}
 use native.Mathlib.Omega.{arith}
-use lib.Dec.{leb, eqb}
 use lib.ListN.{length, get_or, length-map}
 use borrow.Author.Tests.{eq-eqb, ne_eqb, lt-ltb, le-ltb}
 use Rattle.std.specs.Prelude.{Ok, Err}
 use Rattle.lists.specs.Keyed.{keep}
 use Rattle.lists.specs.Written.{over}
-use Rattle.lists.proofs.Tests.{by_cases}
 use Rattle.lists.proofs.Keyed.{keep-map, length-keep}
 use Rattle.ids.specs.Ids.{is_id32}
 use Rattle.ids.specs.declared.refusal.Refusal.{Refusal}
@@ -23,9 +21,10 @@ use Rattle.snapshot.specs.declared.rowsets.Rowsets.{Rowsets}
 use Rattle.version_state.specs.declared.VersionManagerInner.{VersionManagerInner}
 use Rattle.version_state.specs.State.{State, state_of}
 use Rattle.operations.specs.Judge.{is_live}
-use Rattle.compactor.specs.Selection.{Sized, taken, sized, rowsets_now, selected}
+use Rattle.table.specs.Made as made
+use Rattle.compactor.specs.Selection.{rowsets_now, selected}
 use Rattle.compactor.specs.Says.{select_rules, SelectIs}
-use Rattle.compactor.proofs.Taking.{rowset_in, rowset_at}
+use Rattle.compactor.proofs.Taking.{rowset_at}
 
 -- no more is shown than is held
 pub shown-few : (t e : ℕ) (s : Rowsets) → length (keep (of_table t) (keep (shown_by e) (rowsets_of s))) ≤ s.count
@@ -38,7 +37,7 @@ pub rowsets-shown : (t : ℕ) (s : State) → map rowset_at (keep (of_table t) (
 rowsets-shown t s =
     let l = keep (shown_by s.epoch) s.pairs in
     sym (map-map (λ (k : List ℕ). get_or k 1 0) by_ids (keep (of_table t) l))
-    ∙ ap (map (λ (k : List ℕ). get_or k 1 0)) (sym (keep-map by_ids (λ k. eqb (get_or k 0 0) t) l))
+    ∙ ap (map (λ (k : List ℕ). get_or k 1 0)) (sym (keep-map by_ids (made.of_table t) l))
 
 pub rowsets-few : (t : ℕ) (m : VersionManagerInner) → length (rowsets_now t (state_of m)) ≤ m.rowsets.count
 rowsets-few t m =
@@ -47,16 +46,6 @@ rowsets-few t m =
     omega (arith, e, length-map l rowset_at, shown-few t m.epoch m.rowsets)
 
 module _ (m : VersionManagerInner) (t target : ℕ) (ns : List ℕ) where
-  abbrev all : List Sized
-  all = taken target (sized (rowsets_now t (state_of m)) ns)
-
-  -- what was taken, with one or none as no compaction
-  pub selected-are : (c r : List ℕ) → c ≡ map rowset_in all → r ≡ cond (leb (length c) 1) [] c → r ≡ selected t target ns (state_of m)
-  selected-are c r told q =
-      q
-      ∙ ap (λ (d : List ℕ). cond (leb (length d) 1) [] d) told
-      ∙ rw (length-map all rowset_in) (by_cases (leb (length all) 1) (λ b. rw b) (λ b. rw b))
-
   module _ (out : List ℕ) where
     refuses : (k : Refusal) → judged (select_rules (state_of m) t target ns (length out)) ≡ Err k → SelectIs (state_of m) t target ns out (Err k) out
     refuses k h = record { answer = rw h; rowsets = rw h }

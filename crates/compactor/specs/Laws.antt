@@ -1,4 +1,4 @@
--- What is taken of entries in order, before the rule of one or none; and the order of what is selected. Assumes nothing.
+-- What is taken of entries in order, before it is asked whether that is enough; and the order of what is selected. Assumes nothing.
 use Rattle.std.specs.Prelude.{◌≡◌, true, false, List, [], ◌∷◌, ◌++◌, ℕ, ◌+◌, ◌≤◌, ◌<◌, length, take}
 use Rattle.lists.specs.Keyed.{ascending}
 use Rattle.version_state.specs.declared.VersionManagerInner.{VersionManagerInner}

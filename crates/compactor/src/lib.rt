@@ -1,18 +1,19 @@
 // Selection: which of a table's rowsets a compaction takes, by their sizes.
 #![tactic(auto)]
 
-ghost use Rattle.std.specs.Prelude.{◌≡◌, cond, ◌≤◌, [], map, leb, length, get_or};
+ghost use Rattle.std.specs.Prelude.{◌≡◌, true, ◌≤◌, [], ◌∷◌, map, length, get_or};
+ghost use Rattle.ids.specs.Ids.{is_id32};
 ghost use Rattle.ids.specs.Limits.{most_held};
 ghost use Rattle.snapshot.specs.Passing.{to_come};
 ghost use Rattle.version_state.specs.State.{state_of};
-ghost use Rattle.compactor.specs.Selection.{taken, sized};
+ghost use Rattle.compactor.specs.Selection.{taken, sized, any_over, compacted};
 ghost use Rattle.compactor.specs.Says.{SelectIs};
 ghost use Rattle.compactor.specs.Laws.{TakenLaws};
 
 use arrayvec::ArrayVec;
-use ids::TableNo;
 use ids::limits::MOST_HELD;
 use ids::refusal::Refusal;
+use ids::{RowsetNo, TableNo};
 use snapshot::epoch::ShownBy;
 use snapshot::held::HeldColumns;
 use snapshot::passing::Passing;
@@ -45,14 +46,27 @@ fn take(
     chosen
 }
 
-// One or none taken means no compaction.
-fn compacted(taken: &[u32]) -> &[u32]
-    ensures { result.now ≡ cond (leb (length taken.now) 1) [] taken.now }
+// Whether a vector that is shown now lies over the rowset.
+fn any_over(state: SoundState<'_>, table: TableNo, rowset: RowsetNo) -> bool
+    requires { is_id32 table.0 ≡ true }
+    ensures { result ≡ any_over table.0 (rowset.0 ∷ []) (state_of state.entry.inner.now) }
 {
-    if taken.len() <= 1 {
-        return &[];
+    let inner = state.inner;
+    inner
+        .vectors
+        .shown_of(table, inner.epoch)
+        .any(|v| v.ids.rowset == rowset)
+}
+
+// One rowset alone, with no vector over it, is not enough for a compaction.
+fn compacted<'a>(state: SoundState<'_>, table: TableNo, taken: &'a [u32]) -> &'a [u32]
+    requires { is_id32 table.0 ≡ true }
+    ensures { result.now ≡ compacted table.0 taken.now (state_of state.entry.inner.now) }
+{
+    match taken {
+        [rowset] if !any_over(state, table, RowsetNo(*rowset)) => &[],
+        _ => taken,
     }
-    taken
 }
 
 // Answers how many rowsets are to be compacted. The slices come one by one, as C lends them.
@@ -77,7 +91,7 @@ pub fn select(
     }
     let shown = inner.rowsets.shown_of(table, inner.epoch);
     let taken = take(shown, sizes, target);
-    let chosen = compacted(taken.as_slice());
+    let chosen = compacted(state, table, taken.as_slice());
     let count = chosen.len();
     if out.len() < count {
         return Err(Refusal::OutputTooShort);

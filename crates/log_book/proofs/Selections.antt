@@ -3,12 +3,11 @@ use mathlib.Core.Path.{◌≡◌, refl, ◌∙◌}
 use mathlib.Core.Bool.{Bool, false}
 use mathlib.Core.List.{List, [], ◌∷◌}
 use Prim.Native.Nat.{ℕ}
-use native.Mathlib.Omega.{arith}
 use lib.ListN.{length}
 use Rattle.lists.specs.Written.{over}
 use Rattle.ids.specs.declared.refusal.Refusal.TheVariants.{BadManager}
 use Rattle.ids.specs.Verdicts.{◌⇒◌, judged, Verdict}
-use Rattle.ids.specs.Answers.{told, after}
+use Rattle.ids.specs.Answers.{Told, told, after}
 use Rattle.text.specs.Class.{is_digit, is_lower, is_capital, class_of}
 use Rattle.text.specs.Decimal.{digits_by, digits}
 use Rattle.text.specs.Name.{is_name_byte, is_name}
@@ -19,33 +18,40 @@ use Rattle.operations.specs.Steps.{step_of}
 use Rattle.compactor.specs.Selection.{selected}
 use Rattle.compactor.specs.Says.{select_rules}
 use Rattle.version_manager.specs.Managers.{held_by, bad_manager}
-use Rattle.log_book.specs.Selections.{three, Selects, SelectionCases}
-use Rattle.log_book.proofs.Vacuums.{Good, passes}
+use Rattle.log_book.specs.Selections.{three, lone, waiting, beside, Selects, selects, too_short, SelectionCases}
+use Rattle.log_book.proofs.Vacuums.{is_bad, passes}
 
-three-good : Good three
-unfolding is_digit is_lower is_capital class_of is_name_byte is_name gone_at shown_at
-three-good = record { manifest = omega arith; names = refl; ordered = record { tables = refl; pairs = refl; vectors = refl }; below = refl; pairs = refl; vectors = refl; whole = refl }
-
-module _ (target : ℕ) where
+module _ (target : ℕ) (ns out : List ℕ) where
   -- of a manager that 29 refuses or not, and of any state and table
   abbrev verdict : Bool → State → ℕ → Verdict
-  verdict b s t = judged ((b ⇒ BadManager) ∷ select_rules s t target (40 ∷ 70 ∷ 20 ∷ []) 3)
+  verdict b s t = judged ((b ⇒ BadManager) ∷ select_rules s t target ns (length out))
 
-  module _ (n : ℕ) (l : List ℕ) where
-    selects : told (verdict false three 0) (length (selected 0 target (40 ∷ 70 ∷ 20 ∷ []) three) ∷ []) ≡ record { number = 0; place = 0; values = n ∷ [] }
-        → after (verdict false three 0) (over (selected 0 target (40 ∷ 70 ∷ 20 ∷ []) three) (9 ∷ 9 ∷ 9 ∷ [])) (9 ∷ 9 ∷ 9 ∷ []) ≡ l
-        → Selects target n l
-    selects x y m t h f e r out w =
-        (w.answer ∙ answers (bad_manager m) (held_by m) t.0 (passes three m h f three-good) h.state e, w.rowsets ∙ leaves (bad_manager m) (held_by m) t.0 (passes three m h f three-good) h.state e)
-      where
-        answers : (b : Bool) (s : State) (u : ℕ) → b ≡ false → s ≡ three → u ≡ 0
-            → told (verdict b s u) (length (selected u target (40 ∷ 70 ∷ 20 ∷ []) s) ∷ []) ≡ record { number = 0; place = 0; values = n ∷ [] }
-        answers b s u f g k = rw (f, g, k) x
+  abbrev tells : Bool → State → ℕ → Told
+  tells b s t = told (verdict b s t) (length (selected t target ns s) ∷ [])
 
-        leaves : (b : Bool) (s : State) (u : ℕ) → b ≡ false → s ≡ three → u ≡ 0
-            → after (verdict b s u) (over (selected u target (40 ∷ 70 ∷ 20 ∷ []) s) (9 ∷ 9 ∷ 9 ∷ [])) (9 ∷ 9 ∷ 9 ∷ []) ≡ l
-        leaves b s u f g k = rw (f, g, k) y
+  abbrev leaves : Bool → State → ℕ → List ℕ
+  leaves b s t = after (verdict b s t) (over (selected t target ns s) out) out
+
+  of-state : (s : State) → is_bad s ≡ false → (x : Told) (l : List ℕ) → tells false s 0 ≡ x → leaves false s 0 ≡ l → Selects s target ns out x l
+  of-state s g x l a b m t h f e r out' w =
+      (w.answer ∙ same tells x a (bad_manager m) (held_by m) t.0 (passes s m h f g) h.state e, w.rowsets ∙ same leaves l b (bad_manager m) (held_by m) t.0 (passes s m h f g) h.state e)
+    where
+      same : {A : Type 0} (q : Bool → State → ℕ → A) (y : A) → q false s 0 ≡ y → (c : Bool) (z : State) (u : ℕ) → c ≡ false → z ≡ s → u ≡ 0 → q c z u ≡ y
+      same q y k c z u f g j = rw (f, g, j) k
 
 pub selection-cases : SelectionCases
 unfolding is_digit is_lower is_capital class_of digits_by digits is_name_byte is_name fields_text text_of gone_at shown_at step_of
-selection-cases = record { adds = refl; target60 = selects 60 2 (0 ∷ 2 ∷ 9 ∷ []) refl refl; target59 = selects 59 0 (9 ∷ 9 ∷ 9 ∷ []) refl refl }
+selection-cases =
+    record {
+      adds = refl;
+      target60 = of-state 60 (40 ∷ 70 ∷ 20 ∷ []) (9 ∷ 9 ∷ 9 ∷ []) three refl (selects 2) (0 ∷ 2 ∷ 9 ∷ []) refl refl;
+      target59 = of-state 59 (40 ∷ 70 ∷ 20 ∷ []) (9 ∷ 9 ∷ 9 ∷ []) three refl (selects 0) (9 ∷ 9 ∷ 9 ∷ []) refl refl;
+      adds_lone = refl;
+      lone40 = of-state 40 (40 ∷ []) (9 ∷ []) lone refl (selects 1) (0 ∷ []) refl refl;
+      lone_short = of-state 40 (40 ∷ []) [] lone refl too_short [] refl refl;
+      lone39 = of-state 39 (40 ∷ []) (9 ∷ []) lone refl (selects 0) (9 ∷ []) refl refl;
+      deletes = refl;
+      waiting40 = of-state 40 (40 ∷ []) (9 ∷ []) waiting refl (selects 0) (9 ∷ []) refl refl;
+      adds_beside = refl;
+      beside40 = of-state 40 (40 ∷ []) (9 ∷ []) beside refl (selects 0) (9 ∷ []) refl refl;
+    }

@@ -1,9 +1,7 @@
 -- The entries on deletions and pins: by computing on the state and its pins, and from there to managers and books. Assumes nothing.
 use mathlib.Core.Path.{◌≡◌, refl, sym, ap, ap₂, subst, ◌∙◌}
-use mathlib.Core.Bool.{true, false}
-use mathlib.Core.List.{List, [], ◌∷◌}
-use Prim.Native.Nat.{◌≤◌}
-use native.Mathlib.Omega.{arith}
+use mathlib.Core.Bool.{Bool, true, false, not, ◌||◌}
+use mathlib.Core.List.{List}
 use lib.Dec.{ltb}
 use lib.ListN.{length}
 use Rattle.lists.specs.Keyed.{all_of, ascending}
@@ -12,10 +10,10 @@ use Rattle.text.specs.Class.{is_digit, is_lower, is_capital, class_of}
 use Rattle.text.specs.Decimal.{digits_by, digits}
 use Rattle.text.specs.Name.{is_name_byte, is_name}
 use Rattle.manifest.specs.Lines.{fields_text, text_of}
-use Rattle.snapshot.specs.Entries.{Entry, gone_at, shown_at, within}
+use Rattle.snapshot.specs.Entries.{Entry, gone_at, shown_at}
 use Rattle.version_state.specs.State.{State, Hands}
-use Rattle.version_state.specs.Sound.{left_behind}
-use Rattle.version_state.proofs.Facts.{Ordered, of-sound}
+use Rattle.version_state.specs.Sound.{left_behind, out_of_order, above_own, bad_inner}
+use Rattle.version_state.proofs.Facts.{fit-counts}
 use Rattle.operations.specs.Steps.{step_of}
 use Rattle.pins.specs.declared.PinBook.{PinBook}
 use Rattle.pins.specs.Book.{PinEntry, by_place, valid_pin, Keeps, bad_book}
@@ -25,21 +23,16 @@ use Rattle.vacuum.specs.LetGo.{vacuum_list, vacuumed}
 use Rattle.vacuum.specs.Says.{bound_of, list_of}
 use Rattle.version_manager.specs.declared.VersionManager.{VersionManager}
 use Rattle.version_manager.specs.Managers.{held_by, bad_former, bad_manager}
-use Rattle.log_book.specs.Vacuums.{two, cleared, Lists, VacuumCases}
+use Rattle.log_book.specs.Vacuums.{Lists, VacuumCases}
 
--- what 29 asks of a state
-pub record Good (s : State) : Type 0 where
-  pub manifest : s.manifest ≤ longest_manifest
-  pub names : all_of (λ x. is_name x.name) s.tables ≡ true
-  pub ordered : Ordered s
-  pub below : all_of (λ x. ltb x.table s.next_table) s.tables ≡ true
-  pub pairs : all_of (within s.epoch (s.next_table ∷ s.next_rowset ∷ [])) s.pairs ≡ true
-  pub vectors : all_of (within s.epoch (s.next_table ∷ s.next_rowset ∷ s.next_vector ∷ [])) s.vectors ≡ true
-  pub whole : left_behind s.epoch s ≡ false
+-- what 29 asks of a state whose counts are within the limits
+abbrev pub is_bad : State → Bool
+is_bad s =
+    (ltb longest_manifest s.manifest || not (all_of (λ x. is_name x.name) s.tables)) || (out_of_order s || (above_own s || left_behind s.epoch s))
 
 -- what the vacuum of a state and its pins is
 record Computed (s : State) (l : List PinEntry) (es : List Entry) (t : State) : Type 0 where
-  good : Good s
+  good : is_bad s ≡ false
   valid : all_of (valid_pin s.epoch) l ≡ true
   rising : ascending by_place l ≡ true
   list : vacuum_list (bound (guards_by s.epoch l)) s ≡ es
@@ -47,11 +40,9 @@ record Computed (s : State) (l : List PinEntry) (es : List Entry) (t : State) : 
   leaves : vacuumed (bound (guards_by s.epoch l)) s ≡ t
 
 module _ (s : State) (m : VersionManager) (h : Hands m.inner s) (f : bad_former m ≡ false) where
-  pub passes : Good s → bad_manager m ≡ false
+  pub passes : is_bad s ≡ false → bad_manager m ≡ false
   passes g =
-      let k = subst Good (sym h.state) g in
-      let i = of-sound m.inner
-      (record { fits = h.fits; manifest = k.manifest; names = k.names; ordered = k.ordered; below = k.below; pairs = k.pairs; vectors = k.vectors; whole = k.whole }) in
+      let i : bad_inner m.inner ≡ false = rw (fit-counts m.inner h.fits) (subst (λ (t : State). is_bad t ≡ false) (sym h.state) g) in
       rw (i, f)
 
   module _ (l : List PinEntry) (b : PinBook) (k : Keeps b l) where
@@ -78,14 +69,6 @@ module _ (s : State) (m : VersionManager) (h : Hands m.inner s) (f : bad_former 
         let f : ltb 1 (length (list_of (held_by m) b)) ≡ false = ap (λ (x : List Entry). ltb 1 (length x)) i ∙ c.fewer in
         record { passes = p; verdict = rw (p, q, f); list = i; leaves = is-left ∙ c.leaves }
 
-two_good : Good two
-unfolding is_digit is_lower is_capital class_of is_name_byte is_name gone_at shown_at
-two_good = record { manifest = omega arith; names = refl; ordered = record { tables = refl; pairs = refl; vectors = refl }; below = refl; pairs = refl; vectors = refl; whole = refl }
-
-cleared-good : Good cleared
-unfolding is_digit is_lower is_capital class_of is_name_byte is_name gone_at shown_at
-cleared-good = record { manifest = omega arith; names = refl; ordered = record { tables = refl; pairs = refl; vectors = refl }; below = refl; pairs = refl; vectors = refl; whole = refl }
-
 pub vacuum-cases : VacuumCases
 unfolding is_digit is_lower is_capital class_of digits_by digits is_name_byte is_name fields_text text_of gone_at shown_at step_of
 vacuum-cases =
@@ -93,10 +76,10 @@ vacuum-cases =
       adds = refl;
       pins = refl;
       deletes = refl;
-      pinned = λ m b h f k. lists _ m h f _ b k _ _ (record { good = two_good; valid = refl; rising = refl; list = refl; fewer = refl; leaves = refl });
+      pinned = λ m b h f k. lists _ m h f _ b k _ _ (record { good = refl; valid = refl; rising = refl; list = refl; fewer = refl; leaves = refl });
       unpins = refl;
-      unpinned = λ m b h f k. lists _ m h f _ b k _ _ (record { good = two_good; valid = refl; rising = refl; list = refl; fewer = refl; leaves = refl });
-      then = λ m b h f k. lists _ m h f _ b k _ _ (record { good = cleared-good; valid = refl; rising = refl; list = refl; fewer = refl; leaves = refl });
+      unpinned = λ m b h f k. lists _ m h f _ b k _ _ (record { good = refl; valid = refl; rising = refl; list = refl; fewer = refl; leaves = refl });
+      then = λ m b h f k. lists _ m h f _ b k _ _ (record { good = refl; valid = refl; rising = refl; list = refl; fewer = refl; leaves = refl });
       pins_later = refl;
-      own_epoch = λ m b h f k. lists _ m h f _ b k _ _ (record { good = two_good; valid = refl; rising = refl; list = refl; fewer = refl; leaves = refl });
+      own_epoch = λ m b h f k. lists _ m h f _ b k _ _ (record { good = refl; valid = refl; rising = refl; list = refl; fewer = refl; leaves = refl });
     }

@@ -1,20 +1,26 @@
 -- Where the Rust selects what the port does for a compaction, and where not. Assumes nothing.
-use Rattle.std.specs.Prelude.{◌≡◌, Bool, true, false, cond, not, ◌||◌, List, [], ◌∷◌, map, ℕ, ◌+◌, ◌≤◌, leb, ltb}
+use Rattle.std.specs.Prelude.{◌≡◌, Bool, true, false, cond, not, ◌&&◌, ◌||◌, List, [], ◌∷◌, map, ℕ, ◌+◌, ◌≤◌, leb, ltb, length}
 use Rattle.lists.specs.Keyed.{has, arranged, ascending}
 use Rattle.ids.specs.Ids.{largest64}
 use Rattle.version_state.specs.declared.VersionManagerInner.{VersionManagerInner}
-use Rattle.version_state.specs.State.{state_of, pairs_at}
+use Rattle.snapshot.specs.Entries.{added_at}
+use Rattle.version_state.specs.State.{State, start, with_vectors, state_of, pairs_at}
 use Rattle.version_state.specs.Sound.{bad_inner}
 use Rattle.delete_vector.specs.Memory.{in_memory}
-use Rattle.compactor.specs.Selection.{Sized, sized_as, taken, compacted, sized, rowsets_now, selected}
+use Rattle.compactor.specs.Selection.{Sized, sized_as, taken, sized, rowsets_now, taken_now, any_over, compacted, selected}
 use Rattle.compactor.specs.Laws.{total}
 use Rattle.plain_record.specs.Sets.{itself}
 use Rattle.risinglight.specs.Snapshot.{Snapshot, has_rowset}
+use Rattle.risinglight.specs.Differences.{one_held}
 use Rattle.risinglight.specs.Compactor.{get_rowsets_of, sized_rowset_id, by_rowset, select}
 
--- what the port selects of rowsets
+-- what the port selects of rowsets that no vector lies over
 abbrev pub selected_of : ℕ → List Sized → List ℕ
-selected_of target l = map sized_rowset_id (compacted (taken target l))
+selected_of target l = compacted 0 (map sized_rowset_id (taken target l)) start
+
+-- lone-rowset: of the table t one is taken, and a vector lies over it
+abbrev pub lone_rowset : ℕ → List ℕ → State → Bool
+lone_rowset t rs s = leb (length rs) 1 && any_over t rs s
 
 -- selection-order: they come in another order than upwards
 abbrev pub selection_order : List Sized → Bool
@@ -53,11 +59,21 @@ pub record WrapsTells : Type 0 where
   pub rust : select 18446744073709551615 large ≡ 0 ∷ 1 ∷ []
   pub port : selected_of 18446744073709551615 large ≡ []
 
+-- one rowset, with a vector over it
+abbrev pub lone : State
+lone = with_vectors one_held (added_at 1 (0 ∷ 0 ∷ 0 ∷ []) ∷ [])
+
+pub record LoneTells : Type 0 where
+  pub apart : lone_rowset 0 (taken_now 0 60 (40 ∷ []) lone) lone ≡ true
+  pub fits : selection_wraps 60 (sized (rowsets_now 0 lone) (40 ∷ [])) ≡ false
+  pub rust : select 60 (sized (rowsets_now 0 lone) (40 ∷ [])) ≡ []
+  pub port : selected 0 60 (40 ∷ []) lone ≡ 0 ∷ []
+
 pub record SelectionLaws : Type 0 where
   pub same : (target : ℕ) (l : List Sized) → selection_order l ≡ false → selection_wraps target l ≡ false → select target l ≡ selected_of target l
   -- of the rowsets of a table that the current epoch shows, with their sizes
   pub shown : (m : VersionManagerInner) → bad_inner m ≡ false → (t target : ℕ) (ns : List ℕ) → selection_wraps target (sized (rowsets_now t (state_of m)) ns) ≡ false
-      → select target (sized (rowsets_now t (state_of m)) ns) ≡ selected t target ns (state_of m)
+      → lone_rowset t (taken_now t target ns (state_of m)) (state_of m) ≡ false → select target (sized (rowsets_now t (state_of m)) ns) ≡ selected t target ns (state_of m)
   -- which are the set of a snapshot that has the same pairs, in ascending order
   pub walked : (m : VersionManagerInner) → bad_inner m ≡ false → (t : ℕ) (s : Snapshot) → ((r : ℕ) → has itself (t ∷ r ∷ []) (pairs_at m.epoch (state_of m)) ≡ has_rowset t r s)
       → in_memory (get_rowsets_of t s) ≡ rowsets_now t (state_of m)
@@ -68,3 +84,4 @@ pub record SelectionLaws : Type 0 where
   -- where they differ
   pub order : OrderTells
   pub wraps : WrapsTells
+  pub lone : LoneTells

@@ -35,7 +35,7 @@ use Rattle.table.proofs.Deletes.{among, deleted_all, shown-marked}
 use Rattle.table.proofs.Shown.{or-second, few-part, next-same, part-forms, part-below, part-rises, part-shown, part-deleted}
 use Rattle.table.proofs.Accepted.{two, three, vectors-deleted, pairs-deleted, commit-accepts, vector-well, pairs-held, vectors-held, whole-now, steps-applied}
 
-pairs-rise : (t : ℕ) (rs : List ℕ) → Ascending by_number rs → Ascending (λ k. k) (pairs_with t rs)
+pub pairs-rise : (t : ℕ) (rs : List ℕ) → Ascending by_number rs → Ascending (λ k. k) (pairs_with t rs)
 pairs-rise t [] a = tt
 pairs-rise t (r ∷ rs) a = (all-mapped (λ k. less (t ∷ r ∷ []) k ≡ true) (λ x. t ∷ x ∷ []) rs (all_map rs (λ x h. lex-eq t _ ∙ h) a.0), pairs-rise t rs a.1)
 

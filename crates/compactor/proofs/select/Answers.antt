@@ -1,5 +1,5 @@
 -- `compactor::select` meets its contract.
-use Rattle.std.proofs.Common.{◌≡◌, List, [], ◌++◌, ℕ, map, length, drop, cond, leb, sym, ap, ap₂, ◌∙◌, arith}
+use Rattle.std.proofs.Common.{◌≡◌, List, ◌++◌, ℕ, map, length, drop, sym, ap, ap₂, ◌∙◌, arith}
 use mathlib.Core.Logic.{inl}
 use lib.ListN.{length-map}
 use Rattle.std.proofs.lemmas.Iterator.Consumers.{YieldsList-from_first, count_from_yields_List}
@@ -8,9 +8,9 @@ use Rattle.snapshot.specs.Views.{rowset_of}
 use Rattle.snapshot.specs.Passing.{to_come}
 use Rattle.version_state.specs.State.{state_of}
 use Rattle.version_state.proofs.Facts.{sound-of}
-use Rattle.compactor.specs.Selection.{taken, sized, rowsets_now, selected}
+use Rattle.compactor.specs.Selection.{taken, sized, rowsets_now, compacted, selected}
 use Rattle.compactor.proofs.Taking.{rowset_in, rowset_at}
-use Rattle.compactor.proofs.Selecting.{shown-few, rowsets-shown, rowsets-few, selected-are, wrong-count, not_live, no_room, chooses}
+use Rattle.compactor.proofs.Selecting.{shown-few, rowsets-shown, rowsets-few, wrong-count, not_live, no_room, chooses}
 use Rattle.compactor.proofs.select.Goals as goal
 use Rattle.compactor.proofs.select.Goals.{After-count, After-compacted-chosen}
 
@@ -24,11 +24,13 @@ shown-count c =
 -- what is selected
 chosen : (c : After-compacted-chosen) → c.compacted-chosen.result.now ≡ selected c.args.table.0 c.args.target c.args.sizes.now (state_of c.args.state.inner.now)
 chosen c =
-    selected-are c.args.state.inner.now c.args.table.0 c.args.target c.args.sizes.now c.take-taken.result.items c.compacted-chosen.result.now
-    (c.take-taken.ensures
+    let s = state_of c.args.state.inner.now in
+    c.compacted-chosen.ensures
+    ∙ ap (λ (rs : List ℕ). compacted c.args.table.0 rs s)
+    (c.as_slice.ensures.value
+    ∙ c.take-taken.ensures
     ∙ ap (λ (es : List Entry). map rowset_in (taken c.args.target (sized (map rowset_at es) c.args.sizes.now))) c.shown_of-shown.ensures
-    ∙ ap (λ (rs : List ℕ). map rowset_in (taken c.args.target (sized rs c.args.sizes.now))) (rowsets-shown c.args.table.0 (state_of c.args.state.inner.now)))
-    (c.compacted-chosen.ensures ∙ ap (λ (d : List ℕ). cond (leb (length d) 1) [] d) c.as_slice.ensures.value)
+    ∙ ap (λ (rs : List ℕ). map rowset_in (taken c.args.target (sized rs c.args.sizes.now))) (rowsets-shown c.args.table.0 s))
 
 pub count-requires-clause-fits : goal.count-requires-clause-fits
 count-requires-clause-fits c =

@@ -225,6 +225,9 @@ impl Driver {
                 if !scratch::may_be_selected(&sizes, words.number(2), &taken) {
                     self.store.note("selection");
                 }
+                if let [rowset] = scratch::taken_upwards(&sizes, words.number(2))[..] {
+                    self.store.note_lone(table, rowset);
+                }
                 listed("selected", taken.iter().map(u32::to_string))
             }
             "group" => listed("grouped", scratch::grouped(&mut self.store, &words.handles(1)).await?),

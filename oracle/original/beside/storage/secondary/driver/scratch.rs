@@ -44,6 +44,13 @@ pub async fn selected(table: u32, target: usize, sizes: &[(u32, u64)]) -> Storag
     Ok(sizes.iter().map(|s| s.0).filter(|r| !left.contains(&(table, *r))).collect())
 }
 
+/// What the specification takes, upwards and with exact sums, before it asks whether that is enough.
+pub fn taken_upwards(sizes: &[(u32, u64)], target: u64) -> Vec<u32> {
+    let mut left = target;
+    let mut fits = |size: u64| left.checked_sub(size).map(|rest| left = rest).is_some();
+    sizes.iter().filter(|s| fits(s.1)).map(|s| s.0).collect()
+}
+
 /// Whether some order of the rowsets gives this selection; said of sums within 64 bits alone.
 pub fn may_be_selected(sizes: &[(u32, u64)], target: u64, taken: &[u32]) -> bool {
     let sum_of = |rowsets: &[u32]| -> u128 {

@@ -199,6 +199,13 @@ impl Store {
         let over = |v: &(u32, u32, u64)| v.0 == table && rowsets.contains(&v.1);
         self.now().vectors().into_iter().filter(over).collect()
     }
+
+    /// One rowset alone is enough for the specification where a vector lies over it, and for the original never.
+    pub fn note_lone(&mut self, table: u32, rowset: u32) {
+        if !self.vectors_over(table, &[rowset]).is_empty() {
+            self.note("lone-rowset");
+        }
+    }
 }
 
 // Commits.
