@@ -192,6 +192,7 @@ unfolding gone_at shown_at
 selections =
     record {
       same = upwards-same;
+      few = λ target l w h. table_taken target l w ∙ rw (le-leb (length (taken target l)) 1 h);
       shown = shown-same;
       walked = set-walked;
       fits = λ target l h. fits_on target 0 l (omega arith);

@@ -71,6 +71,8 @@ pub record LoneTells : Type 0 where
 
 pub record SelectionLaws : Type 0 where
   pub same : (target : ℕ) (l : List Sized) → selection_order l ≡ false → selection_wraps target l ≡ false → select target l ≡ selected_of target l
+  -- of fewer than two that are taken the Rust selects none
+  pub few : (target : ℕ) (l : List Sized) → selection_wraps target l ≡ false → length (taken target l) ≤ 1 → select target l ≡ []
   -- of the rowsets of a table that the current epoch shows, with their sizes
   pub shown : (m : VersionManagerInner) → bad_inner m ≡ false → (t target : ℕ) (ns : List ℕ) → selection_wraps target (sized (rowsets_now t (state_of m)) ns) ≡ false
       → lone_rowset t (taken_now t target ns (state_of m)) (state_of m) ≡ false → select target (sized (rowsets_now t (state_of m)) ns) ≡ selected t target ns (state_of m)
