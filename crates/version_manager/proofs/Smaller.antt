@@ -4,11 +4,12 @@ use mathlib.Core.Bool.{Bool, true, false, not, ◌||◌}
 use mathlib.Core.List.{List, [], ◌∷◌}
 use Prim.Native.Nat.{ℕ, ◌+◌, ◌≤◌, ◌<◌}
 use native.Mathlib.Omega.{arith}
-use lib.Dec.{leb, ltb}
+use lib.Dec.{leb}
 use lib.ListN.{length, get_or, take, length-map}
 use lib.Seq.{take-append_seam}
 use borrow.Author.Tests.{leb-true, lt-ltb, not-false}
 use Rattle.std.specs.Prelude.{Ok, Err}
+use Rattle.std.proofs.lemmas.Bool.{or_left, or_right}
 use Rattle.lists.specs.Order.{same}
 use Rattle.lists.specs.Keyed.{keep, any_of, has}
 use Rattle.lists.proofs.Tests.{by_cases, clash}
@@ -47,7 +48,7 @@ itself k = k
 -- without different keys that are all among them, a list has so many fewer
 each-among : (ks : List (List ℕ)) → All (λ k. (x : List ℕ) → same x k ≡ true → any_of (same x) ks ≡ true) ks
 each-among [] = tt
-each-among (k ∷ ks) = ((λ x e. rw e), all_map ks (λ j f x e. rw (f x e) (by_cases (same x k) (λ u. rw u) (λ u. rw u))) (each-among ks))
+each-among (k ∷ ks) = ((λ x e. or_left _ _ e), all_map ks (λ j f x e. or_right _ _ (f x e)) (each-among ks))
 
 without-keys : (ks l : List (List ℕ)) → Ascending itself ks → All (λ k. has itself k l ≡ true) ks → length (keep (λ k. not (any_of (same k) ks)) l) + length ks ≤ length l
 without-keys ks l a h =
@@ -62,8 +63,7 @@ put-one (k ∷ new) l = omega (arith, length-put itself k (put_all new l), put-o
 
 still-there : (new : List (List ℕ)) (k : List ℕ) (l : List (List ℕ)) → has itself k l ≡ true → has itself k (put_all new l) ≡ true
 still-there [] k l h = h
-still-there (j ∷ new) k l h =
-    has-put itself k j (put_all new l) ∙ rw (still-there new k l h) (by_cases (same j k) (λ e. rw e) (λ e. rw e))
+still-there (j ∷ new) k l h = has-put itself k j (put_all new l) ∙ or_right _ _ (still-there new k l h)
 
 -- what is selected is enough for a compaction
 pub selected-enough : (t : ℕ) (rs : List ℕ) (s : State) → 1 ≤ length (compacted t rs s) → leb 2 (length (compacted t rs s)) || any_over t (compacted t rs s) s ≡ true
@@ -103,12 +103,7 @@ module _ (m : VersionManagerInner) (b : bad_inner m ≡ false) (w : Narrow (stat
 
   pub smaller-then : leb 2 (length rs) || any_over t rs s ≡ true → shows_fewer after s ≡ true
   smaller-then e =
-      let p = ltb (length (pairs_at after.epoch after)) (length (pairs_at s.epoch s)) in
-      by_cases (leb 2 (length rs))
-      (λ d. rw (lt-ltb (length (pairs_at after.epoch after)) (length (pairs_at s.epoch s)) (fewer-pairs (leb-true 2 (length rs) d))))
-      (λ d.
-      rw (lt-ltb (length (vectors_at after.epoch after)) (length (vectors_at s.epoch s)) (fewer-vectors (rw d at e)))
-      (by_cases p (λ u. rw u) (λ u. rw u)))
+      by_cases (leb 2 (length rs)) (λ d. or_left _ _ (lt-ltb _ _ (fewer-pairs (leb-true 2 (length rs) d)))) (λ d. or_right _ _ (lt-ltb _ _ (fewer-vectors (rw d at e))))
 
 -- an accepted selection leaves what it took in the first places
 pub took : (s : State) (t target : ℕ) (ns out : List ℕ) (v : Verdict) (n : ℕ) (chosen : List ℕ) → Selected s t target ns v out (Ok n) chosen
