@@ -3,8 +3,10 @@
 #![tactic(auto)]
 
 ghost use Rattle.std.specs.Prelude.{◌≡◌, [], ◌∷◌, ◌++◌, map, ◌+◌, ◌*◌, ◌≤◌, length};
+ghost use Rattle.lists.specs.Written.{Wrote};
 ghost use Rattle.ids.specs.Limits.{most_tables, most_held};
 ghost use Rattle.ids.specs.Names.{name_of};
+ghost use Rattle.ids.specs.declared.refusal.Refusal.TheVariants.{OutputTooShort};
 ghost use Rattle.manifest.specs.Operations.{create_table, next_ids, operation_of};
 ghost use Rattle.frames.specs.Frames.{texts_of};
 ghost use Rattle.version_state.specs.State.{state_of, pairs_at, vectors_at, Fit};
@@ -20,6 +22,22 @@ use ids::refusal::Refusal;
 use manifest::operation::EpochOp;
 use snapshot::held::HeldColumns;
 use version_state::{NextIds, VersionManagerInner};
+
+// Why a rewritten manifest is not handed out: the lent bytes do not hold it.
+#[derive(Clone, Copy, Debug, PartialEq, Eq)]
+pub struct TooShort {
+    // How many bytes it has, which would have been enough.
+    pub needed: usize,
+}
+
+// As other calls tell it: refusal 9, which has no length.
+impl From<TooShort> for Refusal {
+    ghost from_gives = { λ _ why. why ≡ OutputTooShort };
+
+    fn from(_short: TooShort) -> Refusal {
+        Refusal::OutputTooShort
+    }
+}
 
 // A rewritten manifest never has more bytes than the longest one.
 pub fn holds()
@@ -76,7 +94,7 @@ fn put_vectors(inner: &VersionManagerInner, lines: &mut Lines<LONGEST_REWRITTEN>
 }
 
 // The rewritten manifest, in the place of other lines, in an array that has room for the longest one.
-pub fn put_rewritten(inner: &VersionManagerInner, lines: &mut Lines<LONGEST_REWRITTEN>)
+pub fn put_rewritten_lines(inner: &VersionManagerInner, lines: &mut Lines<LONGEST_REWRITTEN>)
     requires { Fit inner.now }
     ensures { (lines.new ≡ rewritten_of (state_of inner.now)) × (length lines.new ≤ longest_rewritten) }
 {
@@ -89,18 +107,28 @@ pub fn put_rewritten(inner: &VersionManagerInner, lines: &mut Lines<LONGEST_REWR
     lines.put_letter(b'E');
 }
 
+// The rewritten manifest, at the start of a slice that has room for the longest one; what lies behind it stays. Answers its length.
+pub fn put_rewritten(inner: &VersionManagerInner, out: &mut [u8]) -> usize
+    requires { Fit inner.now × (longest_rewritten ≤ length out.old) }
+    ensures { Wrote out.old 0 (rewritten_of (state_of inner.now)) out.new result × (result ≤ longest_rewritten) }
+{
+    let mut lines = Lines::new();
+    put_rewritten_lines(inner, &mut lines);
+    text::put_bytes(out, 0, lines.as_slice())
+}
+
 // The rewritten manifest handed out, for a reopened store and for one that stays open; answers its length. Refused where the lent bytes do not hold
-// it.
-pub fn rewrite_into(inner: &mut VersionManagerInner, out: &mut [u8]) -> Result<usize, Refusal>
+// it, and the refusal tells its length too.
+pub fn rewrite_into(inner: &mut VersionManagerInner, out: &mut [u8]) -> Result<usize, TooShort>
     requires { Fit inner.old }
     ensures { RewriteIs (state_of inner.old) out.old result inner.new out.new }
 {
     let mut lines = Lines::new();
-    put_rewritten(inner, &mut lines);
+    put_rewritten_lines(inner, &mut lines);
     let printed = lines.as_slice();
     let n = printed.len();
     if out.len() < n {
-        return Err(Refusal::OutputTooShort);
+        return Err(TooShort { needed: n });
     }
     text::put_bytes(out, 0, printed);
     inner.manifest = n;

@@ -46,7 +46,7 @@ fn opened(replayed: VersionManagerInner, out: &mut [u8]) -> Reopened
             book: PinBook::none(),
             answer: Ok(length),
         },
-        Err(refusal) => refused(refusal),
+        Err(short) => refused(Refusal::from(short)),
     }
 }
 

@@ -311,7 +311,7 @@ impl VersionManager {
             return self.refused(Refusal::BadManager);
         }
         let mut inner = self.inner;
-        let answer = rewrite::rewrite_into(&mut inner, out);
+        let answer = rewrite::rewrite_into(&mut inner, out).map_err(Refusal::from);
         self.settled(inner, answer)
     }
 

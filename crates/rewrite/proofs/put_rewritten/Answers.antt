@@ -1,12 +1,12 @@
 -- `rewrite::put_rewritten` meets its contract.
-use Rattle.rewrite.proofs.Whole.{whole-added, whole-short}
+use mathlib.Core.Path.{◌≡◌, ap, ◌∙◌}
+use native.Mathlib.Omega.{arith}
+use lib.ListN.{length}
+use Rattle.version_state.specs.State.{state_of}
+use Rattle.rewrite.specs.Rewritten.{rewritten_of}
 use Rattle.rewrite.proofs.put_rewritten.Goals as goal
 
 pub returns : goal.returns
 returns c =
-    let first = rw c.clear.ensures at c.put_letter.ensures in
-    let line = rw c.next_change.ensures.0 at c.put_line.ensures in
-    let n = rw c.next_change.ensures.0 at c.next_change.ensures.1 in (
-      whole-added c.args.inner.now _ _ _ _ _ _ first line c.put_tables.ensures.0 c.put_pairs.ensures.0 c.put_vectors.ensures.0 c.put_letter-2.ensures,
-      whole-short c.args.inner.now _ _ _ _ _ _ first line n c.put_tables.ensures.1 c.put_pairs.ensures.1 c.put_vectors.ensures.1 c.put_letter-2.ensures,
-    )
+    let q : c.as_slice.result.now ≡ rewritten_of (state_of c.args.inner.now) = c.as_slice.ensures ∙ c.put_rewritten_lines.ensures.0 in
+    (rw q at c.put_bytes.ensures, omega (arith, c.put_bytes.ensures.next, ap length c.as_slice.ensures, c.put_rewritten_lines.ensures.1))

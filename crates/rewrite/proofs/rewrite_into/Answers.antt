@@ -14,12 +14,13 @@ use Rattle.rewrite.proofs.rewrite_into.Goals as goal
 
 pub returns : goal.returns
 returns c =
-    let q : c.as_slice-printed.result.now ≡ rewritten_of (state_of c.args.inner.now) = c.as_slice-printed.ensures ∙ c.put_rewritten.ensures.0 in
+    let q : c.as_slice-printed.result.now ≡ rewritten_of (state_of c.args.inner.now) = c.as_slice-printed.ensures ∙ c.put_rewritten_lines.ensures.0 in
     let e = ap length q in
     let room : length (rewritten_of (state_of c.args.inner.now)) ≤ length c.args.out.now = omega (arith, c.if-out-n.false, e) in
     record {
       answer = rw (le-ltb _ _ room) (ap (λ (n : ℕ). Ok n) e);
-      within = omega (arith, ap length c.put_rewritten.ensures.0, c.put_rewritten.ensures.1);
+      counted = e;
+      within = omega (arith, ap length c.put_rewritten_lines.ensures.0, c.put_rewritten_lines.ensures.1);
       bytes = rw (le-ltb _ _ room) (wrote-over _ _ _ _ c.put_bytes.ensures ∙ ap (λ (l : List ℕ). over l c.args.out.now) q);
       inner = rw (le-ltb _ _ room) (record {
         fits = record { tables = c.requires.tables; rowsets = c.requires.rowsets; vectors = c.requires.vectors };
