@@ -1,6 +1,6 @@
 -- Laws of ordered lists of rules. Assumes nothing.
 use mathlib.Core.Path.{◌≡◌, refl}
-use mathlib.Core.Bool.{true, false}
+use mathlib.Core.Bool.{Bool, true, false}
 use mathlib.Core.List.{List, [], ◌∷◌, ◌++◌}
 use Rattle.lists.proofs.Keyed.{All}
 use Rattle.ids.specs.declared.refusal.Refusal.{Refusal}
@@ -17,11 +17,20 @@ judged-append [] m = refl
 judged-append ((true ⇒ r) ∷ l) m = refl
 judged-append ((false ⇒ r) ∷ l) m = judged-append l m
 
--- accepted: no condition holds
+-- accepted exactly where no condition holds
+pub judged-none : (l : List Rule) → All Passed l → judged l ≡ Ok tt
+judged-none [] h = refl
+judged-none ((b ⇒ r) ∷ l) h = rw h.0 (judged-none l h.1)
+
 pub none-judged : (l : List Rule) → judged l ≡ Ok tt → All Passed l
 none-judged [] h = tt
 none-judged ((true ⇒ r) ∷ l) h = absurd (cc)
 none-judged ((false ⇒ r) ∷ l) h = (refl, none-judged l h)
+
+-- refused by the first rule whose condition holds: none before it does
+pub refused-at : (before : List Rule) (b : Bool) (r : Refusal) (after : List Rule) → All Passed before → b ≡ true → judged (before ++ ((b ⇒ r) ∷ after)) ≡ Err r
+refused-at [] b r after p h = rw h
+refused-at ((c ⇒ q) ∷ before) b r after p h = rw p.0 (refused-at before b r after p.1 h)
 
 -- an answer that a verdict decides
 pub accepted-with : {A : Type 0} (v : Verdict) (a b : A) → result_and v (Ok a) ≡ Ok b → (v ≡ Ok tt) × (a ≡ b)

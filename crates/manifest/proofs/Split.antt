@@ -49,6 +49,11 @@ unfolding rest_on
 rest-newline so [] = refl
 rest-newline so (x ∷ a) = either (λ (r : List ℕ). r ≡ []) (is_newline x) _ _ (rest-newline [] a) (rest-newline (so ++ (x ∷ [])) a)
 
+-- a text that leaves no unfinished line, and a text after it
+pub lines-append : (a b : List ℕ) → rest_on [] a ≡ [] → lines (a ++ b) ≡ lines a ++ lines b
+unfolding lines
+lines-append a b e = lines-on-append [] a b ∙ rw e
+
 -- a text leaves none where it is empty or ends in a newline
 pub rest-none : rest_on [] [] ≡ []
 unfolding rest_on

@@ -44,6 +44,14 @@ Pinning l = All (λ (p : PinEntry). 1 ≤ p.count) l
 at_place : (d : ℕ) (p : PinEntry) → is_at by_place (place_key (place_on d)) p ≡ eqb p.epoch d
 at_place d p = by_cases (eqb p.epoch d) (λ e. rw e) (λ e. rw e)
 
+-- an epoch is pinned where it has pins
+pub pinned-at : (d : ℕ) (l : List PinEntry) → Pinning l → pinned d l ≡ not (eqb (pins_at (place_on d) l) 0)
+pinned-at d [] h = refl
+pinned-at d (p ∷ l) h =
+    by_cases (eqb p.epoch d)
+    (λ e. rw (at_place d p, e, ne_eqb p.count 0 (omega (arith, h.0))))
+    (λ e. rw (at_place d p, e) (pinned-at d l h.1))
+
 -- none below w: an epoch below it has no pins
 none_below : (w d : ℕ) (l : List PinEntry) → any_of (λ (p : PinEntry). ltb p.epoch w) l ≡ false → d < w → pins_at (place_on d) l ≡ 0
 none_below w d [] h k = refl

@@ -33,3 +33,7 @@ replayed (Ok s) out out' r n h e =
     let p = opened (ltb (length out) (length (rewritten_of s))) (with_rewritten s) out out' r n h e in
     let room : length (rewritten_of s) ≤ length out = ltb-false _ _ p.0 in
     omega (arith, p.1, room)
+
+-- an accepted reopen has written no more than the buffer holds
+pub written-within : (src out out' : List ℕ) (r : Reopened) (n : ℕ) → ReopenSays src out r out' → r.answer ≡ Ok n → n ≤ length out
+written-within src out out' r n h e = replayed (replay_of src) out out' r n h e
