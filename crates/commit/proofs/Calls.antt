@@ -50,6 +50,10 @@ module _ (s : State) (e : ℕ) (os : List Operation) where
   pub gone : (i : ℕ) (t : State) → Going s e os i [] t → Leaves (steps_of 0 e os s) (Ok tt) t
   gone i t g = goes _ t g
 
+-- a commit after the last epoch
+pub too-late : (s : State) (n : ℕ) (os : List Operation) (room : ℕ) → n ≤ most_operations → last_epoch ≤ s.epoch → commit_of s n os room ≡ Err EpochsFull
+too-late s n os room a h = rw (le-ltb most_operations n a, le-leb last_epoch s.epoch h)
+
 -- The first tests of a commit of operations lent as lines.
 module _ (s : List ℕ) (room : ℕ) (m : VersionManagerInner) where
   abbrev os : List Operation

@@ -5,10 +5,11 @@ use mathlib.Core.List.{List, [], ◌∷◌, ◌++◌, map, append-nil}
 use Prim.Native.Nat.{ℕ, ◌+◌, ◌*◌, ◌≤◌}
 use native.Mathlib.Omega.{arith}
 use lib.ListN.{length, length-append}
+use borrow.Author.Tests.{not-false}
 use Rattle.std.specs.Prelude.{Result, Ok, Err}
 use Rattle.lists.proofs.Tests.{clash}
 use Rattle.lists.proofs.Keyed.{All}
-use Rattle.ids.specs.Limits.{longest_line}
+use Rattle.ids.specs.Limits.{most_operations, longest_line, longest_manifest}
 use Rattle.ids.specs.declared.refusal.Refusal.{Refusal}
 use Rattle.ids.specs.Verdicts.{judged}
 use Rattle.ids.specs.Results.{and_then}
@@ -24,7 +25,7 @@ use Rattle.operations.specs.Judge.{op_rules}
 use Rattle.operations.specs.Steps.{step_of, steps_of}
 use Rattle.frames.specs.Frames.{texts_of}
 use Rattle.commit.specs.Commit.{append_of}
-use Rattle.frames.proofs.Texts.{joined-append, texts-cons}
+use Rattle.frames.proofs.Texts.{joined-append, frame-long, texts-cons}
 use Rattle.commit.specs.Lent.{operation_said, unended, operations_in}
 use Rattle.commit.proofs.Stepwise.{halt, step_given}
 
@@ -106,3 +107,8 @@ append-size s = omega (arith, length-append s (69 ∷ 10 ∷ []))
 pub texts-short : (os : List Operation) → All (λ o. well_formed o ≡ true) os → length (texts_of os) ≤ longest_line * length os
 texts-short [] a = omega arith
 texts-short (o ∷ os) a = omega (arith, texts-cons o os, text-room o a.0, texts-short os a.1)
+
+pub append-short : (e : ℕ) (os : List Operation) (u t : State) → length os ≤ most_operations → steps_of 0 e os u ≡ Ok t → length (append_of os) ≤ longest_manifest
+append-short e os u t few h =
+    let a = accepted-all (λ o. well_formed o ≡ true) (λ i e o s j. not-false _ (none-judged (op_rules i e o s) j).0) 0 e os u t h in
+    omega (arith, frame-long os, texts-short os a)

@@ -1,10 +1,12 @@
 -- What a change of a list does to the entries that it stands for. Assumes nothing.
-use Rattle.std.proofs.Common.{◌≡◌, refl, sym, List, [], ◌∷◌, map, ℕ}
+use Rattle.std.proofs.Common.{◌≡◌, refl, sym, ap, ◌∙◌, List, [], ◌∷◌, map, ℕ}
 use Rattle.lists.specs.Order.{same}
 use Rattle.lists.specs.Keyed.{any_of, all_of, is_at, has, put, without}
 use Rattle.lists.proofs.Keyed.{any_of-map}
 use Rattle.ids.specs.Names.{name_of}
-use Rattle.snapshot.specs.Entries.{by_ids}
+use Rattle.columns.specs.Rows.{rows, across, plain}
+use Rattle.columns.proofs.Rows.{rows-map}
+use Rattle.snapshot.specs.Entries.{by_ids, entry_at, entries}
 use Rattle.snapshot.specs.Tables.{TableEntry, by_table, name_taken}
 use Rattle.snapshot.specs.Views.{pair_ids, vector_ids}
 use Rattle.snapshot.specs.declared.rowsets.RowsetIds.{RowsetIds}
@@ -49,3 +51,7 @@ module _ (l : List VectorIds) where
 -- whether a vector's rowset is live
 pub has-rowset : (l : List RowsetIds) (x : VectorIds) → has_rowset (map rowset_entry l) (vector_entry x) ≡ has pair_ids (x.table.0 ∷ x.rowset.0 ∷ []) l
 has-rowset l x = any_of-map rowset_entry (is_at by_ids (x.table.0 ∷ x.rowset.0 ∷ [])) l
+
+-- whether a key is held is told by the keys alone
+pub has-ids : (ks : List (List ℕ)) (a d : List ℕ) (n : ℕ) (k : List ℕ) → has by_ids k (entries ks a d n) ≡ has plain k (rows (across ks) n)
+has-ids ks a d n k = sym (any_of-map by_ids (is_at plain k) (entries ks a d n)) ∙ ap (has plain k) (rows-map (entry_at ks a d) by_ids n)

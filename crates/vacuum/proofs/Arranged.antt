@@ -1,7 +1,7 @@
 -- The vacuum's list as a sort makes it: lists in order that have each key as often have the same keys. Assumes nothing.
 use mathlib.Core.Path.{◌≡◌, refl, sym, ap, ap₂, ◌∙◌}
 use mathlib.Core.Bool.{Bool, true, false, cond}
-use mathlib.Core.List.{List, [], ◌∷◌, map, map-map}
+use mathlib.Core.List.{List, [], ◌∷◌, ◌++◌, map, map-map}
 use Prim.Native.Nat.{ℕ, suc, ◌+◌, ◌<◌, ◌≤◌}
 use native.Mathlib.Omega.{arith}
 use native.Mathlib.Numerals.{add-one}
@@ -18,7 +18,7 @@ use Rattle.lists.specs.Order.{lex, less, same}
 use Rattle.lists.specs.Keyed.{keep, placed, arranged}
 use Rattle.lists.proofs.Tests.{by_cases, clash}
 use Rattle.lists.proofs.Order.{less-le, less-total, same_refl, more_same, then_assoc}
-use Rattle.lists.proofs.Keyed.{All, all_map, all_placed, length-keep, Sorted, sorted-arranged}
+use Rattle.lists.proofs.Keyed.{All, all_map, all_placed, length-keep, Sorted, sorted-arranged, placed-swap}
 use Rattle.columns.proofs.Rows.{rows-length}
 use Rattle.pins.proofs.Seen.{before}
 use Rattle.snapshot.specs.Entries.{Entry, gone_by, by_deletion, entry_at}
@@ -29,6 +29,11 @@ use Rattle.snapshot.specs.declared.rowsets.RowsetIds.{RowsetIds}
 use Rattle.vacuum.specs.LetGo.{deletion_of}
 
 module _ {A : Type 0} (key : A → List ℕ) where
+  -- what is arranged last may be placed last, where no two keys are equal
+  pub arranged-snoc : ((x y : A) → key x ≡ key y → x ≡ y) → (l : List A) (x : A) → arranged key (l ++ (x ∷ [])) ≡ placed key x (arranged key l)
+  arranged-snoc u [] x = refl
+  arranged-snoc u (y ∷ l) x = ap (placed key y) (arranged-snoc u l x) ∙ placed-swap key u y x (arranged key l)
+
   pub all-arranged : (P : A → Type 0) (l : List A) → All P l → All P (arranged key l)
   all-arranged P [] h = tt
   all-arranged P (x ∷ l) h = all_placed key P x (arranged key l) h.0 (all-arranged P l h.1)

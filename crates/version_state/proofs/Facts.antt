@@ -77,3 +77,7 @@ of-sound m s =
 -- a manifest that is too long
 pub too_long : (m : VersionManagerInner) → longest_manifest < m.manifest → true ≡ bad_inner m
 too_long m h = by_cases (counts_fit m) (λ e. rw (e, lt-ltb longest_manifest m.manifest h)) (λ e. rw e)
+
+-- the counts of a state that is within the limits
+pub fit-within : (m : VersionManagerInner) → beyond_limits m ≡ false → Fit m
+fit-within m h = counts-fit m (not-false _ (neither (not (counts_fit m)) (ltb longest_manifest (state_of m).manifest || not (all_of (λ t. is_name t.name) (state_of m).tables)) h).0)

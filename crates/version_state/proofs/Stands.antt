@@ -1,20 +1,50 @@
--- Two lists in order, walked side by side: whether each entry of the one has its key among what is shown of the other. Assumes nothing.
+-- Lists in order; and two of them walked side by side: whether each entry of the one has its key among what is shown of the other. Assumes nothing.
 use mathlib.Core.Path.{◌≡◌, refl, sym, ap, ap₂, ◌∙◌}
-use mathlib.Core.Bool.{Bool, true, false, ◌&&◌}
-use mathlib.Core.List.{List, [], ◌∷◌}
+use mathlib.Core.Bool.{Bool, true, false, not, ◌&&◌}
+use mathlib.Core.List.{List, [], ◌∷◌, map}
 use Prim.Native.Nat.{ℕ, suc, ◌+◌, ◌<◌}
 use native.Mathlib.Omega.{arith}
 use native.Mathlib.Numerals.{add-one}
 use lib.ListN.{length, get_or, take, drop, drop_of_length-le}
 use lib.Seq.{drop-cons}
 use Rattle.lists.specs.Order.{less, same}
-use Rattle.lists.specs.Keyed.{keep, all_of, has, ascending}
-use Rattle.lists.proofs.Tests.{by_cases, clash}
+use Rattle.lists.specs.Keyed.{keep, all_of, has, ascending, not_below, sorted}
+use Rattle.lists.proofs.Tests.{by_cases, clash, both}
 use Rattle.lists.proofs.Order.{less-trans, less-total, less-le, less-same, same_true, same-eq}
 use Rattle.lists.proofs.Keyed.{All, all_map, all_any, all_keep, keep_all, Ascending, Sorted, ascend-to, ascending-keep, ascending-sorted, after-absent}
 use Rattle.lists.proofs.Walk.{sorted-prefix, sorted-drop, ascending-drop}
 use Rattle.snapshot.specs.Entries.{Entry, by_ids}
 use Rattle.snapshot.specs.Found.{drop_below, leads}
+
+-- The test of weak order, as a fact; the keys alone tell it.
+module _ {A : Type 0} (key : A → List ℕ) where
+  not-below : (k : List ℕ) (l : List A) → not_below key k l ≡ true → All (λ y. less (key y) k ≡ false) l × Sorted key l
+  not-below k [] h = (tt, tt)
+  not-below k (x ∷ l) h =
+      let d = both (not (less (key x) k)) (not_below key (key x) l) h in
+      let r = not-below (key x) l d.1 in
+      let e : less (key x) k ≡ false = by_cases (less (key x) k) (λ t. clash d.0 (rw t)) (λ t. t) in
+      ((e, all_map l (λ y t. by_cases (less (key y) k) (λ u. clash (less-le (key y) k (key x) u e) t) (λ u. u)) r.0), r)
+
+  pub sorted-to : (l : List A) → sorted key l ≡ true → Sorted key l
+  sorted-to [] h = tt
+  sorted-to (x ∷ l) h = not-below (key x) l h
+
+  below-not : (k : List ℕ) (l : List A) → All (λ y. less (key y) k ≡ false) l → Sorted key l → not_below key k l ≡ true
+  below-not k [] a s = refl
+  below-not k (x ∷ l) a s = rw a.0 (below-not (key x) l s.0 s.1)
+
+  pub sorted-from : (l : List A) → Sorted key l → sorted key l ≡ true
+  sorted-from [] s = refl
+  sorted-from (x ∷ l) s = below-not (key x) l s.0 s.1
+
+  below-map : (k : List ℕ) (l : List A) → not_below key k l ≡ not_below (λ k. k) k (map key l)
+  below-map k [] = refl
+  below-map k (x ∷ l) = ap (λ (t : Bool). not (less (key x) k) && t) (below-map (key x) l)
+
+  pub sorted-map : (l : List A) → sorted key l ≡ sorted (λ k. k) (map key l)
+  sorted-map [] = refl
+  sorted-map (x ∷ l) = below-map (key x) l
 
 module _ {A B : Type 0} (f : A → List ℕ) (key : B → List ℕ) (p : B → Bool) where
   abbrev pub stand : List A → List B → Bool
