@@ -1,7 +1,8 @@
 -- What the loops over a file's records need. Assumes nothing.
-use Rattle.std.proofs.Common.{◌≡◌, ℕ, ◌+◌, ◌<◌, ◌≤◌, min, true, false, List, [], ◌∷◌, ◌++◌, length, get_or, take, drop, set, ◌-◌, suc, sym, refl, ap, ◌∙◌, add-one, arith, length-append, length-drop, drop_of_length-le, drop-cons, take-suc, take-suc-set, take_all, Result, le-ltb, lt-ltb, Ok, Err}
+use Rattle.std.proofs.Common.{◌≡◌, ℕ, ◌+◌, ◌<◌, ◌≤◌, min, true, false, List, [], ◌∷◌, ◌++◌, length, get_or, take, drop, set, ◌-◌, suc, sym, refl, ap, ◌∙◌, add-one, arith, length-append, length-drop, drop_of_length-le, drop-cons, take-suc, take-suc-set, take_all, drop-drop, ap₂, Result, le-ltb, lt-ltb, Ok, Err}
+use Rattle.std.proofs.lemmas.List.{drop-set-lt, take-append-drop}
 use Rattle.std.proofs.lemmas.Slice.{between_to_end}
-use Rattle.lists.specs.Written.{written, Wrote}
+use Rattle.lists.specs.Written.{written, over, Wrote}
 use Rattle.lists.proofs.Tests.{by_cases, clash}
 use Rattle.lists.proofs.Written.{written_on}
 use Rattle.delete_vector.specs.Records.{row_limit, record_of, records_of, starts_with, row_in, is_record, size_in, Records, Rows, Bad, and_row, records_at, is_bad, rows_in}
@@ -109,21 +110,16 @@ scan-turn file s n k r p g z h e =
     let t = left file s k (omega arith) (omega arith) in
     (rw t.0 (omega (arith, length-drop k s)), rw (t.1, t.0) (sym (scan-more s (length file - length s) p n k g z) ∙ e))
 
--- Rows put into their places: i are put, and those of s are to come.
-pub record Placing (file rows s : List ℕ) (i : ℕ) (out : List ℕ) : Type 0 where
+-- Rows put into their places: i are put, and those of s are to come; what is lent beyond them stands as it was.
+pub record Placing (file rows s : List ℕ) (i : ℕ) (old out : List ℕ) : Type 0 where
   pub within : length s ≤ length file
   pub good : is_bad (records_at s (length file - length s)) ≡ false
+  pub at : i ≤ length rows
   pub put : take i out ≡ take i rows
+  pub kept : drop i out ≡ drop i old
   pub left : rows_in (records_at s (length file - length s)) ≡ drop i rows
 
-more : (s : List ℕ) (at i : ℕ) (rows : List ℕ) → rows_in (records_at s at) ≡ drop i rows → i < length rows → 0 < length s
-more [] at i rows e h = absurd (let n = ap length (sym (end-rows [] at refl) ∙ e) in omega (arith, length-drop i rows))
-more (b ∷ s) at i rows e h = omega arith
-
-module _ (file rows s : List ℕ) (i : ℕ) (out : List ℕ) (h : i < length rows) (w : Placing file rows s i out) where
-  some : 0 < length s
-  some = more s (length file - length s) i rows w.left h
-
+module _ (file rows s : List ℕ) (i : ℕ) (old out : List ℕ) (some : 0 < length s) (w : Placing file rows s i old out) where
   pub placing-record : is_record s ≡ true
   placing-record = good-here s (length file - length s) some w.good
 
@@ -131,27 +127,46 @@ module _ (file rows s : List ℕ) (i : ℕ) (out : List ℕ) (h : i < length row
     pub placing-room : k ≤ length s
     placing-room = let f = (good s placing-record).fits in omega arith
 
-    next : row_in s ∷ rows_in (records_at (drop k s) (length file - length s + k)) ≡ get_or rows i 0 ∷ drop (suc i) rows
-    next = sym (rows-here s (length file - length s) some k z w.good) ∙ w.left ∙ drop-cons rows i 0 h
+    there : row_in s ∷ rows_in (records_at (drop k s) (length file - length s + k)) ≡ drop i rows
+    there = sym (rows-here s (length file - length s) some k z w.good) ∙ w.left
 
-    pub placing-more : (v : ℕ) → row_in s ≡ v → length rows ≡ length out → Placing file rows (after s k) (i + 1) (set out i v)
+    less : i < length rows
+    less = let n = ap length there in omega (arith, length-drop i rows)
+
+    next : row_in s ∷ rows_in (records_at (drop k s) (length file - length s + k)) ≡ get_or rows i 0 ∷ drop (suc i) rows
+    next = there ∙ drop-cons rows i 0 less
+
+    pub placing-more : (v : ℕ) → row_in s ≡ v → i < length out → Placing file rows (after s k) (i + 1) old (set out i v)
     placing-more v q l =
         let b = w.within in
         let t = left file s k b placing-room in
         let e = next in
+        let h = less in
         let r : v ≡ get_or rows i 0 = cc in
         let m : rows_in (records_at (drop k s) (length file - length s + k)) ≡ drop (suc i) rows = cc in
+        let d : drop (i + 1) out ≡ drop (i + 1) old = sym (drop-drop 1 i out) ∙ ap (drop 1) w.kept ∙ drop-drop 1 i old in
         record {
           within = rw t.0 (omega (arith, length-drop k s));
           good = rw (t.1, t.0) (good-next s (length file - length s) some k z w.good);
-          put = rw (add-one, take-suc-set out i v (omega arith), take-suc rows i 0 h, w.put, r);
+          at = omega arith;
+          put = rw (add-one, take-suc-set out i v l, take-suc rows i 0 h, w.put, r);
+          kept = drop-set-lt (i + 1) out i v (omega arith) ∙ d;
           left = rw (t.1, t.0, add-one) m;
         }
 
-pub placing-start : (file out : List ℕ) → is_bad (records_at file 0) ≡ false → Placing file (rows_in (records_at file 0)) file 0 out
+pub placing-start : (file out : List ℕ) → is_bad (records_at file 0) ≡ false → Placing file (rows_in (records_at file 0)) file 0 out out
 placing-start file out h =
     let z : length file - length file ≡ 0 = omega arith in
-    record { within = omega arith; good = rw z h; put = refl; left = rw z }
+    record { within = omega arith; good = rw z h; at = omega arith; put = refl; kept = refl; left = rw z }
 
-pub placing-done : (file rows s : List ℕ) (i : ℕ) (out : List ℕ) → length rows ≤ i → length rows ≡ length out → Placing file rows s i out → out ≡ rows
-placing-done file rows s i out h l w = sym (take_all i out (omega arith)) ∙ w.put ∙ take_all i rows h
+-- all are put where no byte is left, and where no place is left
+pub placing-done : (file rows s : List ℕ) (i : ℕ) (old out : List ℕ) → length rows ≤ i → Placing file rows s i old out → out ≡ over rows old
+placing-done file rows s i old out h w =
+    let b = w.at in
+    let n : i ≡ length rows = omega arith in
+    sym (take-append-drop i out) ∙ ap₂ ◌++◌ (w.put ∙ take_all i rows h) w.kept ∙ ap (λ (k : ℕ). rows ++ drop k old) n
+
+pub placing-end : (file rows s : List ℕ) (i : ℕ) (old out : List ℕ) → length s ≡ 0 → Placing file rows s i old out → length rows ≤ i
+placing-end file rows s i old out h w =
+    let n = ap length (sym w.left ∙ end-rows s (length file - length s) h) in
+    omega (arith, length-drop i rows)

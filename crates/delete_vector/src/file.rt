@@ -1,6 +1,6 @@
 // The file of a vector: its records one after another.
 ghost use Rattle.std.specs.Prelude.{◌≡◌, ◌+◌, ◌*◌, ◌≤◌, false, length};
-ghost use Rattle.lists.specs.Written.{Wrote};
+ghost use Rattle.lists.specs.Written.{over, Wrote};
 ghost use Rattle.delete_vector.specs.Records.{records_of, records_in, is_bad, rows_in};
 ghost use Rattle.delete_vector.specs.Answers.{scanned_of};
 ghost use Rattle.delete_vector.specs.Says.{most_records};
@@ -49,13 +49,16 @@ pub fn scan(file: &[u8]) -> Result<usize, usize>
     Ok(count)
 }
 
-// Internal: the caller has scanned the file, and lends a place for each record.
+// Internal: the caller has scanned the file, and lends a place for each record at least; what is lent beyond stays as it was.
 pub fn put_rows(file: &[u8], rows: &mut [u32])
-    requires { (is_bad (records_in file.now) ≡ false) × (length (rows_in (records_in file.now)) ≡ length rows.old) }
-    ensures { rows.new ≡ rows_in (records_in file.now) }
+    requires { (is_bad (records_in file.now) ≡ false) × (length (rows_in (records_in file.now)) ≤ length rows.old) }
+    ensures { rows.new ≡ over (rows_in (records_in file.now)) rows.old }
 {
     let mut rest = file;
     for place in rows {
+        if rest.is_empty() {
+            break;
+        }
         *place = record::row_in(rest) as u32;
         rest = &rest[record::size_in(rest)..];
     }

@@ -91,7 +91,7 @@ fn holds_varint(file: &[u8], n: u32) -> bool
 
 // Whether the file begins with what the writer makes of the row. Byte by byte, since each says whether the next is read: one expression would be no
 // plainer.
-fn holds_record(file: &[u8], row: RowNo) -> bool
+pub fn holds_record(file: &[u8], row: RowNo) -> bool
     ensures { result ≡ starts_with (record_of row.0) file.now }
 {
     let [size, field @ ..] = file else {
@@ -121,7 +121,7 @@ fn value_in(groups: &[u8]) -> u64
 }
 
 // The row that the file's first record has room for, or ROW_LIMIT where that is smaller.
-pub(crate) fn row_in(file: &[u8]) -> u64
+pub fn row_in(file: &[u8]) -> u64
     ensures { result ≡ min (row_in file.now) row_limit }
 {
     let [size, rest @ ..] = file else {

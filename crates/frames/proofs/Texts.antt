@@ -53,3 +53,6 @@ texts-turn os i o rest e = rw add-one (ap texts_of (taken os i e) ∙ texts-snoc
 -- room for the line of o after the first i
 pub texts-room : (os : List Operation) (i : ℕ) (o : Operation) (rest : List Operation) → drop i os ≡ o ∷ rest → length (texts_of (take i os)) + length (text_of o ++ (10 ∷ [])) ≤ length (texts_of os)
 texts-room os i o rest e = omega (arith, texts-split i os, texts-next os i o rest e, length-append (text_of o) (10 ∷ []))
+
+pub texts-le : (os : List Operation) (i : ℕ) → length (texts_of (take i os)) ≤ length (texts_of os)
+texts-le os i = omega (arith, texts-split i os)

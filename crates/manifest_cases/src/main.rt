@@ -6,6 +6,7 @@ use ids::limits::LONGEST_NAME;
 use ids::name::Name;
 use ids::{RowsetNo, TableNo, VectorNo};
 use manifest::operation::{EpochOp, ManifestOperation};
+use manifest_lines::ManifestLines;
 use status::Status;
 use std::io;
 use text::ByteClasses;
@@ -66,9 +67,18 @@ fn show_changes(rt: &impl Print) -> io::Result<()> {
     )
 }
 
-fn run(rt: &impl Print, s: &[u8]) -> io::Result<()> {
+// By the line reader, as a manifest is read. Its lines lie in the text; by `get` that needs no proof here.
+fn show_all(rt: &impl Print, s: &[u8]) -> io::Result<()> {
     let classes = ByteClasses::new();
-    status::each_line(s, |line| show(rt, &classes, line))?;
+    for line in ManifestLines::new(&classes, s, 0) {
+        let text = s.get(line.start..line.end).unwrap_or_default();
+        show(rt, &classes, text)?;
+    }
+    Ok(())
+}
+
+fn run(rt: &impl Print, s: &[u8]) -> io::Result<()> {
+    show_all(rt, s)?;
     show_changes(rt)
 }
 
