@@ -16,7 +16,7 @@ use operations::working::Working;
 use text::ByteClasses;
 use version_state::VersionManagerInner;
 
-mod lines;
+pub mod lines;
 pub mod typed;
 
 // The laws of an accepted commit.

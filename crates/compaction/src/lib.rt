@@ -23,8 +23,8 @@ use snapshot::held::HeldColumns;
 use snapshot::rowsets::RowsetIds;
 use version_state::sound::SoundState;
 
-mod over;
-mod taken;
+pub mod over;
+pub mod taken;
 
 // Asked of the parts before they make a `Compaction`: a type for them without its facts would be no plainer.
 fn valid(table: TableNo, new: Option<RowsetNo>, taken: &[u32]) -> bool

@@ -18,7 +18,7 @@ use snapshot::held::HeldColumns;
 use snapshot::rowsets::RowsetIds;
 
 // Ids, each above the one before it.
-pub(crate) fn rising(taken: &[u32]) -> bool
+pub fn rising(taken: &[u32]) -> bool
     ensures { result ≡ all_of is_id32 taken.now && ascending by_number taken.now }
 {
     taken.iter().all(|x| RowsetNo(*x).is_id()) && taken.is_sorted_by(|x, y| x < y)

@@ -15,9 +15,9 @@ use snapshot::rowsets::RowsetIds;
 use snapshot::vectors::VectorIds;
 use working::Working;
 
-mod pairs;
-mod tables;
-mod vectors;
+pub mod pairs;
+pub mod tables;
+pub mod vectors;
 pub mod working;
 
 // Whether an operation is refused rests on the entries of its table, the held vector ids, the counts, the names and the next ids.
@@ -26,8 +26,8 @@ pub fn holds()
 {}
 
 impl Working<'_> {
-    // A well-formed operation at its place, which a refusal names. A match: each kind has its own ids, rules and refusals, so a table of functions
-    // would be no plainer.
+    // Internal: the operation is well formed. Its place is named by a refusal. A match: each kind has its own ids, rules and refusals, so a table
+    // of functions would be no plainer.
     #[tactic(auto, using(crate::proofs::Keeps::turned_step))]
     pub fn step(&mut self, place: usize, change: EpochOp) -> Result<(), Refusal>
         requires { well_formed (operation_of change) ≡ true }

@@ -13,7 +13,7 @@ use snapshot::rowsets::RowsetIds;
 impl Working<'_> {
     // `A`: adds a rowset.
     #[tactic(auto, using(crate::proofs::Turns::rowsets_count), unfolding(crate::specs::Ready::Turned, crate::specs::Ready::Leaves))]
-    pub(crate) fn add_rowset(&mut self, place: usize, ids: RowsetIds) -> Result<(), Refusal>
+    pub fn add_rowset(&mut self, place: usize, ids: RowsetIds) -> Result<(), Refusal>
         ensures told { Turned place self.old.epoch (add_rowset ids.table.0 ids.rowset.0) (state_of self.old.inner.now) result (state_of self.new.inner.now) }
         ensures same { Same self.old self.new }
     {
@@ -35,7 +35,7 @@ impl Working<'_> {
 
     // `D`. As `delete_dv`, but for the list and the refusal, which are all there is to it: one function would be no plainer.
     #[tactic(auto, unfolding(crate::specs::Ready::Turned, crate::specs::Ready::Leaves))]
-    pub(crate) fn delete_rowset(&mut self, place: usize, ids: RowsetIds) -> Result<(), Refusal>
+    pub fn delete_rowset(&mut self, place: usize, ids: RowsetIds) -> Result<(), Refusal>
         ensures told { Turned place self.old.epoch (delete_rowset ids.table.0 ids.rowset.0) (state_of self.old.inner.now) result (state_of self.new.inner.now) }
         ensures same { Same self.old self.new }
     {

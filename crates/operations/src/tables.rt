@@ -17,7 +17,7 @@ impl Working<'_> {
     // `T`: creates a table. Here alone the id has to be valid: the next id is one more. Its fields one by one, as in the operation: a struct for them
     // would be no plainer.
     #[tactic(auto, using(crate::proofs::Turns::table_turns), unfolding(crate::specs::Ready::Turned, crate::specs::Ready::Leaves))]
-    pub(crate) fn create_table(
+    pub fn create_table(
         &mut self,
         place: usize,
         table: TableNo,
@@ -44,7 +44,7 @@ impl Working<'_> {
 
     // `X`. As a replay does it, but for the refusal and for lists of another type: one function would be no plainer.
     #[tactic(auto, unfolding(crate::specs::Ready::Turned, crate::specs::Ready::Leaves))]
-    pub(crate) fn drop_table(&mut self, place: usize, table: TableNo) -> Result<(), Refusal>
+    pub fn drop_table(&mut self, place: usize, table: TableNo) -> Result<(), Refusal>
         ensures told { Turned place self.old.epoch (drop_table table.0) (state_of self.old.inner.now) result (state_of self.new.inner.now) }
         ensures same { Same self.old self.new }
     {

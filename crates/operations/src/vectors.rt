@@ -13,7 +13,7 @@ use snapshot::vectors::VectorIds;
 impl Working<'_> {
     // `V`: adds a vector. Unlike `add_rowset` it asks for a pair that is shown, and for an id that no vector of any table has.
     #[tactic(auto, using(crate::proofs::Turns::vector_turns), unfolding(crate::specs::Ready::Turned, crate::specs::Ready::Leaves))]
-    pub(crate) fn add_dv(&mut self, place: usize, ids: VectorIds) -> Result<(), Refusal>
+    pub fn add_dv(&mut self, place: usize, ids: VectorIds) -> Result<(), Refusal>
         ensures told { Turned place self.old.epoch (add_vector ids.table.0 ids.rowset.0 ids.vector.0) (state_of self.old.inner.now) result (state_of self.new.inner.now) }
         ensures same { Same self.old self.new }
     {
@@ -37,7 +37,7 @@ impl Working<'_> {
 
     // `W`. As `delete_rowset`, but for the list and the refusal: one function would be no plainer.
     #[tactic(auto, unfolding(crate::specs::Ready::Turned, crate::specs::Ready::Leaves))]
-    pub(crate) fn delete_dv(&mut self, place: usize, ids: VectorIds) -> Result<(), Refusal>
+    pub fn delete_dv(&mut self, place: usize, ids: VectorIds) -> Result<(), Refusal>
         ensures told { Turned place self.old.epoch (delete_vector ids.table.0 ids.rowset.0 ids.vector.0) (state_of self.old.inner.now) result (state_of self.new.inner.now) }
         ensures same { Same self.old self.new }
     {

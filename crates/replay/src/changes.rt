@@ -15,7 +15,7 @@ use manifest::operation::EpochOp;
 use snapshot::rowsets::RowsetIds;
 use snapshot::vectors::VectorIds;
 
-// What puts an entry in asks for the room of one: see `Sets`.
+// Internal: what puts an entry in asks for the room of one, see `Sets`.
 impl Sets {
     fn name_taken(&self, name: Name) -> bool
         ensures { result ≡ name_taken (name_of name) (state_in self.now).tables }

@@ -67,7 +67,7 @@ impl Sets {
             .all(|x| self.tables.holds(x.table))
     }
 
-    // Room for a frame, so that each list is within what may be held: see `Sets`.
+    // Internal: room for a frame is left, so that each list is within what may be held. See `Sets`.
     pub fn finish(&self) -> Result<VersionManagerInner, Refusal>
         requires { RoomFor most_operations self.now }
         ensures { ReplayIs (finished (state_in self.now)) result }

@@ -47,7 +47,7 @@ impl Sets {
             || MOST_HELD < self.vectors.as_slice().len()
     }
 
-    // `E` on a line, where a frame is open.
+    // Internal: there is room for a frame. `E` on a line, where one is open.
     pub fn end_frame(
         &mut self,
         manifest: &Manifest,

@@ -15,6 +15,8 @@ pub mod lines;
 pub mod said;
 pub mod sets;
 
+pub use sets::Sets;
+
 // From the bytes of a manifest to the state at its end.
 pub fn replay(src: &[u8]) -> Result<VersionManagerInner, Refusal>
     ensures { ReplayIs (replay_of src.now) result }
@@ -26,7 +28,7 @@ pub fn replay(src: &[u8]) -> Result<VersionManagerInner, Refusal>
         src,
         classes: ByteClasses::new(),
     };
-    let mut sets = sets::Sets::new();
+    let mut sets = Sets::new();
     sets.read(&manifest)?;
     sets.finish()
 }

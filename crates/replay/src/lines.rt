@@ -68,7 +68,7 @@ impl Sets {
         }
     }
 
-    // All complete lines, one after another.
+    // Internal: nothing is read yet. All complete lines, one after another.
     pub fn read(&mut self, manifest: &Manifest) -> Result<(), Refusal>
         requires start { state_in self.old ≡ at_start.state }
         requires room { RoomFor most_operations self.old }

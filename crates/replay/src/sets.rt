@@ -1,5 +1,5 @@
 // What a replay has read so far: the live tables, rowsets and vectors, each in a sorted list, and the next ids.
-ghost use Rattle.std.specs.Prelude.{◌≡◌, ◌∷◌, [], true};
+ghost use Rattle.std.specs.Prelude.{◌≡◌, ◌∷◌, [], true, ⊤};
 ghost use Rattle.lists.proofs.Compared.{compared-one};
 ghost use Rattle.lists.specs.Keyed.{ascending};
 ghost use Rattle.snapshot.specs.Views.{pair_ids, vector_ids};
@@ -10,6 +10,7 @@ use ids::name::Name;
 use replay_lists::{Keyed, SortedList};
 use snapshot::rowsets::RowsetIds;
 use snapshot::vectors::VectorIds;
+use std::alloc::AllocError;
 use version_state::NextIds;
 
 // A list has room for what may be held, and for a frame's operations on top.
@@ -50,6 +51,22 @@ pub struct Sets {
     ghost tables_rise: { ascending (λ x. x.table.0 ∷ []) tables ≡ true },
     ghost rowsets_rise: { ascending pair_ids rowsets ≡ true },
     ghost vectors_rise: { ascending vector_ids vectors ≡ true },
+}
+
+// By hand: a type that holds a fact derives Clone with Copy alone, and no `ArrayVec` is Copy. It asks for no memory.
+impl Clone for Sets {
+    ghost is_clone = { λ s t. t ≡ s };
+
+    ghost is_infallible = { λ _. ⊤ };
+
+    fn clone(&self) -> Result<Sets, AllocError> {
+        Ok(Sets {
+            tables: self.tables.clone()?,
+            rowsets: self.rowsets.clone()?,
+            vectors: self.vectors.clone()?,
+            next: self.next,
+        })
+    }
 }
 
 impl Sets {

@@ -1,12 +1,13 @@
 // Entries in the order of their keys, up to a fixed number of them.
 #![tactic(auto)]
 
-ghost use Rattle.std.specs.Prelude.{◌≡◌, true, List, [], ℕ, ◌+◌, ◌<◌, ◌≤◌, length, IfOk, IfErr};
+ghost use Rattle.std.specs.Prelude.{◌≡◌, true, ⊤, List, [], ℕ, ◌+◌, ◌<◌, ◌≤◌, length, IfOk, IfErr};
 ghost use Rattle.lists.specs.Keyed.{has, put, without, ascending};
 ghost use Rattle.lists.specs.Order.{compared};
 ghost use Rattle.replay_lists.specs.Entries.{by, StandsAt, MissingAt};
 
 use arrayvec::ArrayVec;
+use std::alloc::AllocError;
 use std::marker::Model;
 
 mod own_keys;
@@ -25,7 +26,7 @@ pub trait Keyed {
     ghost in_order: { (a b : Self.Key) → Self.Key.cmp a b ≡ compared (numbers a) (numbers b) };
 }
 
-// Contracts see the list of the entries, which ascends by their keys.
+// Contracts see the list of the entries, which ascends by their keys. It is not Copy, since no `ArrayVec` is.
 #[derive(Drop)]
 pub struct SortedList<T: Keyed, const N: usize> {
     entries: ArrayVec<T, N>,
@@ -50,6 +51,20 @@ impl<T: Keyed + Default, const N: usize> SortedList<T, N> {
         SortedList {
             entries: ArrayVec::new(),
         }
+    }
+}
+
+// By hand: a derived one would clone the entries, and a clone is not known to keep its key, as a copy is. It asks for no memory.
+impl<T: Keyed + Default + Copy, const N: usize> Clone for SortedList<T, N> {
+    ghost is_clone = { λ s t. t ≡ s };
+
+    ghost is_infallible = { λ _. ⊤ };
+
+    fn clone(&self) -> Result<Self, AllocError> {
+        let SortedList { entries } = self;
+        Ok(SortedList {
+            entries: ArrayVec::try_from(entries.as_slice()).unwrap(),
+        })
     }
 }
 
@@ -78,7 +93,7 @@ impl<T: Keyed, const N: usize> SortedList<T, N> {
 }
 
 impl<T: Keyed + Default + Drop, const N: usize> SortedList<T, N> {
-    // The entry in the place of one with its key, or put in.
+    // Internal: the caller has checked that there is room. The entry in the place of one with its key, or put in.
     pub fn put(&mut self, x: T)
         requires { length self.old < N }
         ensures told { self.new ≡ put (by T.numbers T.key) x self.old }

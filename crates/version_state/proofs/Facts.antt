@@ -4,8 +4,9 @@ use mathlib.Core.Bool.{true, false, not, ◌&&◌, ◌||◌}
 use mathlib.Core.List.{[], ◌∷◌}
 use Prim.Native.Nat.{◌<◌, ◌≤◌}
 use lib.Dec.{leb, ltb}
+use lib.ListN.{take}
 use borrow.Author.Tests.{leb-true, le-leb, ltb-false, le-ltb, lt-ltb, not-false}
-use Rattle.lists.specs.Keyed.{all_of, ascending}
+use Rattle.lists.specs.Keyed.{all_of, ascending, sorted}
 use Rattle.lists.proofs.Tests.{by_cases, both, neither}
 use Rattle.text.specs.Name.{is_name}
 use Rattle.snapshot.specs.Entries.{by_ids, within}
@@ -13,7 +14,8 @@ use Rattle.snapshot.specs.Tables.{by_table}
 use Rattle.version_state.specs.declared.VersionManagerInner.{VersionManagerInner}
 use Rattle.version_state.specs.State.{State, state_of, counts_fit, Fit}
 use Rattle.ids.specs.Limits.{most_tables, most_held, longest_manifest}
-use Rattle.version_state.specs.Sound.{left_behind, beyond_limits, out_of_order, above_own, bad_inner}
+use Rattle.version_state.specs.Sound.{left_behind, beyond_limits, out_of_order, in_walking_order, above_own, bad_inner}
+use Rattle.version_state.proofs.Stands.{sorted-first}
 
 pub counts-fit : (m : VersionManagerInner) → counts_fit m ≡ true → Fit m
 counts-fit m h =
@@ -38,6 +40,22 @@ in_order s h =
 
 pub order-in : (s : State) → Ordered s → out_of_order s ≡ false
 order-in s o = rw (o.tables, o.pairs, o.vectors)
+
+-- lists in walking order
+pub record Walkable (s : State) : Type 0 where
+  pub tables : ascending by_table s.tables ≡ true
+  pub pairs : ascending by_ids s.pairs ≡ true
+  pub vectors : sorted (λ v. take 2 (by_ids v)) s.vectors ≡ true
+
+pub walkable : (s : State) → in_walking_order s ≡ true → Walkable s
+walkable s h =
+    let a = both (ascending by_table s.tables) (ascending by_ids s.pairs && sorted (λ v. take 2 (by_ids v)) s.vectors) h in
+    let b = both (ascending by_ids s.pairs) (sorted (λ v. take 2 (by_ids v)) s.vectors) a.1 in
+    record { tables = a.0; pairs = b.0; vectors = b.1 }
+
+-- what is in order is in walking order
+pub order-walks : (s : State) → Ordered s → in_walking_order s ≡ true
+order-walks s o = rw (o.tables, o.pairs) (sorted-first 2 s.vectors o.vectors)
 
 -- what 29 lets through, as facts
 pub record Sound (m : VersionManagerInner) : Type 0 where

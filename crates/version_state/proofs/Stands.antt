@@ -11,7 +11,7 @@ use Rattle.lists.specs.Order.{less, same}
 use Rattle.lists.specs.Keyed.{keep, all_of, has, ascending, not_below, sorted}
 use Rattle.lists.proofs.Tests.{by_cases, clash, both}
 use Rattle.lists.proofs.Order.{less-trans, less-total, less-le, less-same, same_true, same-eq}
-use Rattle.lists.proofs.Keyed.{All, all_map, all_any, all_keep, keep_all, Ascending, Sorted, ascend-to, ascending-keep, ascending-sorted, after-absent}
+use Rattle.lists.proofs.Keyed.{All, all_map, all_any, all_keep, keep_all, Ascending, Sorted, ascend-to, ascending-sorted, after-absent}
 use Rattle.lists.proofs.Walk.{sorted-prefix, sorted-drop, ascending-drop}
 use Rattle.snapshot.specs.Entries.{Entry, by_ids}
 use Rattle.snapshot.specs.Found.{drop_below, leads}
@@ -45,6 +45,17 @@ module _ {A : Type 0} (key : A → List ℕ) where
   pub sorted-map : (l : List A) → sorted key l ≡ sorted (λ k. k) (map key l)
   sorted-map [] = refl
   sorted-map (x ∷ l) = below-map (key x) l
+
+  sorted-keep : (p : A → Bool) (l : List A) → Sorted key l → Sorted key (keep p l)
+  sorted-keep p [] s = tt
+  sorted-keep p (x ∷ l) s =
+      by_cases (p x)
+      (λ e. rw e (all_keep (λ y. less (key y) (key x) ≡ false) p l s.0, sorted-keep p l s.1))
+      (λ e. rw e (sorted-keep p l s.1))
+
+  -- what is kept of entries in order is in order
+  pub kept-sorted : (p : A → Bool) (l : List A) → sorted key l ≡ true → Sorted key (keep p l)
+  kept-sorted p l h = sorted-keep p l (sorted-to l h)
 
 module _ {A B : Type 0} (f : A → List ℕ) (key : B → List ℕ) (p : B → Bool) where
   abbrev pub stand : List A → List B → Bool
@@ -102,9 +113,13 @@ module _ {A B : Type 0} (f : A → List ℕ) (key : B → List ℕ) (p : B → B
     pub stand-more : leads key p (f x) (drop j m) ≡ true → stand l m ≡ stand (drop (n + 1) l) (drop j m)
     stand-more t = both_at ∙ rw t
 
--- what is kept of entries in order is in order by the first fields of their ids
+-- entries in order are in order by the first fields of their ids
+pub sorted-first : (n : ℕ) (l : List Entry) → ascending by_ids l ≡ true → sorted (λ x. take n (by_ids x)) l ≡ true
+sorted-first n l up = sorted-from (λ x. take n (by_ids x)) l (sorted-prefix by_ids n l (ascending-sorted by_ids l (ascend-to by_ids l up)))
+
+-- what is kept of them is so too
 pub kept-prefix : (n : ℕ) (p : Entry → Bool) (l : List Entry) → ascending by_ids l ≡ true → Sorted (λ x. take n (by_ids x)) (keep p l)
-kept-prefix n p l up = sorted-prefix by_ids n (keep p l) (ascending-sorted by_ids (keep p l) (ascending-keep by_ids p l (ascend-to by_ids l up)))
+kept-prefix n p l up = kept-sorted (λ x. take n (by_ids x)) p l (sorted-first n l up)
 
 -- all of the other list is shown
 pub stand_all : {A B : Type 0} (f : A → List ℕ) (key : B → List ℕ) (l : List A) (m : List B) → stand f key (λ y. true) l m ≡ all_of (λ w. has key (f w) m) l

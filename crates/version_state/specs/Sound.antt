@@ -1,6 +1,6 @@
 -- 17 and 29: what a state may not show, and what no call hands out. Assumes nothing.
 use Rattle.std.specs.Prelude.{Bool, not, ◌&&◌, ◌||◌, List, [], ◌∷◌, ℕ, ltb, take}
-use Rattle.lists.specs.Keyed.{keep, all_of, has, ascending}
+use Rattle.lists.specs.Keyed.{keep, all_of, has, ascending, sorted}
 use Rattle.text.specs.Name.{is_name}
 use Rattle.snapshot.specs.Entries.{Entry, by_ids, shown_by, within}
 use Rattle.snapshot.specs.Tables.{TableEntry, by_table}
@@ -33,6 +33,10 @@ beyond_limits m =
 -- a list that does not rise strictly by its ids
 abbrev pub out_of_order : State → Bool
 out_of_order s = not (ascending by_table s.tables && (ascending by_ids s.pairs && ascending by_ids s.vectors))
+
+-- lists in order as far as a walk along two of them needs it: two vectors of one rowset may stand either way
+abbrev pub in_walking_order : State → Bool
+in_walking_order s = ascending by_table s.tables && (ascending by_ids s.pairs && sorted (λ v. take 2 (by_ids v)) s.vectors)
 
 -- an epoch above the state's own, or an id not below the next one
 abbrev pub above_own : State → Bool

@@ -1,10 +1,10 @@
 // 17: what an epoch shows without what it rests on. All here is internal. The structs of the C interface cannot say that their counts are
 // within the columns and their lists in order, so that each function asks for it.
-ghost use Rattle.std.specs.Prelude.{◌≡◌, false};
+ghost use Rattle.std.specs.Prelude.{◌≡◌, true};
 ghost use Rattle.lists.specs.Keyed.{keep, all_of};
 ghost use Rattle.snapshot.specs.Entries.{shown_by};
 ghost use Rattle.version_state.specs.State.{State, state_of, Fit};
-ghost use Rattle.version_state.specs.Sound.{has_table, has_rowset, out_of_order, left_behind};
+ghost use Rattle.version_state.specs.Sound.{has_table, has_rowset, in_walking_order, left_behind};
 
 use crate::VersionManagerInner;
 use snapshot::held::HeldColumns;
@@ -14,7 +14,7 @@ impl VersionManagerInner {
     // function over both would be no plainer.
     fn vectors_stand(&self, epoch: u32) -> bool
         requires fits { Fit self.now }
-        requires rises { out_of_order (state_of self.now) ≡ false }
+        requires rises { in_walking_order (state_of self.now) ≡ true }
         ensures { result ≡ all_of (has_rowset (keep (shown_by epoch) (state_of self.now).pairs)) (keep (shown_by epoch) (state_of self.now).vectors) }
     {
         let mut at = 0;
@@ -32,7 +32,7 @@ impl VersionManagerInner {
     // id, and no epoch hides it, so that one function would be no plainer.
     fn rowsets_stand(&self, epoch: u32) -> bool
         requires fits { Fit self.now }
-        requires rises { out_of_order (state_of self.now) ≡ false }
+        requires rises { in_walking_order (state_of self.now) ≡ true }
         ensures { result ≡ all_of (has_table (state_of self.now).tables) (keep (shown_by epoch) (state_of self.now).pairs) }
     {
         let mut at = 0;
@@ -48,7 +48,7 @@ impl VersionManagerInner {
     // Whether the epoch shows a vector without its rowset, or a rowset without its table.
     pub fn left_behind(&self, epoch: u32) -> bool
         requires fits { Fit self.now }
-        requires rises { out_of_order (state_of self.now) ≡ false }
+        requires rises { in_walking_order (state_of self.now) ≡ true }
         ensures { result ≡ left_behind epoch (state_of self.now) }
     {
         !(self.vectors_stand(epoch) && self.rowsets_stand(epoch))

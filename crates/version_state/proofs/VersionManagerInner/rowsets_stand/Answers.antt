@@ -11,13 +11,13 @@ use Rattle.snapshot.specs.Tables.{by_table}
 use Rattle.snapshot.specs.Views.{rowset_of}
 use Rattle.snapshot.specs.Passing.{to_come}
 use Rattle.version_state.specs.State.{state_of}
-use Rattle.version_state.proofs.Facts.{in_order}
+use Rattle.version_state.proofs.Facts.{walkable}
 use Rattle.version_state.proofs.Stands.{stand-stop, stand-more, stand-end, stand_all, kept-prefix}
 use Rattle.version_state.proofs.VersionManagerInner.rowsets_stand.Goals as goal
 
 pub returns-then-not-stands_at : goal.returns-then-not-stands_at
 returns-then-not-stands_at c =
-    let o = in_order (state_of c.args.self.now) c.requires.rises in
+    let o = walkable (state_of c.args.self.now) c.requires.rises in
     let m = (state_of c.args.self.now).tables in
     let l = keep (shown_by c.args.epoch) (state_of c.args.self.now).pairs in
     let road = YieldsList-from_first rowset_of to_come {s = c.into_iter-r-iterator.result} l (ap to_come c.into_iter-r-iterator.ensures.into_iter_gives ∙ c.shown-r-items.ensures) in
@@ -26,7 +26,7 @@ returns-then-not-stands_at c =
 
 pub loop-r-preserved : goal.loop-r-preserved
 loop-r-preserved c =
-    let o = in_order (state_of c.args.self.now) c.requires.rises in
+    let o = walkable (state_of c.args.self.now) c.requires.rises in
     let m = (state_of c.args.self.now).tables in
     let l = keep (shown_by c.args.epoch) (state_of c.args.self.now).pairs in
     let road = YieldsList-from_first rowset_of to_come {s = c.into_iter-r-iterator.result} l (ap to_come c.into_iter-r-iterator.ensures.into_iter_gives ∙ c.shown-r-items.ensures) in
@@ -36,7 +36,7 @@ loop-r-preserved c =
 
 pub returns : goal.returns
 returns c =
-    let o = in_order (state_of c.args.self.now) c.requires.rises in
+    let o = walkable (state_of c.args.self.now) c.requires.rises in
     let m = (state_of c.args.self.now).tables in
     let l = keep (shown_by c.args.epoch) (state_of c.args.self.now).pairs in
     let road = YieldsList-from_first rowset_of to_come {s = c.into_iter-r-iterator.result} l (ap to_come c.into_iter-r-iterator.ensures.into_iter_gives ∙ c.shown-r-items.ensures) in
