@@ -4,7 +4,7 @@ use mathlib.Core.Bool.{true, false}
 use mathlib.Core.List.{List, map, map-map}
 use Prim.Native.Nat.{ℕ, ◌≤◌, ◌<◌}
 use native.Mathlib.Omega.{arith}
-use lib.ListN.{length, get_or, length-map}
+use lib.ListN.{length, get_or}
 use borrow.Author.Tests.{eq-eqb, ne_eqb, lt-ltb, le-ltb}
 use Rattle.std.specs.Prelude.{Ok, Err}
 use Rattle.lists.specs.Keyed.{keep}
@@ -17,6 +17,8 @@ use Rattle.ids.specs.Verdicts.{judged}
 use Rattle.columns.proofs.Rows.{rows-length}
 use Rattle.snapshot.specs.Entries.{by_ids, shown_by, of_table}
 use Rattle.snapshot.specs.Views.{rowsets_of}
+use Rattle.snapshot.specs.declared.held.Held.{Held}
+use Rattle.snapshot.specs.declared.rowsets.RowsetIds.{RowsetIds}
 use Rattle.snapshot.specs.declared.rowsets.Rowsets.{Rowsets}
 use Rattle.version_state.specs.declared.VersionManagerInner.{VersionManagerInner}
 use Rattle.version_state.specs.State.{State, state_of}
@@ -25,6 +27,10 @@ use Rattle.table.specs.Made as made
 use Rattle.compactor.specs.Selection.{rowsets_now, selected}
 use Rattle.compactor.specs.Says.{select_rules, SelectIs}
 use Rattle.compactor.proofs.Taking.{rowset_at}
+
+-- a held rowset's own id
+abbrev pub rowset_held : Held RowsetIds → ℕ
+rowset_held x = x.ids.rowset.0
 
 -- no more is shown than is held
 pub shown-few : (t e : ℕ) (s : Rowsets) → length (keep (of_table t) (keep (shown_by e) (rowsets_of s))) ≤ s.count
@@ -38,12 +44,6 @@ rowsets-shown t s =
     let l = keep (shown_by s.epoch) s.pairs in
     sym (map-map (λ (k : List ℕ). get_or k 1 0) by_ids (keep (of_table t) l))
     ∙ ap (map (λ (k : List ℕ). get_or k 1 0)) (sym (keep-map by_ids (made.of_table t) l))
-
-pub rowsets-few : (t : ℕ) (m : VersionManagerInner) → length (rowsets_now t (state_of m)) ≤ m.rowsets.count
-rowsets-few t m =
-    let l = keep (of_table t) (keep (shown_by m.epoch) (rowsets_of m.rowsets)) in
-    let e = ap length (rowsets-shown t (state_of m)) in
-    omega (arith, e, length-map l rowset_at, shown-few t m.epoch m.rowsets)
 
 module _ (m : VersionManagerInner) (t target : ℕ) (ns : List ℕ) where
   module _ (out : List ℕ) where

@@ -1,12 +1,10 @@
 // Selection: which of a table's rowsets a compaction takes, by their sizes.
 #![tactic(auto)]
 
-ghost use Rattle.std.specs.Prelude.{◌≡◌, true, ◌≤◌, [], ◌∷◌, map, length, get_or};
+ghost use Rattle.std.specs.Prelude.{◌≡◌, true, ◌≤◌, [], ◌∷◌, map, length, take};
 ghost use Rattle.ids.specs.Ids.{is_id32};
-ghost use Rattle.ids.specs.Limits.{most_held};
-ghost use Rattle.snapshot.specs.Passing.{to_come};
 ghost use Rattle.version_state.specs.State.{state_of};
-ghost use Rattle.compactor.specs.Selection.{taken, sized, any_over, compacted};
+ghost use Rattle.compactor.specs.Selection.{taken, sized, rowsets_now, any_over, compacted};
 ghost use Rattle.compactor.specs.Says.{SelectIs};
 ghost use Rattle.compactor.specs.Laws.{TakenLaws};
 
@@ -14,10 +12,7 @@ use arrayvec::ArrayVec;
 use ids::limits::MOST_HELD;
 use ids::refusal::Refusal;
 use ids::{RowsetNo, TableNo};
-use snapshot::epoch::ShownBy;
 use snapshot::held::HeldColumns;
-use snapshot::passing::Passing;
-use snapshot::rowsets::Rowsets;
 use version_state::sound::SoundState;
 
 // The laws of what is taken.
@@ -25,25 +20,38 @@ pub fn holds()
     ensures { TakenLaws }
 {}
 
-// Internal, as is all that follows. Of the rowsets with their sizes, those that are taken. What is left of the target is counted down, so that no
-// sum of sizes can overflow.
-fn take(
-    shown: Passing<'_, Rowsets, ShownBy>,
-    sizes: &[u64],
-    target: u64,
-) -> ArrayVec<u32, MOST_HELD>
-    requires { length sizes.now ≤ most_held }
-    ensures { result.items ≡ map (λ x. x.rowset) (taken target (sized (map (λ x. get_or x.ids 1 0) (to_come shown.entry)) sizes.now)) }
+// Internal, as is all that follows. The table's rowsets that are shown now, gathered in one pass over its run.
+fn rowsets_now(state: SoundState<'_>, table: TableNo) -> ArrayVec<u32, MOST_HELD>
+    requires { is_id32 table.0 ≡ true }
+    ensures { result.items ≡ rowsets_now table.0 (state_of state.entry.inner.now) }
+{
+    let inner = state.inner;
+    let mut rowsets = ArrayVec::new();
+    let shown = inner.rowsets.shown_of(table, inner.epoch);
+    for rowset in shown {
+        rowsets.push(rowset.ids.rowset.0);
+    }
+    rowsets
+}
+
+// Of the rowsets that have a size each, those that are taken, moved to the front; answers how many they are. What is left of the target is counted
+// down, so that no sum of sizes can overflow.
+fn take(rowsets: &mut [u32], sizes: &[u64], target: u64) -> usize
+    requires { length sizes.now ≤ length rowsets.old }
+    ensures told { take result rowsets.new ≡ map (λ x. x.rowset) (taken target (sized rowsets.old sizes.now)) }
+    ensures inside { result ≤ length rowsets.old }
+    ensures size { length rowsets.new ≡ length rowsets.old }
 {
     let mut left = target;
-    let mut chosen = ArrayVec::new();
-    for (rowset, size) in shown.zip(sizes.iter()) {
+    let mut count = 0;
+    for (i, size) in sizes.iter().enumerate() {
         if *size <= left {
-            chosen.push(rowset.ids.rowset.0);
+            rowsets[count] = rowsets[i];
             left -= *size;
+            count += 1;
         }
     }
-    chosen
+    count
 }
 
 // Whether a vector that is shown now lies over the rowset.
@@ -83,15 +91,15 @@ pub fn select(
     if !table.is_id() {
         return Err(Refusal::Malformed(0));
     }
-    if sizes.len() != inner.rowsets.shown_of(table, inner.epoch).count() {
+    let mut rowsets = rowsets_now(state, table);
+    if sizes.len() != rowsets.len() {
         return Err(Refusal::WrongCount);
     }
     if !inner.tables.holds(table) {
         return Err(Refusal::TableNotLive(0));
     }
-    let shown = inner.rowsets.shown_of(table, inner.epoch);
-    let taken = take(shown, sizes, target);
-    let chosen = compacted(state, table, taken.as_slice());
+    let taken = take(rowsets.as_mut_slice(), sizes, target);
+    let chosen = compacted(state, table, &rowsets.as_slice()[..taken]);
     let count = chosen.len();
     if out.len() < count {
         return Err(Refusal::OutputTooShort);

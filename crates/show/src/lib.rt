@@ -1,24 +1,27 @@
 // Show: the tables of the current epoch, and the pairs and vectors of the current or a pinned one, into lent slices.
 #![tactic(auto)]
 
-ghost use Rattle.std.specs.Prelude.{◌≡◌, [], ◌∷◌, ◌≤◌, length};
+ghost use Rattle.std.specs.Prelude.{◌≡◌, [], ◌∷◌, ◌≤◌, ltb, map, length};
+ghost use Rattle.ids.specs.Limits.{most_held};
 ghost use Rattle.ids.specs.Names.{longest_name};
 ghost use Rattle.ids.specs.declared.refusal.Refusal.TheVariants.{BadPinBook, EpochNotPinned, OutputTooShort};
 ghost use Rattle.ids.specs.Verdicts.{◌⇒◌, judged};
 ghost use Rattle.pins.specs.Book.{bad_book};
+ghost use Rattle.snapshot.specs.Entries.{shown};
 ghost use Rattle.version_state.specs.State.{state_of};
 ghost use Rattle.show.specs.Names.{padded};
 ghost use Rattle.show.specs.Says.{ShowPairsIs, ShowVectorsIs, ShowTablesIs};
 
-use ids::limits::LONGEST_NAME;
+use arrayvec::ArrayVec;
+use ids::limits::{LONGEST_NAME, MOST_HELD};
 use ids::refusal::Refusal;
 use pins::PinBook;
 use snapshot::held::HeldColumns;
 use version_state::sound::SoundState;
 
-// Refusals 28, 24 and 9, in this order.
-fn judge(current: u32, book: &PinBook, unseen: bool, short: bool) -> Result<(), Refusal>
-    ensures { result ≡ judged ((bad_book current book.now ⇒ BadPinBook) ∷ (unseen ⇒ EpochNotPinned) ∷ (short ⇒ OutputTooShort) ∷ []) }
+// Refusals 28 and 24, in this order.
+fn judge(current: u32, book: &PinBook, unseen: bool) -> Result<(), Refusal>
+    ensures { result ≡ judged ((bad_book current book.now ⇒ BadPinBook) ∷ (unseen ⇒ EpochNotPinned) ∷ []) }
 {
     if book.bad(current) {
         return Err(Refusal::BadPinBook);
@@ -26,10 +29,32 @@ fn judge(current: u32, book: &PinBook, unseen: bool, short: bool) -> Result<(), 
     if unseen {
         return Err(Refusal::EpochNotPinned);
     }
-    if short {
+    Ok(())
+}
+
+// Refusal 9, which comes after these.
+fn fit(count: usize, room: usize) -> Result<(), Refusal>
+    ensures { result ≡ judged ((ltb room count ⇒ OutputTooShort) ∷ []) }
+{
+    if room < count {
         return Err(Refusal::OutputTooShort);
     }
     Ok(())
+}
+
+// The ids of what the epoch shows, gathered in one pass, since the slices are written only where all have room. The count is within the columns,
+// which the structs of the C interface cannot say.
+fn gathered<H: HeldColumns>(held: &H, epoch: u32) -> ArrayVec<H::Ids, MOST_HELD>
+where
+    H::Ids: Default,
+    requires { H.count held.now ≤ most_held }
+    ensures { map H.Ids.numbers result.items ≡ shown epoch (H.entries held.now) }
+{
+    let mut ids = ArrayVec::new();
+    for one in held.shown(epoch) {
+        ids.push(one.ids);
+    }
+    ids
 }
 
 // Internal, as are all that follow. Each answers how many are shown, in slices that C lends one by one.
@@ -44,12 +69,14 @@ pub fn show_pairs(
 {
     let inner = state.inner;
     let unseen = !book.may_show(inner.epoch, epoch);
-    let count = inner.rowsets.shown(epoch).count();
+    judge(inner.epoch, book, unseen)?;
+    let shown = gathered(&inner.rowsets, epoch);
+    let count = shown.len();
     let room = tables.len().min(rowsets.len());
-    judge(inner.epoch, book, unseen, room < count)?;
-    for (i, pair) in inner.rowsets.shown(epoch).enumerate() {
-        tables[i] = pair.ids.table.0;
-        rowsets[i] = pair.ids.rowset.0;
+    fit(count, room)?;
+    for (i, pair) in shown.as_slice().iter().enumerate() {
+        tables[i] = pair.table.0;
+        rowsets[i] = pair.rowset.0;
     }
     Ok(count)
 }
@@ -67,13 +94,15 @@ pub fn show_vectors(
 {
     let inner = state.inner;
     let unseen = !book.may_show(inner.epoch, epoch);
-    let count = inner.vectors.shown(epoch).count();
+    judge(inner.epoch, book, unseen)?;
+    let shown = gathered(&inner.vectors, epoch);
+    let count = shown.len();
     let room = tables.len().min(rowsets.len()).min(vectors.len());
-    judge(inner.epoch, book, unseen, room < count)?;
-    for (i, vector) in inner.vectors.shown(epoch).enumerate() {
-        tables[i] = vector.ids.table.0;
-        rowsets[i] = vector.ids.rowset.0;
-        vectors[i] = vector.ids.vector.0;
+    fit(count, room)?;
+    for (i, vector) in shown.as_slice().iter().enumerate() {
+        tables[i] = vector.table.0;
+        rowsets[i] = vector.rowset.0;
+        vectors[i] = vector.vector.0;
     }
     Ok(count)
 }
@@ -102,10 +131,11 @@ pub fn show_tables(
 {
     let inner = state.inner;
     let unseen = epoch != inner.epoch;
+    judge(inner.epoch, book, unseen)?;
     let count = inner.tables.count;
     let numbers = ids.len().min(shapes.len()).min(lengths.len());
     let room = numbers.min(names.len() / LONGEST_NAME);
-    judge(inner.epoch, book, unseen, room < count)?;
+    fit(count, room)?;
     for i in 0..count {
         let table = inner.tables.get(i);
         let name = inner.tables.name(i);

@@ -1,53 +1,65 @@
 -- `show::show_vectors` meets its contract.
-use mathlib.Core.Path.{refl, sym, ap, ◌∙◌}
+use mathlib.Core.Path.{◌≡◌, refl, sym, ap, ◌∙◌}
 use mathlib.Core.Bool.{not}
-use mathlib.Core.Logic.{inl}
-use Prim.Native.Nat.{ℕ, ◌≤◌, min}
+use mathlib.Core.List.{map}
+use Prim.Native.Nat.{ℕ, min}
 use native.Mathlib.Omega.{arith}
-use lib.ListN.{length, length-map}
-use Rattle.std.proofs.lemmas.List.{length_push}
-use Rattle.std.proofs.lemmas.Iterator.Consumers.{YieldsList-from_first, YieldsList-from_enumerate, count_from_yields_List}
-use Rattle.lists.specs.Keyed.{keep}
-use Rattle.snapshot.specs.Entries.{Entry, nothing, shown_by}
-use Rattle.snapshot.specs.Views.{vector_of}
-use Rattle.snapshot.specs.Passing.{to_come}
-use Rattle.version_state.specs.State.{state_of}
+use lib.ListN.{length}
+use Rattle.std.specs.Prelude.{Ok}
+use Rattle.ids.specs.Verdicts.{judged}
+use Rattle.snapshot.specs.Views.{vector_ids}
+use Rattle.snapshot.proofs.Filled.{fill_start}
+use Rattle.version_state.specs.State.{state_of, vectors_at}
 use Rattle.version_state.proofs.Facts.{sound-of}
-use Rattle.show.proofs.Says.{kept-few, numbered-turn, numbered-end, fronts-more, fronts-done, vectors-judged, vectors-refuse, vectors-accept}
+use Rattle.show.specs.Says.{show_vectors_rules}
+use Rattle.show.proofs.Says.{as_many, fronts-more, fronts-done, roomy, in-turn, vectors-judged, vectors-refuse, vectors-accept}
 use Rattle.show.proofs.show_vectors.Goals as goal
+use Rattle.show.proofs.show_vectors.Goals.{After-fit}
 
-pub count-count-requires-clause-fits : goal.count-count-requires-clause-fits
-count-count-requires-clause-fits c =
-    let f = (sound-of c.args.state.inner.now c.args.state.sound).fits.vectors in
-    let h : length (keep (shown_by c.args.epoch) (state_of c.args.state.inner.now).vectors) ≤ c.args.state.inner.now.vectors.count = kept-few _ _ _ in
-    inl (omega (arith, ap length c.shown.ensures))
+pub gathered-shown-requires : goal.gathered-shown-requires
+gathered-shown-requires c = (omega arith, (sound-of c.args.state.inner.now c.args.state.sound).fits.vectors)
+
+-- how many were gathered
+counted : (c : After-fit) → c.len-count.result ≡ length (vectors_at c.args.epoch (state_of c.args.state.inner.now))
+counted c = c.len-count.ensures.value ∙ as_many vector_ids c.gathered-shown.result.items _ c.gathered-shown.ensures
+
+-- past 28 and 24, what 9 says is the verdict
+rest : (c : After-fit) → c.judge.result ≡ Ok tt → c.fit.result ≡ judged (show_vectors_rules (state_of c.args.state.inner.now) c.args.book.now c.args.epoch (length c.args.tables.now) (length c.args.rowsets.now) (length c.args.vectors.now))
+rest c h =
+    c.fit.ensures
+    ∙ sym (in-turn (state_of c.args.state.inner.now) c.args.book.now _ _ _ _ c.judge.ensures h)
+    ∙ vectors-judged (state_of c.args.state.inner.now) c.args.book.now c.args.epoch _ c.args.tables.now c.args.rowsets.now c.args.vectors.now _ _ (ap not c.may_show-unseen.ensures) (counted c) (c.min-room.ensures ∙ ap (λ (n : ℕ). min n (length c.args.vectors.now)) c.min.ensures)
 
 pub returns-in_err-judge : goal.returns-in_err-judge
 returns-in_err-judge c =
-    let l = keep (shown_by c.args.epoch) (state_of c.args.state.inner.now).vectors in
-    let n = count_from_yields_List c.shown.result c.count-count.result c.count-count.ensures.ran (YieldsList-from_first vector_of to_come l c.shown.ensures) in
-    let d = vectors-judged (state_of c.args.state.inner.now) c.args.book.now c.args.epoch _ c.args.tables.now c.args.rowsets.now c.args.vectors.now _ _ (ap not c.may_show-unseen.ensures) n (c.min-room.ensures ∙ ap (λ (n : ℕ). min n (length c.args.vectors.now)) c.min.ensures) in
-    vectors-refuse (state_of c.args.state.inner.now) c.args.book.now c.args.epoch c.args.tables.now c.args.rowsets.now c.args.vectors.now _ _ c.from_residual.ensures.1 (sym d ∙ sym c.judge.ensures ∙ c.in_err-judge.was)
+    vectors-refuse (state_of c.args.state.inner.now) c.args.book.now c.args.epoch c.args.tables.now c.args.rowsets.now c.args.vectors.now _ _ c.from_residual.ensures.1
+    (sym (vectors-judged (state_of c.args.state.inner.now) c.args.book.now c.args.epoch _ c.args.tables.now c.args.rowsets.now c.args.vectors.now _ _ (ap not c.may_show-unseen.ensures) refl refl)
+    ∙ in-turn (state_of c.args.state.inner.now) c.args.book.now _ _ _ _ c.judge.ensures c.in_err-judge.was)
+
+pub returns-in_err-fit : goal.returns-in_err-fit
+returns-in_err-fit c =
+    vectors-refuse (state_of c.args.state.inner.now) c.args.book.now c.args.epoch c.args.tables.now c.args.rowsets.now c.args.vectors.now _ _ c.from_residual-in_err-fit.ensures.1
+    (sym (rest (goal.at.returns-in_err-fit c).After-fit c.in_ok-judge.was) ∙ c.in_err-fit.was)
+
+pub loop-i-init : goal.loop-i-init
+loop-i-init c =
+    let r = roomy c.min-room.result c.len-count.result (sym c.fit.ensures ∙ c.in_ok-fit.was) in
+    let n = counted (goal.at.loop-i-init c).After-fit in
+    let m = c.min-room.ensures in
+    (fill_start _ _ _ (omega arith), fill_start _ _ _ (omega arith), fill_start _ _ _ (omega arith))
 
 pub loop-i-preserved : goal.loop-i-preserved
 loop-i-preserved c =
-    let l = keep (shown_by c.args.epoch) (state_of c.args.state.inner.now).vectors in
-    let road = YieldsList-from_enumerate {s = c.into_iter-i-iterator.result} (YieldsList-from_first vector_of to_come l (rw (c.into_iter-i-iterator.ensures.into_iter_gives, c.enumerate-i-items.ensures.source) c.shown-2.ensures)) (cc) in
-    let t = numbered-turn vector_of l road c.loop-i.yielded c.loop-i.i-iterator c.loop-i.yielded_by _ c.next.new.self (c.in-Some.i, c.in-Some.vector) nothing c.in-Some.is c.next.ensures.steps in
-    let k = length_push c.loop-i.yielded (c.in-Some.i, c.in-Some.vector) in (
-      fronts-more l 0 c.args.tables.now (length c.loop-i.yielded) c.loop-i.tables c.in-Some.i _ (vector_of c.in-Some.vector) c.in-Some.vector.ids.table.0 c.loop-i.invariant.0 t.0 t.1 t.2 refl k,
-      fronts-more l 1 c.args.rowsets.now (length c.loop-i.yielded) c.loop-i.rowsets c.in-Some.i _ (vector_of c.in-Some.vector) c.in-Some.vector.ids.rowset.0 c.loop-i.invariant.1 t.0 t.1 t.2 refl k,
-      fronts-more l 2 c.args.vectors.now (length c.loop-i.yielded) c.loop-i.vectors c.in-Some.i _ (vector_of c.in-Some.vector) c.in-Some.vector.ids.vector.0 c.loop-i.invariant.2 t.0 t.1 t.2 refl k,
+    let more = fronts-more vector_ids c.as_slice-vector-items.result.now _ (ap (map vector_ids) c.as_slice-vector-items.ensures.value ∙ c.gathered-shown.ensures) in (
+      more 0 c.args.tables.now c.loop-i.tables c.loop-i.i _ _ c.loop-i-test.true refl c.loop-i.invariant.0,
+      more 1 c.args.rowsets.now c.loop-i.rowsets c.loop-i.i _ _ c.loop-i-test.true refl c.loop-i.invariant.1,
+      more 2 c.args.vectors.now c.loop-i.vectors c.loop-i.i _ _ c.loop-i-test.true refl c.loop-i.invariant.2,
     )
 
 pub returns : goal.returns
 returns c =
-    let l = keep (shown_by c.args.epoch) (state_of c.args.state.inner.now).vectors in
-    let road = YieldsList-from_enumerate {s = c.into_iter-i-iterator.result} (YieldsList-from_first vector_of to_come l (rw (c.into_iter-i-iterator.ensures.into_iter_gives, c.enumerate-i-items.ensures.source) c.shown-2.ensures)) (cc) in
-    let t = numbered-end vector_of l road c.loop-i.yielded c.loop-i.i-iterator c.loop-i.yielded_by _ c.next.new.self c.in-None.is c.next.ensures.steps in
-    let n = count_from_yields_List c.shown.result c.count-count.result c.count-count.ensures.ran (YieldsList-from_first vector_of to_come l c.shown.ensures) in
-    let d = vectors-judged (state_of c.args.state.inner.now) c.args.book.now c.args.epoch _ c.args.tables.now c.args.rowsets.now c.args.vectors.now _ _ (ap not c.may_show-unseen.ensures) n (c.min-room.ensures ∙ ap (λ (n : ℕ). min n (length c.args.vectors.now)) c.min.ensures) in
-    vectors-accept (state_of c.args.state.inner.now) c.args.book.now c.args.epoch c.args.tables.now c.args.rowsets.now c.args.vectors.now _ _ _ _ (sym d ∙ sym c.judge.ensures ∙ c.in_ok-judge.was) (n ∙ sym (length-map l (λ (x : Entry). x.ids)))
-    (fronts-done l 0 c.args.tables.now (length c.loop-i.yielded) c.loop-i.tables c.loop-i.invariant.0 t)
-    (fronts-done l 1 c.args.rowsets.now (length c.loop-i.yielded) c.loop-i.rowsets c.loop-i.invariant.1 t)
-    (fronts-done l 2 c.args.vectors.now (length c.loop-i.yielded) c.loop-i.vectors c.loop-i.invariant.2 t)
+    let done = fronts-done vector_ids c.as_slice-vector-items.result.now _ (ap (map vector_ids) c.as_slice-vector-items.ensures.value ∙ c.gathered-shown.ensures) in
+    vectors-accept (state_of c.args.state.inner.now) c.args.book.now c.args.epoch c.args.tables.now c.args.rowsets.now c.args.vectors.now _ _ _ _ (sym (rest (goal.at.returns c).After-fit c.in_ok-judge.was) ∙ c.in_ok-fit.was) (counted (goal.at.returns c).After-fit)
+    (done 0 c.args.tables.now c.loop-i.tables c.loop-i.i c.loop-i-test.false c.loop-i.invariant.0)
+    (done 1 c.args.rowsets.now c.loop-i.rowsets c.loop-i.i c.loop-i-test.false c.loop-i.invariant.1)
+    (done 2 c.args.vectors.now c.loop-i.vectors c.loop-i.i c.loop-i-test.false c.loop-i.invariant.2)
