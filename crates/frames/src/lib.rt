@@ -50,6 +50,7 @@ impl<const N: usize> Lines<N> {
         &self.bytes[..self.used]
     }
 
+    // Internal, as is what follows: the caller has checked that there is room.
     pub fn put_line(&mut self, change: EpochOp)
         requires { length self.old + length (text_of (operation_of change) ++ (10 ∷ [])) ≤ N }
         ensures { self.new ≡ self.old ++ (text_of (operation_of change) ++ (10 ∷ [])) }
@@ -66,7 +67,7 @@ impl<const N: usize> Lines<N> {
     }
 }
 
-// Internal: the caller has checked that there is room. A letter's line from a place on; answers the place after it.
+// A letter's line from a place on; answers the place after it.
 // As in `text`, measured there.
 fn put_letter(out: &mut [u8], at: usize, letter: u8) -> usize
     requires { at + 2 ≤ length out.old }

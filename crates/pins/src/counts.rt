@@ -1,5 +1,5 @@
-// The counts of a book, and a change of one of them. The C interface hands over any book, so that each function asks for one whose places
-// are in order.
+// The counts of a book, and a change of one of them. All here is internal: the C interface hands over any book, so that each function asks for
+// one whose places are in order.
 ghost use Rattle.std.specs.Prelude.{◌≡◌, true, false, ◌+◌, ◌≤◌, ◌<◌, leb, length};
 ghost use Rattle.lists.specs.Keyed.{ascending};
 ghost use Rattle.lists.specs.Places.{insert_at, remove_at};

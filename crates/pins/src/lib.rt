@@ -93,7 +93,7 @@ impl PinBook {
         epoch == current || self.is_pinned(epoch)
     }
 
-    // The book has passed 28. The epoch up to which a vacuum lets go: the first of an ascending book is the smallest.
+    // Internal: the book has passed 28. The epoch up to which a vacuum lets go: the first of an ascending book is the smallest.
     pub fn bound(&self, current: u32) -> u32
         requires { GoodBook current self.now }
         ensures { result ≡ bound (guards_by current (pins_of self.now)) }

@@ -132,7 +132,8 @@ impl HeldColumns for Vectors {
 }
 
 impl Vectors {
-    // A vector of any table has the id. One call of the library, as `Tables::holds` is: sharing it would be no plainer.
+    // Internal, as is what follows: the count is within the columns. A vector of any table has the id. One call of the library, as
+    // `Tables::holds` is: sharing it would be no plainer.
     pub fn numbered(&self, vector: VectorNo) -> bool
         requires fits { self.now.count ≤ most_held }
         ensures { result ≡ any_of (λ x. eqb (get_or (by_ids x) 2 0) vector.0) (vectors_of self.now) }

@@ -82,7 +82,7 @@ pub fn read_all(from: &mut impl Read, buf: &mut [u8]) -> io::Result<usize>
     Ok(filled)
 }
 
-// Shows each complete line, without its newline; what comes after the last newline is none.
+// Internal, as is what follows. Shows each complete line, without its newline; what comes after the last newline is none.
 // Rattle asks for this clause of each function that calls a closure, so that no other form is plainer.
 pub fn each_line<F: FnMut(&[u8]) -> io::Result<()> + Drop>(s: &[u8], mut show: F) -> io::Result<()>
     requires { F.IsAlwaysCallable show }
