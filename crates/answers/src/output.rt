@@ -1,6 +1,6 @@
 // Standard output, gathered in a buffer that is written when it is full or flushed. After a write that failed nothing more is written, so
 // that what was written is the beginning of the answers.
-ghost use Rattle.std.specs.Prelude.{◌≡◌, IsNone, IsSome, OnErr, OnOk, Some, []};
+ghost use Rattle.std.specs.Prelude.{◌≡◌, ◌+◌, ◌≤◌, ◌++◌, IsNone, IsOk, IsSome, OnErr, OnOk, Some, [], length, take};
 
 use arrayvec::ArrayVec;
 use std::io;
@@ -28,6 +28,17 @@ impl Output {
             text: ArrayVec::new(),
         }
     }
+
+    // Appends what there is room for; answers how many bytes.
+    fn fill(&mut self, buf: &[u8]) -> usize
+        ensures within { result ≤ length buf.now }
+        ensures items { self.new.text.items ≡ self.old.text.items ++ take result buf.now }
+        ensures fits { length self.old.text.items + length buf.now ≤ 65536 → result ≡ length buf.now }
+    {
+        let n = buf.len().min(self.text.remaining_capacity());
+        let _ = self.text.try_extend_from_slice(&buf[..n]);
+        n
+    }
 }
 
 // For `write!`. After a failed write it still takes bytes, and drops them; `flush` says that one has failed.
@@ -36,9 +47,23 @@ impl Write for Output {
         if self.text.is_full() {
             let _ = self.flush();
         }
-        let n = buf.len().min(self.text.remaining_capacity());
-        let _ = self.text.try_extend_from_slice(&buf[..n]);
-        Ok(n)
+        Ok(self.fill(buf))
+    }
+
+    // Takes all. Most of what is printed is short and fits, for which the trait's loop takes longer.
+    fn write_all(&mut self, buf: &[u8]) -> io::Result<()>
+        ensures ok { IsOk result }
+        ensures fits { length self.old.text.items + length buf.now ≤ 65536 → self.new.text.items ≡ self.old.text.items ++ buf.now }
+    {
+        let n = self.fill(buf);
+        if n == buf.len() {
+            return Ok(());
+        }
+        for part in buf[n..].chunks(ROOM) {
+            let _ = self.flush();
+            let _ = self.fill(part);
+        }
+        Ok(())
     }
 
     fn flush(&mut self) -> io::Result<()>

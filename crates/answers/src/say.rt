@@ -1,11 +1,13 @@
 // What is printed of answers.
+ghost use Rattle.std.specs.Prelude.{◌≡◌, ◌<◌, OnOk, []};
 ghost use Rattle.std.specs.Iterator.{IsFinite};
 
 use crate::output::Output;
+use arrayvec::ArrayVec;
 use ids::refusal::Refusal;
-use std::fmt;
 use std::fmt::Display;
 use std::io::Write;
+use std::{fmt, str};
 
 // Of a line that is no call.
 pub const NO_CALL: Refusal = Refusal::Malformed(0);
@@ -63,7 +65,43 @@ pub fn list<T: Entry, I: Iterator<Item = T> + Drop>(
     let _ = output.write_all(b"\n");
 }
 
-// Each byte in `width` hex digits, or a dash for none.
+// How many digits are printed at once: a call of the formatter for each takes most of the time.
+const RUN: usize = 64;
+
+// Digits that wait.
+#[derive(Drop)]
+struct Run {
+    text: ArrayVec<u8, RUN>,
+}
+
+fn digit(n: u8) -> u8
+    requires { n < 16 }
+{
+    if n < 10 { b'0' + n } else { b'a' + (n - 10) }
+}
+
+impl Run {
+    fn print<W: fmt::Write>(&mut self, f: &mut fmt::Formatter<W>) -> fmt::Result
+        ensures { OnOk result (self.new.text.items ≡ []) }
+    {
+        let text = str::from_utf8(self.text.as_slice()).map_err(|_| fmt::Error)?;
+        f.write_str(text)?;
+        self.text.clear();
+        Ok(())
+    }
+
+    fn push<W: fmt::Write>(&mut self, n: u8, f: &mut fmt::Formatter<W>) -> fmt::Result
+        requires { n < 16 }
+    {
+        if self.text.is_full() {
+            self.print(f)?;
+        }
+        self.text.push(digit(n));
+        Ok(())
+    }
+}
+
+// Each byte in `width` hex digits, or in two where it needs them, or a dash for none.
 #[derive(Clone, Copy)]
 pub struct Digits<'a> {
     pub width: usize,
@@ -75,11 +113,19 @@ impl Display for Digits<'_> {
         if self.bytes.is_empty() {
             return write!(f, "-");
         }
-        let width = self.width;
+        let mut run = Run {
+            text: ArrayVec::new(),
+        };
         for b in self.bytes {
-            write!(f, "{b:0width$x}")?;
+            for _ in 2..self.width {
+                run.push(0, f)?;
+            }
+            if 1 < self.width || 15 < *b {
+                run.push(b / 16, f)?;
+            }
+            run.push(b % 16, f)?;
         }
-        Ok(())
+        run.print(f)
     }
 }
 
