@@ -51,7 +51,7 @@ impl<'a> Call<'a> {
         Ok(n.min(out.len()))
     }
 
-    // A word and a list of pairs, which `fill` writes to columns of the call's room.
+    // Internal. A word and a list of pairs, which `fill` writes to columns of the call's room.
     // Rattle asks for this clause of each function that calls a closure, so that no other form is plainer.
     pub fn pairs<F: FnOnce(&mut [u32], &mut [u32]) -> Result<usize, Refusal> + Drop>(
         self,

@@ -47,7 +47,7 @@ impl Entry for (((&u32, &u32), &u32), &[u8]) {
     }
 }
 
-// A word, `n`, and the first `n` entries.
+// Internal. A word, `n`, and the first `n` entries.
 pub fn list<T: Entry, I: Iterator<Item = T> + Drop>(
     word: &str,
     n: usize,
