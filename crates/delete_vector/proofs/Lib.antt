@@ -6,6 +6,7 @@ pub mod Bytes
 pub mod Files
 pub mod InMemory
 pub mod Dedup
+pub mod Settling
 pub mod Buckets
 pub mod Passes
 pub mod Masking
