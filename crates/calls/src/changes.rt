@@ -39,7 +39,7 @@ impl World<'_> {
         })
     }
 
-    // Rattle asks for this clause of each function that calls a closure, so that no other form is plainer.
+    // Internal. Rattle asks for this clause of each function that calls a closure, so that no other form is plainer.
     pub fn with_lock<F: FnOnce(VersionManager, TableNo) -> Locked + Drop>(
         &mut self,
         call: Call,

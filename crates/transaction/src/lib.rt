@@ -15,8 +15,8 @@ use ids::{RowNo, RowsetNo, SecondaryRowHandler};
 use order::FewHandles;
 use vectors::Vectors;
 
-mod order;
-mod vectors;
+pub mod order;
+pub mod vectors;
 
 // The most handles of a transaction.
 pub const MOST_HANDLES: usize = 4096;

@@ -5,7 +5,7 @@ use std::fmt::Display;
 use std::io;
 use version_manager::{Answered, VersionManager};
 
-// What an accepted call gives, or the refusal, in words and not as its Display has it, which would change what the program prints. Each program
+// Internal. What an accepted call gives, or the refusal, in words and not as its Display has it, which would change what the program prints. Each program
 // prints its own words; a shared function would take all of them, and be no plainer.
 // Rattle asks for this clause of each function that calls a closure, so that no other form is plainer.
 pub fn answer<T, F: FnOnce(T) -> io::Result<()> + Drop>(
@@ -25,7 +25,7 @@ pub fn count(rt: &impl Print, word: &str, counted: Result<usize, Refusal>) -> io
     answer(rt, counted, |n| print!(rt; " {word} {n}"))
 }
 
-// The same, and the manager that is handed back.
+// Internal. The same, and the manager that is handed back.
 // Rattle asks for this clause of each function that calls a closure, so that no other form is plainer.
 pub fn handed<T, F: FnOnce(T) -> io::Result<()> + Drop>(
     rt: &impl Print,
