@@ -7,6 +7,7 @@ ghost use Rattle.delete_vector.specs.Says.{most_records, WriteSays, ReadSays, Me
 
 use ids::RowNo;
 use ids::refusal::Refusal;
+use memory::FEW;
 
 pub mod digits;
 pub mod file;
@@ -48,13 +49,15 @@ pub fn read_all(bytes: &[u8], rows: &mut [u32]) -> Result<usize, Refusal>
     Ok(count)
 }
 
-// Internal: rows that may fall or repeat. The two arrays are made here, so that rows which rise do not pay for them.
-fn sorted(rows: &[u32], out: &mut [u32]) -> Result<usize, Refusal>
-    requires { length rows.now ≤ most_records }
+// Internal: at most ROOM rows, which may fall or repeat. The two arrays are made here, so that rows which rise do not pay for them, and are ROOM long,
+// so that few rows pay little. Inlined, the caller would touch the room of the long ones at each call.
+#[inline(never)]
+fn sorted<const ROOM: usize>(rows: &[u32], out: &mut [u32]) -> Result<usize, Refusal>
+    requires { (length rows.now ≤ ROOM) × (ROOM ≤ most_records) }
     ensures { MemorySays rows.now out.old result out.new }
 {
-    let mut ascending = [0u32; MOST_RECORDS];
-    let mut spare = [0u32; MOST_RECORDS];
+    let mut ascending = [0u32; ROOM];
+    let mut spare = [0u32; ROOM];
     let count = memory::ascend(rows, &mut ascending, &mut spare);
     if out.len() < count {
         return Err(Refusal::OutputTooShort);
@@ -71,7 +74,11 @@ pub fn in_memory(rows: &[u32], out: &mut [u32]) -> Result<usize, Refusal>
         return Err(Refusal::WrongCount);
     }
     if !memory::rises(rows) {
-        return sorted(rows, out);
+        return if rows.len() <= FEW {
+            sorted::<FEW>(rows, out)
+        } else {
+            sorted::<MOST_RECORDS>(rows, out)
+        };
     }
     if out.len() < rows.len() {
         return Err(Refusal::OutputTooShort);
