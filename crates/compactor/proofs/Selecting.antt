@@ -4,7 +4,7 @@ use mathlib.Core.Bool.{true, false}
 use mathlib.Core.List.{List, map, map-map}
 use Prim.Native.Nat.{ℕ, ◌≤◌, ◌<◌}
 use native.Mathlib.Omega.{arith}
-use lib.ListN.{length, get_or}
+use lib.ListN.{length, get_or, length-map}
 use borrow.Author.Tests.{eq-eqb, ne_eqb, lt-ltb, le-ltb}
 use Rattle.std.specs.Prelude.{Ok, Err}
 use Rattle.lists.specs.Keyed.{keep}
@@ -44,6 +44,12 @@ rowsets-shown t s =
     let l = keep (shown_by s.epoch) s.pairs in
     sym (map-map (λ (k : List ℕ). get_or k 1 0) by_ids (keep (of_table t) l))
     ∙ ap (map (λ (k : List ℕ). get_or k 1 0)) (sym (keep-map by_ids (made.of_table t) l))
+
+pub rowsets-few : (t : ℕ) (m : VersionManagerInner) → length (rowsets_now t (state_of m)) ≤ m.rowsets.count
+rowsets-few t m =
+    let l = keep (of_table t) (keep (shown_by m.epoch) (rowsets_of m.rowsets)) in
+    let e = ap length (rowsets-shown t (state_of m)) in
+    omega (arith, e, length-map l rowset_at, shown-few t m.epoch m.rowsets)
 
 module _ (m : VersionManagerInner) (t target : ℕ) (ns : List ℕ) where
   module _ (out : List ℕ) where

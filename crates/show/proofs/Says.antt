@@ -4,12 +4,18 @@ use mathlib.Core.Bool.{Bool, true, false, ◌||◌, or_assoc}
 use mathlib.Core.List.{List, [], ◌∷◌, map}
 use Prim.Native.Nat.{ℕ, ◌+◌, ◌*◌, ◌/◌, ◌≤◌, ◌<◌, min}
 use native.Mathlib.Omega.{arith}
+use native.Mathlib.Nat.{zero-add}
 use lib.Dec.{ltb}
 use lib.ListN.{length, get_or, set, length-map}
 use borrow.Author.Tests.{lt-ltb, le-ltb, ltb-true, ltb-false}
-use Rattle.std.specs.Prelude.{Ok, Err}
+use Rattle.std.specs.Prelude.{Ok, Err, Option, Some, None}
+use Rattle.std.specs.Iterator.{Yields}
+use Rattle.std.specs.List.{enumerate_from}
 use Rattle.std.specs.Result.{IsErrAnd, result_and}
-use Rattle.std.proofs.lemmas.List.{get_or-map}
+use Rattle.std.proofs.lemmas.Iterator.{YieldsList}
+use Rattle.std.proofs.lemmas.Iterator.Consumers.{YieldsList-turn, YieldsList-end}
+use Rattle.std.proofs.lemmas.List.{get_or-map, get_or_default}
+use Rattle.std.proofs.lemmas.List.FromFn.{length-enumerate_from, get_or-enumerate_from}
 use Rattle.lists.specs.Written.{over}
 use Rattle.lists.proofs.Tests.{by_cases}
 use Rattle.ids.specs.declared.refusal.Refusal.{Refusal}
@@ -38,6 +44,18 @@ picked l d e g = rows_are (λ i. g (get_or l i d)) (length l) (map g l) e (lengt
 
 pub rows-of : {B : Type 0} {n : ℕ} (l : List TableEntry) (k : n ≡ length l) (e : B) (g : TableEntry → B) → rows (λ i. g (get_or l i no_table)) n ≡ map g l
 rows-of l k e g = rw k (picked l no_table e g)
+
+-- What an iterator that numbers its items hands out next.
+module _ {S A B : Type 0} {steps : S → Option (ℕ × A) → S → Type 0} (v : A → B) {s : S} (all : List B) (e : YieldsList {B = ℕ × B} steps (λ p. (p.0, v p.1)) s (enumerate_from 0 all)) (xs : List (ℕ × A)) (t : S) (y : Yields steps s xs t) where
+  pub numbered-turn : (r : Option (ℕ × A)) (u : S) (p : ℕ × A) (d : B) → r ≡ Some p → steps t r u → (length xs < length all) × (p.0 ≡ length xs) × (v p.1 ≡ get_or all (length xs) d)
+  numbered-turn r u p d is st =
+      let w = YieldsList-turn e xs t y r u p is st in
+      let n : length xs < length all = omega (arith, w.0, length-enumerate_from 0 all) in
+      let q = w.1 ∙ get_or-enumerate_from 0 all (length xs) (p.0, v p.1) n in
+      (n, ap (λ (k : ℕ × B). k.0) q ∙ zero-add (length xs), ap (λ (k : ℕ × B). k.1) q ∙ get_or_default all (length xs) (v p.1) d n)
+
+  pub numbered-end : (r : Option (ℕ × A)) (u : S) → r ≡ None → steps t r u → length xs ≡ length all
+  numbered-end r u is st = (YieldsList-end e xs t y r u is st).1 ∙ length-enumerate_from 0 all
 
 -- the ids of what is held
 abbrev pub ids_in : {I : Type 0} → Held I → I
@@ -79,9 +97,13 @@ names-short a n =
     (λ e. let h = ltb-true (a / longest_name) n e in rw e (sym (lt-ltb a (longest_name * n) (omega arith))))
     (λ e. let h = ltb-false (a / longest_name) n e in rw e (sym (le-ltb a (longest_name * n) (omega arith))))
 
--- Room enough, where 9 does not hold.
-pub roomy : (r n : ℕ) → judged ((ltb r n ⇒ OutputTooShort) ∷ []) ≡ Ok tt → n ≤ r
-roomy r n h = ltb-false r n (none-judged ((ltb r n ⇒ OutputTooShort) ∷ []) h).0
+-- Room enough, where judging accepts.
+pub roomy : (s : State) (b : PinBook) (u : Bool) (r n : ℕ) → judged (show_rules s b u (ltb r n)) ≡ Ok tt → n ≤ r
+roomy s b u r n h = ltb-false r n (none-judged (show_rules s b u (ltb r n)) h).1.1.0
+
+-- and where 9, judged alone, does not hold
+pub room-judged : (r n : ℕ) → judged ((ltb r n ⇒ OutputTooShort) ∷ []) ≡ Ok tt → n ≤ r
+room-judged r n h = ltb-false r n (none-judged ((ltb r n ⇒ OutputTooShort) ∷ []) h).0
 
 -- 28 and 24 are judged first, and 9 where they let pass
 pub in-turn : (s : State) (b : PinBook) (u w : Bool) (v t : Verdict) → v ≡ judged ((bad_book s.epoch b ⇒ BadPinBook) ∷ (u ⇒ EpochNotPinned) ∷ []) → v ≡ t

@@ -11,7 +11,7 @@ use Rattle.snapshot.proofs.Filled.{fill_start}
 use Rattle.version_state.specs.State.{state_of, pairs_at}
 use Rattle.version_state.proofs.Facts.{sound-of}
 use Rattle.show.specs.Says.{show_pairs_rules}
-use Rattle.show.proofs.Says.{as_many, fronts-more, fronts-done, roomy, in-turn, pairs-judged, pairs-refuse, pairs-accept}
+use Rattle.show.proofs.Says.{as_many, fronts-more, fronts-done, room-judged, in-turn, pairs-judged, pairs-refuse, pairs-accept}
 use Rattle.show.proofs.show_pairs.Goals as goal
 use Rattle.show.proofs.show_pairs.Goals.{After-fit}
 
@@ -42,7 +42,7 @@ returns-in_err-fit c =
 
 pub loop-i-init : goal.loop-i-init
 loop-i-init c =
-    let r = roomy c.min-room.result c.len-count.result (sym c.fit.ensures ∙ c.in_ok-fit.was) in
+    let r = room-judged c.min-room.result c.len-count.result (sym c.fit.ensures ∙ c.in_ok-fit.was) in
     let n = counted (goal.at.loop-i-init c).After-fit in
     let m = c.min-room.ensures in
     (fill_start _ _ _ (omega arith), fill_start _ _ _ (omega arith))

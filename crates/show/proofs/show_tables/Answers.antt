@@ -15,7 +15,7 @@ use Rattle.ids.specs.Verdicts.{judged}
 use Rattle.show.specs.Names.{padded_run}
 use Rattle.show.specs.Says.{show_tables_rules}
 use Rattle.show.proofs.Names.{naming-start, name-put, naming-more, naming-done}
-use Rattle.show.proofs.Says.{rows-of, roomy, in-turn, tables-judged, tables-refuse, tables-accept}
+use Rattle.show.proofs.Says.{rows-of, room-judged, in-turn, tables-judged, tables-refuse, tables-accept}
 use Rattle.show.proofs.show_tables.Goals as goal
 use Rattle.show.proofs.show_tables.Goals.{After-fit}
 
@@ -41,7 +41,7 @@ returns-in_err-fit c =
 
 pub loop-i-init : goal.loop-i-init
 loop-i-init c =
-    let r = roomy c.min-room.result c.args.state.inner.now.tables.count (sym c.fit.ensures ∙ c.in_ok-fit.was) in
+    let r = room-judged c.min-room.result c.args.state.inner.now.tables.count (sym c.fit.ensures ∙ c.in_ok-fit.was) in
     let a = c.min.ensures in
     let b = c.min-numbers.ensures in
     let d = c.min-room.ensures in
